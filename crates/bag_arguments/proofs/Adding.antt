@@ -1,5 +1,6 @@
 -- Arguments that are added to a command.
-use Rattle.bag_arguments.proofs.Common.{◌≡◌, ◌∙◌, List, [], ◌∷◌, false, refl, ap₂, fold, map, AddsArg, App, Rule, app_of, rule_of, with_rule, Arg, Command, with_rules}
+use Rattle.bag_arguments.proofs.Common.{◌≡◌, ◌∙◌, List, [], ◌∷◌, false, refl, ap₂, fold, map, AddsArg, App, Rule}
+use Rattle.bag_arguments.proofs.Common.{app_of, rule_of, with_rule, Arg, Command, with_rules}
 
 -- one argument more, of which the rule is known
 pub added : {old new : Command} {a : Arg} {app : App} {rule : Rule} → AddsArg old a new → a.global ≡ false

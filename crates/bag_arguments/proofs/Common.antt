@@ -1,5 +1,8 @@
 -- The names that this crate's proofs cite, passed on from one place. Declares nothing.
-pub use Rattle.std.proofs.Common.{Bool, Err, IsErrAnd, List, None, Ok, Option, Result, Some, [], ap, ap₂, arith, bytes_eq, codes, drop, false, filter, fold, get_or, if◌then◌else◌, inl, inr, is_some, length, map, min, nat_lt, not, option_map, refl, subst, suc, sym, take, true, unwrap_or, zero, ℕ, ◌&&◌, ◌++◌, ◌+◌, ◌<◌, ◌==◌, ◌||◌, ◌∙◌, ◌∷◌, ◌≡◌, ◌≢◌, ◌⊎◌}
+pub use Rattle.std.proofs.Common.{Bool, Err, IsErrAnd, List, None, Ok, Option, Result, Some, [], ap, ap₂, arith}
+pub use Rattle.std.proofs.Common.{bytes_eq, codes, drop, false, filter, fold, get_or, if◌then◌else◌, inl, inr, is_some}
+pub use Rattle.std.proofs.Common.{length, map, min, nat_lt, not, option_map, refl, subst, suc, sym, take, true}
+pub use Rattle.std.proofs.Common.{unwrap_or, zero, ℕ, ◌&&◌, ◌++◌, ◌+◌, ◌<◌, ◌==◌, ◌||◌, ◌∙◌, ◌∷◌, ◌≡◌, ◌≢◌, ◌⊎◌}
 pub use Rattle.std.proofs.lemmas.List.{length-map, take_all, take_more}
 pub use Rattle.std.proofs.lemmas.List.Elements.{All-get_or, filter_map-append}
 pub use Rattle.std.proofs.lemmas.List.Sums.{fold_more}
@@ -14,13 +17,18 @@ pub use Rattle.bag_text.specs.declared.alg.Alg.{Alg}
 pub use Rattle.clap.proofs.WalkLemmas.{first_value-rows, one_text-rows, raw_values-rows}
 pub use Rattle.clap.specs.Facts.{EntryPasses, PassesArg, explicit_source, parser_of_value, unwrap_or_range}
 pub use Rattle.clap.specs.Simple.{Shape, app_of_fields, argument_words, built}
-pub use Rattle.clap.specs.Words.{AddsArg, App, FailsBy, HasKind, IsParsedFrom, Kinds, ReadsOne, Row, Rule, Text, app_of, args_of, fault_of, first_value, found_of, groups_of, is_simple, is_simple_and_free, kind_of, matched_of, matches_of, one_text, raw_values, rows_of, rule_of, takes, with_rule}
+pub use Rattle.clap.specs.Words.{AddsArg, App, FailsBy, HasKind, IsParsedFrom, Kinds, ReadsOne, Row, Rule, Text, app_of}
+pub use Rattle.clap.specs.Words.{args_of, fault_of, first_value, found_of, groups_of, is_simple, is_simple_and_free}
+pub use Rattle.clap.specs.Words.{kind_of, matched_of, matches_of, one_text, raw_values, rows_of, rule_of, takes}
+pub use Rattle.clap.specs.Words.{with_rule}
 pub use Rattle.clap.specs.declared.builder.arg.Arg.{Arg}
 pub use Rattle.clap.specs.declared.builder.command.Command.{Command}
 pub use Rattle.clap.specs.declared.builder.value_parser.ValueParser.{ValueParser}
 pub use Rattle.clap.specs.declared.error.kind.ErrorKind.TheVariants.{ArgumentConflict, OutOfMemory}
-pub use Rattle.bag_arguments.specs.Arguments.{alg_arguments, check_arguments, flag, label_arguments, main_arguments, option, with_rules, without_program_name}
-pub use Rattle.bag_arguments.specs.Given.{HasLimit, IsLimit, IsLimitText, element, has_after_several, has_two_depths, is_given, listed, named_algs, or_default, out_of_place, values}
+pub use Rattle.bag_arguments.specs.Arguments.{alg_arguments, check_arguments, flag, label_arguments, main_arguments}
+pub use Rattle.bag_arguments.specs.Arguments.{option, with_rules, without_program_name}
+pub use Rattle.bag_arguments.specs.Given.{HasLimit, IsLimit, IsLimitText, element, has_after_several, has_two_depths}
+pub use Rattle.bag_arguments.specs.Given.{is_given, listed, named_algs, or_default, out_of_place, values}
 pub use Rattle.bag_arguments.specs.Labels.{label_option}
 pub use Rattle.bag_arguments.specs.declared.label.Label.{Label}
 unfoldable pub use Rattle.bag_arguments.specs.Arguments.{command}

@@ -1,12 +1,17 @@
 -- A command without subcommands gives one kind of error at most.
-use Rattle.bag_arguments.proofs.Common.{arith, ◌≡◌, min, ℕ, zero, suc, Bool, true, List, [], ◌∷◌, Option, Some, None, refl, is_some, if◌then◌else◌, nat_lt, ⊤, slice_get, Shape, argument_words, built, ValueParser, command, clap_on_literals, refusals}
+use Rattle.bag_arguments.proofs.Common.{arith, ◌≡◌, min, ℕ, zero, suc, Bool, true, List, [], ◌∷◌, Option, Some, None}
+use Rattle.bag_arguments.proofs.Common.{refl, is_some, if◌then◌else◌, nat_lt, ⊤, slice_get, Shape, argument_words}
+use Rattle.bag_arguments.proofs.Common.{built, ValueParser, command, clap_on_literals, refusals}
 use Rattle.std.specs.Option.{option_map_or}
 use Rattle.std.specs.Str.{bytes_eq, chars}
 use Rattle.clap.specs.Lexer.{long_of}
 use Rattle.clap.specs.ValueTests.{accepts}
 use Rattle.clap.specs.Kinds.{Kinds, or_else, value_kinds, values_kinds}
-use Rattle.clap.specs.Faults.{use_fault, action_fault, settle_fault, react_fault, option_fault, long_fault, short_fault, bundle_step_fault, flags_fault, flag_word_fault, other_fault, word_fault, turn_fault, walk_fault, default_fault, defaults_fault, built_fault}
-use Rattle.clap.specs.Walk.{Held, Row, Rule, Text, Waiting, Walk, idle, attached_value, nothing_held, reacted, settled, takes_values, walked, with_default}
+use Rattle.clap.specs.Faults.{use_fault, action_fault, settle_fault, react_fault, option_fault, long_fault, short_fault}
+use Rattle.clap.specs.Faults.{bundle_step_fault, flags_fault, flag_word_fault, other_fault, word_fault, turn_fault}
+use Rattle.clap.specs.Faults.{walk_fault, default_fault, defaults_fault, built_fault}
+use Rattle.clap.specs.Walk.{Held, Row, Rule, Text, Waiting, Walk, idle, attached_value, nothing_held, reacted, settled}
+use Rattle.clap.specs.Walk.{takes_values, walked, with_default}
 use Rattle.clap.specs.declared.builder.action.ArgAction.{ArgAction}
 
 abbrev pub HasOne : Kinds → Type 0
@@ -20,7 +25,8 @@ or_one a b p q = grind arith
 if_one : (c : Bool) (a b : Kinds) → HasOne a → HasOne b → HasOne (if c then a else b)
 if_one c a b p q = grind arith
 
-maybe_one : {X : Type 0} (f : X → Kinds) (o : Option X) (otherwise : Kinds) → ((x : X) → HasOne (f x)) → HasOne otherwise → HasOne (option_map_or f o otherwise)
+maybe_one : {X : Type 0} (f : X → Kinds) (o : Option X) (otherwise : Kinds) → ((x : X) → HasOne (f x))
+    → HasOne otherwise → HasOne (option_map_or f o otherwise)
 maybe_one f o otherwise all none = grind arith
 
 value_one : (ignore_case : Bool) (p : ValueParser) (text : Text) → HasOne (value_kinds ignore_case p text)
@@ -28,9 +34,11 @@ value_one ignore_case p text = if_one (accepts ignore_case p text) _ _ tt tt
 
 values_one : (ignore_case : Bool) (p : ValueParser) (texts : List Text) → HasOne (values_kinds ignore_case p texts)
 values_one ignore_case p [] = tt
-values_one ignore_case p (v ∷ vs) = or_one (value_kinds ignore_case p v) _ (value_one ignore_case p v) (values_one ignore_case p vs)
+values_one ignore_case p (v ∷ vs) =
+    or_one (value_kinds ignore_case p v) _ (value_one ignore_case p v) (values_one ignore_case p vs)
 
-action_one : (x : ArgAction) (again : Bool) (a : Rule) (values : List Text) (rows : List Row) → HasOne (action_fault x again a values rows)
+action_one : (x : ArgAction) (again : Bool) (a : Rule) (values : List Text) (rows : List Row)
+    → HasOne (action_fault x again a values rows)
 action_one x again a values rows = grind (arith, values_one, value_one, min, or_one, if_one)
 
 use_one : (again : Bool) (a : Rule) (values : List Text) (rows : List Row) → HasOne (use_fault again a values rows)
@@ -51,7 +59,8 @@ module _ (c : List Rule) (again : Bool) where
   long_one None v h = tt
   long_one (Some a) v h = if_one (takes_values a) _ _ (option_one a v h) (if_one (is_some v) _ _ tt (react_one a [] h))
 
-  short_one : (a : Option Rule) (rest : Text) (h : Held) (more : Held → Kinds) → ((g : Held) → HasOne (more g)) → HasOne (short_fault c again a rest h more)
+  short_one : (a : Option Rule) (rest : Text) (h : Held) (more : Held → Kinds) → ((g : Held) → HasOne (more g))
+      → HasOne (short_fault c again a rest h more)
   short_one None rest h more all = tt
   short_one (Some a) rest h more all =
       if_one (takes_values a) _ _ (option_one a (attached_value rest) h)
@@ -64,16 +73,19 @@ module _ (c : List Rule) (again : Bool) where
   flags_one : (k : ℕ) (flags : Text) (skip : ℕ) (h : Held) → HasOne (flags_fault c again k flags skip h)
   unfolding flags_fault
   flags_one zero flags skip h = tt
-  flags_one (suc k) flags skip h = bundle_step_one (slice_get (chars flags) 0) flags skip h (flags_fault c again k) (λ t n g. flags_one k t n g)
+  flags_one (suc k) flags skip h =
+      bundle_step_one (slice_get (chars flags) 0) flags skip h (flags_fault c again k) (λ t n g. flags_one k t n g)
 
   flag_word_one : (p : Option (Text × Option Text)) (word : Text) (h : Held) → HasOne (flag_word_fault c again p word h)
   flag_word_one p word h = grind (arith, long_one, maybe_one, flags_one)
 
 module _ (s : Shape) (leaf : s.is_leaf ≡ true) where
   other_one : (word : Text) (h : Held) → HasOne (other_fault s None word h)
-  other_one word h = if_one (bytes_eq word (45 ∷ 45 ∷ [])) _ _ tt (flag_word_one s.rules s.args_override_self (long_of word) word h)
+  other_one word h =
+      if_one (bytes_eq word (45 ∷ 45 ∷ [])) _ _ tt (flag_word_one s.rules s.args_override_self (long_of word) word h)
 
-  word_one : (is_trailing : Bool) (waiting : Waiting) (word : Text) (h : Held) → HasOne (word_fault s [] is_trailing waiting word h)
+  word_one : (is_trailing : Bool) (waiting : Waiting) (word : Text) (h : Held)
+      → HasOne (word_fault s [] is_trailing waiting word h)
   word_one is_trailing idle word h = if_one is_trailing _ _ tt (other_one word h)
   word_one is_trailing _ word h = if_one is_trailing _ _ tt (other_one word h)
 
@@ -83,7 +95,8 @@ module _ (s : Shape) (leaf : s.is_leaf ≡ true) where
   walk_one : (w : Walk) (words : List Text) → HasOne (walk_fault s [] w words)
   unfolding walk_fault
   walk_one w [] = tt
-  walk_one w (word ∷ rest) = or_one (turn_fault s [] w word) _ (turn_one w word) (walk_one (walked s.rules [] w word) rest)
+  walk_one w (word ∷ rest) =
+      or_one (turn_fault s [] w word) _ (turn_one w word) (walk_one (walked s.rules [] w word) rest)
 
 default_one : (rows : List Row) (a : Rule) → HasOne (default_fault rows a)
 default_one rows a = grind (arith, if_one, or_one, values_one)
@@ -91,7 +104,8 @@ default_one rows a = grind (arith, if_one, or_one, values_one)
 derefusals_one : (rows : List Row) (rules : List Rule) → HasOne (defaults_fault rows rules)
 unfolding defaults_fault
 derefusals_one rows [] = tt
-derefusals_one rows (a ∷ rest) = or_one (default_fault rows a) _ (default_one rows a) (derefusals_one (with_default rows a) rest)
+derefusals_one rows (a ∷ rest) =
+    or_one (default_fault rows a) _ (default_one rows a) (derefusals_one (with_default rows a) rest)
 
 built_one : (top : Shape) (subs : List Shape) (words : List Text) → subs ≡ [] → top.is_leaf ≡ true
     → HasOne (built_fault (record { top = top; subs = subs }) nothing_held words)
@@ -104,4 +118,5 @@ is_leaf_alone = (refl, refl)
 -- the words are refused for one reason at most
 pub refusals_one : (words : List Text) → HasOne (refusals words)
 unfolding refusals
-refusals_one words = built_one (built command).top (built command).subs (argument_words command words) is_leaf_alone.0 is_leaf_alone.1
+refusals_one words =
+    built_one (built command).top (built command).subs (argument_words command words) is_leaf_alone.0 is_leaf_alone.1

@@ -1,6 +1,11 @@
 -- What is read of the matches.
 use Rattle.std.proofs.lemmas.Grind.{common_steps}
-use Rattle.bag_arguments.proofs.Common.{arith, ◌≡◌, ◌≢◌, ◌∙◌, ◌<◌, ◌+◌, ℕ, Bool, true, false, List, [], ◌∷◌, ◌++◌, ◌&&◌, ◌||◌, Option, Some, None, refl, sym, ap, bytes_eq, codes, unwrap_or, filter, fold, take, map, option_map, length, if◌then◌else◌, filter_map, slice_index_or, ParsesBool, Bor, take_more, filter_map-append, bytes_eq-Decides, algs, Alg, ReadsOne, Text, matched_of, raw_values, rows_of, raw_values-rows, listed, or_default, values}
+use Rattle.bag_arguments.proofs.Common.{arith, ◌≡◌, ◌≢◌, ◌∙◌, ◌<◌, ◌+◌, ℕ, Bool, true, false, List, [], ◌∷◌, ◌++◌, ◌&&◌}
+use Rattle.bag_arguments.proofs.Common.{◌||◌, Option, Some, None, refl, sym, ap, bytes_eq, codes, unwrap_or, filter}
+use Rattle.bag_arguments.proofs.Common.{fold, take, map, option_map, length, if◌then◌else◌, filter_map, slice_index_or}
+use Rattle.bag_arguments.proofs.Common.{ParsesBool, Bor, take_more, filter_map-append, bytes_eq-Decides, algs, Alg}
+use Rattle.bag_arguments.proofs.Common.{ReadsOne, Text, matched_of, raw_values, rows_of, raw_values-rows, listed}
+use Rattle.bag_arguments.proofs.Common.{or_default, values}
 use Rattle.bag_text.specs.AlgList.{has_member, same_alg, with_member}
 use Rattle.bag_text.specs.AlgTable.{has_each, has_member-filter, same_alg_same}
 use Rattle.clap.specs.declared.parser.matches.Found.{Found}
@@ -24,7 +29,8 @@ pub filter_map_more : {X Y : Type 0} (h : X → Option Y) (xs : List X) (i : ℕ
 filter_map_more h xs i d below = grind (arith, common_steps, take_more, filter_map-append)
 
 -- the values of an argument, as they are read
-pub values_of : (found : Found) (id : Text) (r x : Option (Bor (List (Bor Text)))) → option_map (λ s. map (λ v. v.now) s.now) r ≡ option_map raw_values (matched_of found id) → r ≡ x
+pub values_of : (found : Found) (id : Text) (r x : Option (Bor (List (Bor Text))))
+    → option_map (λ s. map (λ v. v.now) s.now) r ≡ option_map raw_values (matched_of found id) → r ≡ x
     → values (rows_of found) id ≡ unwrap_or (option_map (λ s. map (λ v. v.now) s.now) x) []
 values_of found id r x read is = grind (arith, raw_values-rows)
 
@@ -33,7 +39,8 @@ abbrev pub with_if : (Alg → Bool) → List Alg → Alg → List Alg
 with_if p set alg = if p alg then with_member set alg else set
 
 module _ (p q : Alg → Bool) (alg : Alg) where
-  taken_at : p alg ≡ true → (a : Alg) (same : Bool) → same_alg a alg ≡ same → (same || has_member (filter q algs) a) ≡ ((same && p a) || q a)
+  taken_at : p alg ≡ true → (a : Alg) (same : Bool) → same_alg a alg ≡ same
+      → (same || has_member (filter q algs) a) ≡ ((same && p a) || q a)
   taken_at is a true e = sym (ap (λ b. b || q a) (ap p (same_alg_same a alg e) ∙ is))
   taken_at is a false e = has_member-filter q a
 
@@ -42,14 +49,16 @@ module _ (p q : Alg → Bool) (alg : Alg) where
   left_at is a false e = refl
 
   one_more : (here : Bool) → p alg ≡ here
-      → (if here then with_member (filter q algs) alg else filter q algs) ≡ filter (λ a. (same_alg a alg && p a) || q a) algs
+      → (if here then with_member (filter q algs) alg else filter q algs)
+      ≡ filter (λ a. (same_alg a alg && p a) || q a) algs
   one_more here is = grind (arith, taken_at, left_at)
 
 regrouped : (same later b c : Bool) → ((later && b) || ((same && b) || c)) ≡ (((same || later) && b) || c)
 regrouped same later b c = grind arith
 
 -- a set that a test makes, with those of some algorithms of which another test holds
-with_if-each : (p q : Alg → Bool) (some : List Alg) → fold (with_if p) (filter q algs) some ≡ filter (λ a. (has_member some a && p a) || q a) algs
+with_if-each : (p q : Alg → Bool) (some : List Alg)
+    → fold (with_if p) (filter q algs) some ≡ filter (λ a. (has_member some a && p a) || q a) algs
 with_if-each p q [] = refl
 with_if-each p q (alg ∷ rest) =
     ap (λ set. fold (with_if p) set rest) (one_more p q alg (p alg) refl)
@@ -61,7 +70,8 @@ listed_passes listed b e = grind arith
 
 -- algorithms that are added one by one
 pub named_one_by_one : (p : Alg → Bool) → fold (with_if p) [] algs ≡ filter p algs
-named_one_by_one p = with_if-each p (λ a. false) algs ∙ (λ i. filter (λ a. listed_passes (has_member algs a) (p a) (has_each a) i) algs)
+named_one_by_one p =
+    with_if-each p (λ a. false) algs ∙ (λ i. filter (λ a. listed_passes (has_member algs a) (p a) (has_each a) i) algs)
 
 pub or_default_kept : (set : List Alg) → set ≢ [] → set ≡ or_default set
 or_default_kept set some = grind arith

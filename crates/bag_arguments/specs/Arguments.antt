@@ -61,5 +61,6 @@ without_program_name = on_top (λ s. record s { no_binary_name = true })
 -- the command, with no rule from one argument to another
 unfoldable pub command : App
 command =
-    with_rules (with_rules (with_rules (with_rules (without_program_name (new_app (codes "bagit"))) main_arguments)
+    with_rules (with_rules
+    (with_rules (with_rules (without_program_name (new_app (codes "bagit"))) main_arguments)
     check_arguments) alg_arguments) label_arguments

@@ -89,7 +89,8 @@ depth rows =
 -- ---- the cursor and the limit
 
 abbrev pub has_after_several : List Row → Bool
-has_after_several rows = is_some (value rows (codes "after")) && nat_lt 1 (length (directories rows))
+has_after_several rows =
+    is_some (value rows (codes "after")) && nat_lt 1 (length (directories rows))
 
 -- a number from 1 to the greatest of 64 bits, in decimal
 abbrev pub IsLimitText : Text → Type 0

@@ -81,7 +81,8 @@ plan_without_words action = record {
 
 -- the answer where clap gives no matches: its help, or its refusal
 abbrev pub Declines : ErrorKind → Result Plan Usage → Type 0
-Declines kind (Ok plan) = (kind ≡ DisplayHelp) × (text : Text) × (plan ≡ plan_without_words (Help text))
+Declines kind (Ok plan) =
+    (kind ≡ DisplayHelp) × (text : Text) × (plan ≡ plan_without_words (Help text))
 Declines kind (Err Memory) = ⊤
 Declines kind (Err (Refused text)) = kind ≢ DisplayHelp
 Declines kind (Err usage) = ⊥

@@ -16,6 +16,6 @@ refusals words = fault_of command words
 unfoldable pub matches : List Text → List Row
 matches words = matches_of command words
 
--- whether clap takes the words: it then refuses them for want of memory alone
-unfoldable pub is_taken : List Text → Bool
-is_taken words = takes command words
+-- whether clap takes the words: it then refuses them only when out of memory
+unfoldable pub clap_takes : List Text → Bool
+clap_takes words = takes command words

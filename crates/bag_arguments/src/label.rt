@@ -2,7 +2,8 @@
 ghost use Rattle.std.specs.Prelude.{◌≡◌};
 ghost use Rattle.bag_arguments.specs.Labels as spec;
 
-/// A label of `bag-info.txt` that has an option: those of RFC 8493, 2.2.2, and the one that names a profile.
+/// A label of `bag-info.txt` that has an option: those of RFC 8493, 2.2.2, and the one that names a
+/// profile.
 #[derive(Clone, Copy, Debug, PartialEq, Eq)]
 pub enum Label {
     SourceOrganization,

@@ -7,7 +7,8 @@
 //! }
 //! ```
 //!
-//! `plan_of` gives exactly the plan, the help, or the first thing that is wrong with the words, but for memory.
+//! `plan_of` gives exactly the plan, the help, or the first thing that is wrong with the words, but
+//! for memory.
 #![tactic(auto)]
 
 mod check_option;

@@ -11,7 +11,8 @@ use thiserror::Error;
 /// Why the words of a command line are refused.
 #[derive(Debug, Drop, Error)]
 pub enum Usage {
-    /// The program takes no such words. The text, of clap, says what is wrong with them and ends its lines itself.
+    /// The program takes no such words. The text, of clap, says what is wrong with them and ends
+    /// its lines itself.
     #[error("{0}")]
     Refused(Text),
     /// An option is given that needs `--validate`: the first, in the order of `CheckOption`.
@@ -32,7 +33,7 @@ pub enum Usage {
 }
 
 impl Usage {
-    /// The exit status: 3 for want of memory, and else 2.
+    /// The exit status: 3 when out of memory, and else 2.
     pub fn status(&self) -> u8
         ensures { result ≡ usage_status self.now }
     {

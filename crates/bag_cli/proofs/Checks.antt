@@ -1,23 +1,35 @@
 -- Checks and their statuses.
-use Rattle.bag_cli.proofs.Common.{◌≡◌, inl, inr, ◌≤◌, ℕ, List, Option, refl, ap, ◌∙◌, arith, MatchOption, MatchResult, Result, Ok, Err, OutState, TreeState, Event, Outcome, Unwritten, Profile, Plan, AreChecksOf, HasRunOut, IsCheckOf, IsLastCheck, IsVisitToCheck, IsWholeCheck, visit_of, whole_status}
+use Rattle.bag_cli.proofs.Common.{◌≡◌, inl, inr, ◌≤◌, ℕ, List, Option, refl, ap, ◌∙◌, arith, MatchOption, MatchResult}
+use Rattle.bag_cli.proofs.Common.{Result, Ok, Err, OutState, TreeState, Event, Outcome, Unwritten, Profile, Plan}
+use Rattle.bag_cli.proofs.Common.{AreChecksOf, HasRunOut, IsCheckOf, IsLastCheck, IsVisitToCheck, IsWholeCheck}
+use Rattle.bag_cli.proofs.Common.{visit_of, whole_status}
 use Rattle.bag_cli.proofs.Turns.{turns_status}
 
 -- what the status says of a check
-pub next_check : {E : Type 0} (plan : Plan) (profile : Option Profile) (tree : TreeState) (name : List ℕ) (before after : OutState) (visits : List Event) (checked : Result Outcome E)
-    → MatchResult checked (λ outcome. IsVisitToCheck plan profile tree name before after visits outcome) (λ _. HasRunOut tree name before after visits)
-    → MatchOption (whole_status checked) (IsLastCheck plan profile tree name before after visits) (λ n. IsWholeCheck plan profile tree name before after visits n)
+pub next_check : {E : Type 0} (plan : Plan) (profile : Option Profile) (tree : TreeState) (name : List ℕ)
+    (before after : OutState) (visits : List Event) (checked : Result Outcome E)
+    → MatchResult checked (λ outcome. IsVisitToCheck plan profile tree name before after visits outcome) (λ _.
+    HasRunOut tree name before after visits)
+    → MatchOption (whole_status checked) (IsLastCheck plan profile tree name before after visits) (λ n.
+    IsWholeCheck plan profile tree name before after visits n)
 next_check plan profile tree name before after visits (Ok (Unwritten n)) check = inl (n, check)
-next_check plan profile tree name before after visits (Ok outcome) check = record { outcome = outcome; check = check; written = refl; status_is = refl }
+next_check plan profile tree name before after visits (Ok outcome) check =
+    record { outcome = outcome; check = check; written = refl; status_is = refl }
 next_check plan profile tree name before after visits (Err e) nothing = inr nothing
 
 -- The folder's tree was given for it, and left as the check leaves it; or as it was given, where memory ran out.
-pub visited_check : {E : Type 0} (plan : Plan) (profile : Option Profile) (tree old new : TreeState) (name : List ℕ) (before after : OutState) (checked : Result Outcome E) → old ≡ tree
-    → MatchResult checked (λ outcome. IsCheckOf plan profile old new name before after outcome) (λ _. (after ≡ before) × (new ≡ old))
-    → MatchResult checked (λ outcome. IsVisitToCheck plan profile tree name before after (visit_of name new) outcome) (λ _. HasRunOut tree name before after (visit_of name new))
+pub visited_check : {E : Type 0} (plan : Plan) (profile : Option Profile) (tree old new : TreeState) (name : List ℕ)
+    (before after : OutState) (checked : Result Outcome E) → old ≡ tree
+    → MatchResult checked (λ outcome. IsCheckOf plan profile old new name before after outcome) (λ _.
+    (after ≡ before) × (new ≡ old))
+    → MatchResult checked (λ outcome. IsVisitToCheck plan profile tree name before after (visit_of name new) outcome)
+    (λ _. HasRunOut tree name before after (visit_of name new))
 visited_check plan profile tree old new name before after (Ok outcome) same check = (new, refl, rw same at check)
-visited_check plan profile tree old new name before after (Err e) same nothing = (nothing.0, inr (ap (visit_of name) (nothing.1 ∙ same)))
+visited_check plan profile tree old new name before after (Err e) same nothing =
+    (nothing.0, inr (ap (visit_of name) (nothing.1 ∙ same)))
 
 -- what checks give is a status
-pub checks_status : (plan : Plan) (profile : Option Profile) (tree_of : List ℕ → TreeState) (names : List (List ℕ)) (before after : OutState) (visits : List Event) (n : ℕ)
+pub checks_status : (plan : Plan) (profile : Option Profile) (tree_of : List ℕ → TreeState) (names : List (List ℕ))
+    (before after : OutState) (visits : List Event) (n : ℕ)
     → AreChecksOf plan profile tree_of names before after visits n → n ≤ 3
 checks_status plan profile tree_of names before after visits n checks = grind (arith, turns_status)

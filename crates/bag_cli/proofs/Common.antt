@@ -1,6 +1,10 @@
 -- The names that this crate's proofs cite, passed on from one place. Declares nothing.
-pub use Rattle.std.proofs.Common.{Bool, Bor, IsTrue, List, MutBor, None, Option, Some, Vec, [], ap, append-nil, append_assoc, arith, decimal, drop, get_or, inl, inr, length, map, max, refl, rules, string_bytes, subst, suc, sym, take, zero, ℕ, ◌++◌, ◌+◌, ◌<◌, ◌∙◌, ◌∷◌, ◌≡◌, ◌≢◌, ◌≤◌, ◌⊎◌}
-pub use Rattle.std.proofs.lemmas.Iterator.{IsCollectResult, YieldsList, YieldsList-from_map_by, YieldsList-from_slice, items_from_collect, items_from_drains}
+pub use Rattle.std.proofs.Common.{Bool, Bor, IsTrue, List, MutBor, None, Option, Some, Vec, [], ap, append-nil}
+pub use Rattle.std.proofs.Common.{append_assoc, arith, decimal, drop, get_or, inl, inr, length, map, max, refl, rules}
+pub use Rattle.std.proofs.Common.{string_bytes, subst, suc, sym, take, zero, ℕ, ◌++◌, ◌+◌, ◌<◌, ◌∙◌, ◌∷◌, ◌≡◌, ◌≢◌, ◌≤◌}
+pub use Rattle.std.proofs.Common.{◌⊎◌}
+pub use Rattle.std.proofs.lemmas.Iterator.{IsCollectResult, YieldsList, YieldsList-from_map_by, YieldsList-from_slice}
+pub use Rattle.std.proofs.lemmas.Iterator.{items_from_collect, items_from_drains}
 pub use Rattle.std.proofs.lemmas.List.{drop_all, drop_more}
 pub use Rattle.std.proofs.lemmas.Result.{err_from_is_err_and}
 pub use Rattle.std.specs.Io.KnownBytes.{Appends}
@@ -14,9 +18,9 @@ pub use Rattle.bag_facts.specs.FaultLine.{field}
 pub use Rattle.bag_make.specs.declared.fault.MakeFault.{MakeFault}
 pub use Rattle.bag_profile.specs.Profile.{Profile}
 pub use Rattle.bag_store.specs.DiskBag.{bag_of}
-pub use Rattle.bag_store.specs.FileTree.{state_after, tree_state}
+pub use Rattle.bag_store.specs.FileTree.{file_state_after, tree_state}
 pub use Rattle.bag_tags.specs.Element.{NewElement}
-pub use Rattle.bag_tree.specs.Cause.{word}
+pub use Rattle.bag_tree.specs.Cause.{cause_word}
 pub use Rattle.bag_tree.specs.Out.{OutState}
 pub use Rattle.bag_tree.specs.Tree.{TreeState}
 pub use Rattle.bag_tree.specs.declared.out.Refused.{Refused}
@@ -41,20 +45,22 @@ pub use prog.Wp.{Calls, Loops, Tables, WpFn}
 pub use seplogic.Ra.Ura.{Ura}
 pub use sound.WpLaws.{WpFn-mono}
 pub use types.ByLocal.{alloc_all, free_all, get, look_at, pass_all, sets}
-pub use types.Kit.{ !, by, done, feq_i, fjoin, fjoin3, frame, fsplit, fsplit3, join, keep, move, qed, raw, split, suffices, use1, ‵, ◌$◌, ◌∵◌, ◌⊛◌}
+pub use types.Kit.{ !, by, done, feq_i, fjoin, fjoin3, frame, fsplit, fsplit3, join, keep, move, qed, raw, split}
+pub use types.Kit.{suffices, use1, ‵, ◌$◌, ◌∵◌, ◌⊛◌}
 pub use types.Logic.{Logic}
 pub use types.Run.{and_then, enter, no_more, of_opd, returns, unit_lit}
-pub use Rattle.bag_cli.specs.Checked.{AreCalm, AreChecksOf, HasRunOut, IsCheckOf, IsCheckOfSample, IsLastCheck, IsVisitToCheck, IsWholeCheck, request_of, visit_of}
+pub use Rattle.bag_cli.specs.Checked.{HaveNoFailure, AreChecksOf, HasRunOut, IsCheckOf, IsCheckOfSample, IsLastCheck}
+pub use Rattle.bag_cli.specs.Checked.{IsVisitToCheck, IsWholeCheck, request_of, visit_of}
 pub use Rattle.bag_cli.specs.Folders.{disks_of, visits_of}
-pub use Rattle.bag_cli.specs.Honest.{HonestFoldersAreTold, IsToldMade, IsToldNotMade}
+pub use Rattle.bag_cli.specs.Honest.{HonestFoldersAreReported, IsReportedMade, IsReportedNotMade}
 pub use Rattle.bag_cli.specs.InTurn.{AreInTurn, HasVisited, Last, Whole}
-pub use Rattle.bag_cli.specs.Making.{IsMake, TellsMaking}
+pub use Rattle.bag_cli.specs.Making.{IsMake, ReportsMaking}
 pub use Rattle.bag_cli.specs.Makings.{AreMakingsOf, IsTold, IsWholeMaking, element_of}
 pub use Rattle.bag_cli.specs.Performed.{AreMade, IsChecked, IsDoneBy, IsPerformed, IsSaid}
 pub use Rattle.bag_cli.specs.Sample.{sample_state}
 pub use Rattle.bag_cli.specs.Saying.{Says}
 pub use Rattle.bag_cli.specs.Status.{whole_status}
-pub use Rattle.bag_cli.specs.Told.{TellsMade, TellsReport, told_lines}
+pub use Rattle.bag_cli.specs.Reported.{ReportsMade, TellsReport, reported_lines}
 pub use Rattle.bag_cli.specs.UncheckedKeys.{unchecked_line, unchecked_lines}
 pub use Rattle.bag_cli.specs.Visits.{Entered, Event, Left, NotGiven, Read}
 pub use Rattle.bag_cli.specs.declared.record.Record.{Record}

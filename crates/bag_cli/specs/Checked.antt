@@ -31,7 +31,8 @@ abbrev pub IsCheckOf : Plan → Option Profile → TreeState → TreeState → L
 IsCheckOf plan profile tree new name before after outcome =
     IsRunOver tree new profile (request_of plan name) before after outcome
 
--- the tree was checked under this name; or memory for what is asked for ran out, and nothing was done
+-- the tree was checked under this name; or memory for what is asked for ran out, and nothing was
+-- done
 abbrev pub ChecksTree : {E : Type 0} → Plan → Option Profile → TreeState → TreeState → List ℕ
     → OutState → OutState → Result Outcome E → Type 0
 ChecksTree plan profile tree new name before after checked = MatchResult checked
@@ -66,8 +67,8 @@ pub record IsWholeCheck (plan : Plan) (profile : Option Profile) (tree : TreeSta
   pub written : is_written outcome ≡ true
   pub status_is : n ≡ status outcome
 
--- Memory ran out for a folder, and nothing was written: it was asked for and couldn't be given, or it was given, and its tree was
--- left as it was.
+-- Memory ran out for a folder, and nothing was written: it was asked for and couldn't be given, or
+-- it was given, and its tree was left as it was.
 abbrev pub HasRunOut : TreeState → List ℕ → OutState → OutState → List Event → Type 0
 HasRunOut tree name before after visits =
     (after ≡ before) × ((visits ≡ NotGiven name ∷ []) ⊎ (visits ≡ visit_of name tree))
@@ -79,15 +80,17 @@ ChecksFolder plan profile tree name before after visits checked = MatchResult ch
     (λ outcome. IsVisitToCheck plan profile tree name before after visits outcome)
     (λ _. HasRunOut tree name before after visits)
 
--- a check that is the last: the output refused, or memory ran out for the folder, which was asked for
+-- a check that is the last: the output refused, or memory ran out for the folder, which was asked
+-- for
 abbrev pub IsLastCheck : Plan → Option Profile → TreeState → List ℕ
     → OutState → OutState → List Event → Type 0
 IsLastCheck plan profile tree name before after visits =
     ((count : ℕ) × IsVisitToCheck plan profile tree name before after visits (Unwritten count))
     ⊎ HasRunOut tree name before after visits
 
--- The checks of the bags of these names in the trees that they name, one after the other, each with the plan's limit. After
--- one that couldn't be read or has faults comes the next; after one that couldn't be written comes none.
+-- The checks of the bags of these names in the trees that they name, one after the other, each with
+-- the plan's limit. After one that couldn't be read or has faults comes the next; after one that
+-- couldn't be written comes none.
 abbrev pub AreChecksOf : Plan → Option Profile → (List ℕ → TreeState) → List (List ℕ) → Deed
 AreChecksOf plan profile tree_of names before after visits n =
     AreInTurn (λ name. IsLastCheck plan profile (tree_of name) name)
@@ -101,16 +104,16 @@ IsCheckOfSample plan before after outcome =
     × IsCheckOf plan None sample_state new (codes "sample") before after outcome
 
 -- no device had failed when its tree was left
-abbrev pub AreCalm : List Event → Type 0
-AreCalm [] = ⊤
-AreCalm (Entered name ∷ visits) = AreCalm visits
-AreCalm (NotGiven name ∷ visits) = AreCalm visits
-AreCalm (Left state ∷ visits) = (state.failures ≡ 0) × AreCalm visits
-AreCalm (Read path answer ∷ visits) = AreCalm visits
+abbrev pub HaveNoFailure : List Event → Type 0
+HaveNoFailure [] = ⊤
+HaveNoFailure (Entered name ∷ visits) = HaveNoFailure visits
+HaveNoFailure (NotGiven name ∷ visits) = HaveNoFailure visits
+HaveNoFailure (Left state ∷ visits) = (state.failures ≡ 0) × HaveNoFailure visits
+HaveNoFailure (Read path answer ∷ visits) = HaveNoFailure visits
 
--- The sample was checked, as a folder of its name would be, and its device never fails. It is held in memory: these visits are none
--- of a folder.
+-- The sample was checked, as a folder of its name would be, and its device never fails. It is held
+-- in memory: these visits are none of a folder.
 abbrev pub IsSampleChecked : Plan → OutState → OutState → ℕ → Type 0
 IsSampleChecked plan before after n =
-    (visits : List Event) × AreCalm visits
+    (visits : List Event) × HaveNoFailure visits
     × AreChecksOf plan None (λ _. sample_state) (codes "sample" ∷ []) before after visits n

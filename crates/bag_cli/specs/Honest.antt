@@ -1,4 +1,4 @@
--- What is told of an honest folder.
+-- What is reported of an honest folder.
 use Rattle.std.specs.Prelude.{ℕ, ◌≡◌, ◌⊎◌, Bool, IsTrue, List, [], if◌then◌else◌}
 use Rattle.std.specs.Io.KnownBytes.{Appends}
 use Rattle.std.specs.declared.result.Result.TheVariants.{Ok}
@@ -8,26 +8,27 @@ use Rattle.bag_tree.specs.Cut.{LeavesOnly}
 use Rattle.bag_tree.specs.Tree.{TreeState}
 use Rattle.bag_tags.specs.Element.{NewElement}
 use Rattle.bag_make.specs.Made as bag
-use Rattle.bag_make.specs.Make.{CanTell, HasNoFault, Leaves, MayRefuseMaking}
+use Rattle.bag_make.specs.Make.{HasKnownSize, HasNoFault, Leaves, MayRefuseMaking}
 use Rattle.bag_make.specs.PowerCut.{OutlastsCuts}
 use Rattle.bag_make.specs.declared.fault.MakeFault.{MakeFault}
 use Rattle.bag_cli.specs.Making.{IsMaking}
 use Rattle.bag_cli.specs.MakingLine.{made, not_made, reason}
 
--- The bag was made, and has no fault where its size can be told. On a device that notes what it does,
--- a power cut now leaves it and nothing else, if the folder was durable before. That was said, but for
--- a quiet making.
-pub record IsToldMade (name : List ℕ) (algs : List Alg) (info : List NewElement) (quiet : Bool)
+-- The bag was made, and has no fault where its size can be known. On a device that notes what it
+-- does, a power cut now leaves it and nothing else, if the folder was durable before. That was
+-- said, but for a quiet making.
+pub record IsReportedMade (name : List ℕ) (algs : List Alg) (info : List NewElement) (quiet : Bool)
     (old new : TreeState) (before after : OutState) (n : ℕ) : Type 0 where
   pub status : n ≡ 0
   pub made_bag : new.bag ≡ bag.made old.bag algs info
-  pub valid : CanTell old.bag → HasNoFault new.bag
+  pub valid : HasKnownSize old.bag → HasNoFault new.bag
   pub any_moment : OutlastsCuts old new
   pub lasting : IsTrue old.noted → LeavesOnly old.trail new.trail old.bag new.bag
   pub said : Appends before.taken after.taken (if quiet then [] else made name)
 
--- The bag wasn't made. The reason was said, which comes only where it is so, and tells what is left.
-pub record IsToldNotMade (name : List ℕ) (algs : List Alg) (info : List NewElement)
+-- The bag wasn't made. The reason was said, which comes only where it is so, and tells what is
+-- left.
+pub record IsReportedNotMade (name : List ℕ) (algs : List Alg) (info : List NewElement)
     (old new : TreeState) (before after : OutState) (n : ℕ) : Type 0 where
   pub status : n ≡ 3
   pub fault : MakeFault
@@ -37,10 +38,10 @@ pub record IsToldNotMade (name : List ℕ) (algs : List Alg) (info : List NewEle
   pub said : Appends before.taken after.taken (not_made name (reason fault))
 
 -- the law: of an honest folder, where the output didn't refuse, one of the two
-abbrev pub HonestFoldersAreTold : Type 0
-HonestFoldersAreTold =
+abbrev pub HonestFoldersAreReported : Type 0
+HonestFoldersAreReported =
     (name : List ℕ) (algs : List Alg) (info : List NewElement) (quiet : Bool)
     (old new : TreeState) (before after : OutState) (n : ℕ) → IsTrue old.honest
     → IsMaking name algs info quiet old new before after (Ok n)
-    → IsToldMade name algs info quiet old new before after n
-    ⊎ IsToldNotMade name algs info old new before after n
+    → IsReportedMade name algs info quiet old new before after n
+    ⊎ IsReportedNotMade name algs info old new before after n

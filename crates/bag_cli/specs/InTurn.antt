@@ -6,8 +6,8 @@ use Rattle.bag_cli.specs.Folders.{visits_of}
 use Rattle.bag_cli.specs.Visits.{Event}
 use Rattle.bag_cli.specs.declared.visits.Visits.{Visits}
 
--- What was done: with the output before and after it, the visits to folders, and the exit status. And what
--- was done for a name, where that was the last, and where it has a status.
+-- What was done: with the output before and after it, the visits to folders, and the exit status.
+-- And what was done for a name, where that was the last, and where it has a status.
 abbrev pub Deed : Type 1
 Deed = OutState → OutState → List Event → ℕ → Type 0
 
@@ -30,8 +30,8 @@ pub record GoesToOthers (First : Deed) (Others : OutState → List Event → ℕ
   pub others : Others mid later rest
   pub greatest : n ≡ max first rest
 
--- It was done for these names, one after the other. After one that is whole comes the next, whatever its status; after the
--- last comes none, and the status is 3.
+-- It was done for these names, one after the other. After one that is whole comes the next,
+-- whatever its status; after the last comes none, and the status is 3.
 abbrev pub AreInTurn : Last → Whole → List (List ℕ) → Deed
 AreInTurn Ends Goes [] before after visits n = (n ≡ 0) × (after ≡ before) × (visits ≡ [])
 AreInTurn Ends Goes (name ∷ names) before after visits n =

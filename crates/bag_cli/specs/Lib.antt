@@ -13,7 +13,7 @@ pub mod Sample
 pub mod Saying
 pub mod Status
 pub mod SystemFile
-pub mod Told
+pub mod Reported
 pub mod UncheckedKeys
 pub mod Visits
 pub mod Words

@@ -1,4 +1,4 @@
--- Making a folder a bag, and what is told of it.
+-- Making a folder a bag, and what is reported of it.
 use Rattle.std.specs.Prelude.{ℕ, ◌≡◌, ◌⊎◌, ◌≤◌, Bool, true, IsTrue, List, []}
 use Rattle.std.specs.Prelude.{Result, MatchResult, IfErr, OnOk}
 use Rattle.std.specs.List.{list_any}
@@ -10,11 +10,11 @@ use Rattle.bag_tree.specs.declared.out.Refused.{Refused}
 use Rattle.bag_tags.specs.Element.{NewElement}
 use Rattle.bag_walk.specs.Write.{IsCut}
 use Rattle.bag_make.specs.Valid.{is_refused}
-use Rattle.bag_make.specs.Make.{CanTell, HasMade, HasNoFault, Leaves, MayRefuseMaking}
+use Rattle.bag_make.specs.Make.{HasKnownSize, HasMade, HasNoFault, Leaves, MayRefuseMaking}
 use Rattle.bag_make.specs.PowerCut.{LastsForGood, OutlastsCuts}
 use Rattle.bag_make.specs.Reading.{OpensFolder}
 use Rattle.bag_make.specs.declared.fault.MakeFault.{MakeFault}
-use Rattle.bag_cli.specs.MakingLine.{line, status}
+use Rattle.bag_cli.specs.MakingLine.{line, making_status}
 
 -- all that is promised of making a bag of a folder
 pub record IsMake (algs : List Alg) (info : List NewElement) (old new : TreeState)
@@ -23,7 +23,7 @@ pub record IsMake (algs : List Alg) (info : List NewElement) (old new : TreeStat
   pub failures : old.failures ≤ new.failures
   pub untouched : (algs ≡ []) ⊎ (list_any is_refused info ≡ true) → new ≡ old
   pub made_bag : OnOk made (HasMade algs info old new)
-  pub valid : OnOk made (IsTrue old.honest → CanTell old.bag → HasNoFault new.bag)
+  pub valid : OnOk made (IsTrue old.honest → HasKnownSize old.bag → HasNoFault new.bag)
   pub opens : OpensFolder old new
   pub refused : IfErr made (MayRefuseMaking algs info old new)
   pub leaves : IfErr made (λ fault. IsTrue old.honest → Leaves algs info old.bag new.bag fault)
@@ -31,17 +31,17 @@ pub record IsMake (algs : List Alg) (info : List NewElement) (old new : TreeStat
   pub any_moment : OutlastsCuts old new
   pub lasting : OnOk made (LastsForGood algs info old new)
 
--- the output took the line, and this is the status; or it refused, and took a proper prefix
-abbrev pub TellsMaking : List ℕ → Result (Unit {0}) MakeFault → Bool
+-- the output took the line, and this is the making_status; or it refused, and took a proper prefix
+abbrev pub ReportsMaking : List ℕ → Result (Unit {0}) MakeFault → Bool
     → OutState → OutState → Result ℕ Refused → Type 0
-TellsMaking name made quiet before after told =
+ReportsMaking name made quiet before after told =
     MatchResult told
-    (λ n. (n ≡ status made) × Appends before.taken after.taken (line name made quiet))
+    (λ n. (n ≡ making_status made) × Appends before.taken after.taken (line name made quiet))
     (λ _. IsCut before.taken after.taken (line name made quiet) × (after.has_refused ≡ true))
 
--- the folder was made a bag, or it wasn't, and that was told under this name
+-- the folder was made a bag, or it wasn't, and that was reported under this name
 pub record IsMaking (name : List ℕ) (algs : List Alg) (info : List NewElement) (quiet : Bool)
     (old new : TreeState) (before after : OutState) (told : Result ℕ Refused) : Type 0 where
   pub made : Result (Unit {0}) MakeFault
   pub make : IsMake algs info old new made
-  pub tells : TellsMaking name made quiet before after told
+  pub tells : ReportsMaking name made quiet before after told

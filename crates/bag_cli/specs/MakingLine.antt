@@ -1,7 +1,7 @@
--- The line that says how making a bag went, and the exit status.
+-- The line that says how making a bag went, and the exit making_status.
 use Rattle.std.specs.Prelude.{ℕ, Bool, List, [], ◌++◌, Result, codes, decimal, if◌then◌else◌}
 use Rattle.std.specs.declared.result.Result.TheVariants.{Ok, Err}
-use Rattle.bag_tree.specs.Cause.{word}
+use Rattle.bag_tree.specs.Cause.{cause_word}
 use Rattle.bag_tree.specs.declared.tree_fault.Stop.{Stop}
 use Rattle.bag_tree.specs.declared.tree_fault.TreeFault.{TreeFault}
 use Rattle.bag_facts.specs.FaultLine.{field}
@@ -11,7 +11,7 @@ use Rattle.bag_make.specs.declared.fault.MakeFault.TheVariants.{ReadStopped, Mem
 
 -- a file, none where it is the listing, and why it couldn't be read
 abbrev pub unread_file : Stop → List ℕ
-unread_file stop = field stop.path ++ (codes " " ++ word stop.cause)
+unread_file stop = field stop.path ++ (codes " " ++ cause_word stop.cause)
 
 -- what couldn't be read
 abbrev pub unread : Stop → List ℕ
@@ -19,7 +19,7 @@ unread stop = codes "read " ++ unread_file stop
 
 -- the step that was refused, from 1, and the cause
 abbrev pub refused_step : ℕ → TreeFault → List ℕ
-refused_step place cause = codes "step " ++ (decimal place ++ (codes " " ++ word cause))
+refused_step place cause = codes "step " ++ (decimal place ++ (codes " " ++ cause_word cause))
 
 -- why a bag wasn't made
 abbrev pub reason : MakeFault → List ℕ
@@ -43,7 +43,7 @@ abbrev pub line : List ℕ → Result (Unit {0}) MakeFault → Bool → List ℕ
 line name (Ok _) quiet = if quiet then [] else made name
 line name (Err fault) quiet = not_made name (reason fault)
 
--- the exit status
-abbrev pub status : Result (Unit {0}) MakeFault → ℕ
-status (Ok _) = 0
-status (Err fault) = 3
+-- the exit making_status
+abbrev pub making_status : Result (Unit {0}) MakeFault → ℕ
+making_status (Ok _) = 0
+making_status (Err fault) = 3

@@ -14,8 +14,8 @@ use Rattle.bag_cli.specs.InTurn.{AreInTurn, Deed}
 abbrev pub element_of : InfoItem → NewElement
 element_of item = (item.label, item.value)
 
--- The folder was made a bag by a plan and with these elements, or wasn't, and that was told: of the tree that was given for it,
--- which was left as making leaves it.
+-- The folder was made a bag by a plan and with these elements, or wasn't, and that was reported: of
+-- the tree that was given for it, which was left as making leaves it.
 pub record IsTold (plan : Plan) (info : List NewElement) (tree : TreeState) (name : List ℕ)
     (before after : OutState) (visits : List Event) (told : Result ℕ Refused) : Type 0 where
   pub new : TreeState
@@ -31,21 +31,23 @@ IsWholeMaking plan info tree name before after visits n =
 abbrev pub IsNotGiven : List ℕ → OutState → OutState → List Event → Type 0
 IsNotGiven name before after visits = (after ≡ before) × (visits ≡ NotGiven name ∷ [])
 
--- a making was told, or memory ran out for its folder
+-- a making was reported, or memory ran out for its folder
 abbrev pub MakesFolder : {E : Type 0} → Plan → List NewElement → TreeState → List ℕ
     → OutState → OutState → List Event → Result (Result ℕ Refused) E → Type 0
 MakesFolder plan info tree name before after visits answer = MatchResult answer
     (λ told. IsTold plan info tree name before after visits told)
     (λ _. IsNotGiven name before after visits)
 
--- a making that is the last: the output refused its line, or memory ran out for the folder, which was asked for and couldn't be given
+-- a making that is the last: the output refused its line, or memory ran out for the folder, which
+-- was asked for and couldn't be given
 abbrev pub IsLastMaking : Plan → List NewElement → TreeState → List ℕ
     → OutState → OutState → List Event → Type 0
 IsLastMaking plan info tree name before after visits =
     ((refusal : Refused) × IsTold plan info tree name before after visits (Err refusal))
     ⊎ IsNotGiven name before after visits
 
--- the makings of the folders of these names in the trees that they name, with the plan's elements, one after the other
+-- the makings of the folders of these names in the trees that they name, with the plan's elements,
+-- one after the other
 abbrev pub AreMakingsOf : Plan → (List ℕ → TreeState) → List (List ℕ) → Deed
 AreMakingsOf plan tree_of names before after visits n =
     let info = map element_of plan.info in

@@ -1,4 +1,5 @@
--- What the program does by a plan, and which folders it looks into and which files it reads meanwhile.
+-- What the program does by a plan, and which folders it looks into and which files it reads
+-- meanwhile.
 use Rattle.std.specs.Prelude.{ℕ, ◌≡◌, ◌≢◌, ◌⊎◌, Bool, true, List, [], ◌∷◌, if◌then◌else◌}
 use Rattle.std.specs.Prelude.{Option, Some, None, Result, Ok, Err}
 use Rattle.std.specs.Io.KnownBytes.{Appends}
@@ -53,7 +54,8 @@ AreChecked below plan profile before after visits n =
 abbrev pub lines_before : Bool → Profile → List ℕ
 lines_before quiet profile = if quiet then [] else unchecked_lines profile.unchecked
 
--- its unchecked keys were written, and then the folders were checked by it; or the output refused these lines
+-- its unchecked keys were written, and then the folders were checked by it; or the output refused
+-- these lines
 abbrev pub AreCheckedBy : Below → Plan → Profile → Deed
 AreCheckedBy below plan profile before after visits n =
     IsCutOff (lines_before plan.quiet profile) before after visits n
@@ -67,7 +69,8 @@ IsCheckedFor below plan (Ok profile) before after visits n =
 IsCheckedFor below plan (Err refusal) before after visits n =
     IsNothing (refusal_status refusal) before after visits n
 
--- the folders were checked, by the profile of a file where there is a path of one, which was read by one call, before them
+-- the folders were checked, by the profile of a file where there is a path of one, which was read
+-- by one call, before them
 abbrev pub IsChecked : Below → Files → Plan → Option (List ℕ) → Deed
 IsChecked below file plan None before after visits n =
     AreChecked below plan None before after visits n
@@ -77,15 +80,16 @@ IsChecked below file plan (Some path) before after visits n =
     × IsAnswer (file path) answer × IsReadAs answer read
     × IsCheckedFor below plan read before after own n
 
--- the folders of a plan were made bags, on disks that hold this below each base folder; or memory for the elements, of which
--- there are some, ran out
+-- the folders of a plan were made bags, on disks that hold this below each base folder; or memory
+-- for the elements, of which there are some, ran out
 abbrev pub AreMade : Below → Plan → Deed
 AreMade below plan before after visits n =
     ((n ≡ 3) × (after ≡ before) × (visits ≡ []) × (plan.info ≢ []))
     ⊎ AreMakingsOf plan (λ name. tree_state (below name) 0) plan.directories
     before after visits n
 
--- this was done for a plan, on disks that hold this below each base folder, where files have these bytes
+-- this was done for a plan, on disks that hold this below each base folder, where files have these
+-- bytes
 abbrev pub IsDoneBy : Action → Below → Files → Plan → Deed
 IsDoneBy Sample below file plan before after visits n =
     IsSampleChecked plan before after n × (visits ≡ [])
@@ -94,7 +98,8 @@ IsDoneBy Check below file plan before after visits n =
     IsChecked below file plan plan.profile before after visits n
 IsDoneBy Make below file plan before after visits n = AreMade below plan before after visits n
 
--- what a plan says was done, on disks that hold this below each base folder, where files have these bytes
+-- what a plan says was done, on disks that hold this below each base folder, where files have these
+-- bytes
 abbrev pub IsPerformed : Below → Files → Plan → Deed
 IsPerformed below file plan before after visits n =
     IsDoneBy plan.action below file plan before after visits n

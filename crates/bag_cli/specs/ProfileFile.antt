@@ -16,14 +16,15 @@ use Rattle.bag_cli.specs.declared.profile_refusal.ProfileRefusal.TheVariants.{Un
 abbrev pub most_bytes : ℕ
 most_bytes = 16777216
 
--- what may be answered of a file's bytes: all of them, which are no more than that; or that it can't be read, or memory ran out
+-- what may be answered of a file's bytes: all of them, which are no more than that; or that it
+-- can't be read, or memory ran out
 abbrev pub IsAnswer : (Option (List ℕ) → Type 0) → Result (List ℕ) ReadFault → Type 0
 IsAnswer file (Ok bytes) = file (Some bytes) × (length bytes ≤ most_bytes)
 IsAnswer file (Err none.Unread) = MayBeUnread file most_bytes
 IsAnswer file (Err none.Memory) = Unit {0}
 
--- What is read of that answer: the profile that the bytes are, or the cause for which they are none, or memory ran out; and where
--- there are no bytes, why.
+-- What is read of that answer: the profile that the bytes are, or the cause for which they are
+-- none, or memory ran out; and where there are no bytes, why.
 abbrev pub IsReadAs : Result (List ℕ) ReadFault → Result Profile ProfileRefusal → Type 0
 IsReadAs (Ok bytes) (Ok profile) = profile_in bytes ≡ Ok profile
 IsReadAs (Ok bytes) (Err Unread) = ⊥
@@ -31,7 +32,8 @@ IsReadAs (Ok bytes) (Err (Refused fault)) = (fault ≡ Memory) ⊎ (profile_in b
 IsReadAs (Err fault) read = read ≡ Err (unread_as fault)
 
 -- the file at the path was read, by one call, and this is what is read of its answer
-pub record ReadsProfile (file : Option (List ℕ) → Type 0) (path : List ℕ) (before after : List Event)
+pub record ReadsProfile (file : Option (List ℕ) → Type 0) (path : List ℕ)
+    (before after : List Event)
     (read : Result Profile ProfileRefusal) : Type 0 where
   pub answer : Result (List ℕ) ReadFault
   pub visits : after ≡ before ++ Read path answer ∷ []

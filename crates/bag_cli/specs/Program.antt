@@ -3,42 +3,45 @@ use Rattle.std.specs.Prelude.{ℕ, ◌≡◌, ◌⊎◌, true, List, [], Option,
 use Rattle.bag_tree.specs.Out.{OutState}
 use Rattle.bag_cli.specs.Visits.{Event}
 use Rattle.bag_arguments.specs.Plan.{IsNotRefused, IsPlanned, usage_status}
-use Rattle.bag_arguments.specs.Words.{is_taken}
+use Rattle.bag_arguments.specs.Words.{clap_takes}
 use Rattle.bag_arguments.specs.declared.plan.Plan.{Plan}
 use Rattle.bag_arguments.specs.declared.usage.Usage.{Usage}
 use Rattle.bag_cli.specs.InTurn.{Deed}
 use Rattle.bag_cli.specs.Performed.{Below, Files, IsNothing, IsPerformed}
 
 -- a plan was performed; where the words are refused, nothing is written
-abbrev pub IsDone : Below → Files → Result Plan Usage → Deed
-IsDone below file (Err usage) before after visits n =
+abbrev pub IsPlanPerformed : Below → Files → Result Plan Usage → Deed
+IsPlanPerformed below file (Err usage) before after visits n =
     IsNothing (usage_status usage) before after visits n
-IsDone below file (Ok plan) before after visits n =
+IsPlanPerformed below file (Ok plan) before after visits n =
     IsPerformed below file plan before after visits n
 
--- What the words ask for was done, on disks that hold this below each base folder, where files have these bytes: a plan of them was performed, or they were
--- refused for a reason that they have. Words that clap takes are none that the program doesn't take.
+-- What the words ask for was done, on disks that hold this below each base folder, where files have
+-- these bytes: a plan of them was performed, or they were refused for a reason that they have.
+-- Words that clap takes are none that the program doesn't take.
 pub record IsProgram (below : Below) (file : Files) (words : List (List ℕ))
     (before after : OutState) (visits : List Event) (n : ℕ) : Type 0 where
   pub planned : Result Plan Usage
   pub is_planned : IsPlanned words planned
-  pub taken : is_taken words ≡ true → IsNotRefused planned
-  pub done : IsDone below file planned before after visits n
+  pub taken : clap_takes words ≡ true → IsNotRefused planned
+  pub done : IsPlanPerformed below file planned before after visits n
 
 -- what the words ask for was done, or memory for them ran out, and then nothing is written
 abbrev pub IsProgramOrNone : Below → Files → List (List ℕ) → Deed
 IsProgramOrNone below file words before after visits n =
     IsNothing 3 before after visits n ⊎ IsProgram below file words before after visits n
 
--- where there are no words, nothing is written; else what they ask for without the program's name was done
+-- where there are no words, nothing is written; else what they ask for without the program's name
+-- was done
 abbrev pub IsDoneFor : Below → Files → Result (List (List ℕ)) Usage → Deed
 IsDoneFor below file (Err usage) before after visits n =
     IsNothing (usage_status usage) before after visits n
 IsDoneFor below file (Ok words) before after visits n =
     IsProgramOrNone below file (drop 1 words) before after visits n
 
--- The program was given one of these answers, and did what it asks for on disks that hold this below each base folder, where files have these bytes; or
--- memory for the words ran out, and then nothing is written.
+-- The program was given one of these answers, and did what it asks for on disks that hold this
+-- below each base folder, where files have these bytes; or memory for the words ran out, and then
+-- nothing is written.
 abbrev pub IsWholeProgram : (Result (List (List ℕ)) Usage → Type 0) → Below → Files → Deed
 IsWholeProgram answers below file before after visits n =
     IsNothing 3 before after visits n

@@ -1,4 +1,5 @@
--- Which folders were looked into, as what their trees were left, which couldn't be given, and which files were read beside them.
+-- Which folders were looked into, as what their trees were left, which couldn't be given, and which
+-- files were read beside them.
 use Rattle.std.specs.Prelude.{ℕ, ◌≡◌, ◌⊎◌, Bool, List, Option, Result, refl}
 use mathlib.Core.Logic.{inl, inr}
 use Rattle.std.specs.Coded.{Coded, code_by, coded×, coded⊎, coded_ℕ, coded_bool, coded_list}
@@ -15,8 +16,9 @@ use Rattle.bag_tree.specs.contracts.event.DeviceEvent as device_event
 use Rattle.bag_cli.specs.declared.read_fault.ReadFault.{ReadFault}
 use Rattle.bag_cli.specs.contracts.read_fault.ReadFault as read_fault
 
--- the tree of the files in the folder of this name was given, or was asked for and couldn't be given, a tree was left as this, or
--- the file at this path was read, and these bytes were the answer, or why there are none
+-- the tree of the files in the folder of this name was given, or was asked for and couldn't be
+-- given, a tree was left as this, or the file at this path was read, and these bytes were the
+-- answer, or why there are none
 pub data Event : Type 0 where
   Entered : List ℕ → Event
   NotGiven : List ℕ → Event
@@ -40,7 +42,8 @@ Reads = List (List ℕ) × (Option (List ℕ) × (ℕ × Answer))
 
 abbrev coded_reads : Coded Reads
 coded_reads =
-    coded× (coded_list coded_text) (coded× (coded_option coded_text) (coded× coded_ℕ answer.the_row.coded))
+    coded× (coded_list coded_text)
+    (coded× (coded_option coded_text) (coded× coded_ℕ answer.the_row.coded))
 
 abbrev Noted : Type 0
 Noted = List DeviceEvent × Bool

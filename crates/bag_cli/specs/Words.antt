@@ -21,8 +21,8 @@ abbrev pub MayAnswer : Result (List (List ℕ)) Usage → Type 0
 MayAnswer (Ok words) = ⊤
 MayAnswer (Err usage) = IsUnread usage
 
--- what is asked are the answered words without the program's name; there are none where that was answered, or for want of
--- memory
+-- what is asked are the answered words without the program's name; there are none where that was
+-- answered, or when out of memory
 abbrev pub MayHaveAsked : (Result (List (List ℕ)) Usage → Type 0)
     → Result (Vec (String Global) Global) Usage → Type 0
 MayHaveAsked answers (Ok asked) =

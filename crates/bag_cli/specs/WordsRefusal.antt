@@ -7,7 +7,7 @@ use Rattle.bag_arguments.specs.declared.usage.Usage.TheVariants.{Refused, NeedsV
 use Rattle.bag_arguments.specs.declared.usage.Usage.TheVariants.{AfterSeveral, AfterNotALine}
 use Rattle.bag_arguments.specs.declared.usage.Usage.TheVariants.{Memory}
 
--- a text with a line end at its end: its own, or else one behind it
+-- a text with a line end at its end: its own, or else one after it
 abbrev pub ended : List ℕ → List ℕ
 ended text = if ends_with ◌==◌ text (codes "\n") then text else text ++ codes "\n"
 
@@ -16,7 +16,8 @@ abbrev pub usage_line : Usage → List ℕ
 usage_line (Refused text) = ended text
 usage_line (NeedsValidate option) =
     codes "bagit: " ++ (check_name option ++ codes " needs --validate\n")
-usage_line TwoDepths = codes "bagit: more than one of --declaration-only, --fast, --completeness-only\n"
+usage_line TwoDepths =
+    codes "bagit: more than one of --declaration-only, --fast, --completeness-only\n"
 usage_line AfterSeveral = codes "bagit: --after takes one directory\n"
 usage_line AfterNotALine = codes "bagit: --after is not a fault line\n"
 usage_line Memory = codes "bagit: out of memory\n"

@@ -62,7 +62,8 @@ impl Task for Checks<'_> {
     }
 }
 
-/// Says on `err` what was refused beside the report, and gives the status where the whole report was written.
+/// Says on `err` what was refused beside the report, and gives the status where the whole report
+/// was written.
 fn status_of_whole<E: Out>(checked: &Result<Outcome, AllocError>, err: &mut E) -> Option<u8>
     ensures { result ≡ whole_status checked.now }
 {

@@ -8,7 +8,7 @@ ghost use Rattle.bag_cli.specs.Performed.{AreMade};
 use crate::in_turn::{Task, do_in_turn};
 use crate::performing::REFUSED;
 use crate::saying::{say_memory, say_refused};
-use crate::{Disks, Folders, Visits, make_and_tell};
+use crate::{Disks, Folders, Visits, make_and_report};
 use bag_arguments::{InfoItem, Plan};
 use bag_text::Text;
 use bag_tree::{Out, Refused};
@@ -43,7 +43,8 @@ where
     }
 }
 
-/// The labels and values of a plan's elements, in their order, which are copied. It fails for want of memory alone.
+/// The labels and values of a plan's elements, in their order, which are copied. It fails only when
+/// out of memory.
 pub fn elements(alloc: Global, info: &[InfoItem]) -> Result<Vec<(Text, Text)>, AllocError>
     ensures elements { IfOk result (λ elements. elements.items ≡ map element_of info.now) }
     ensures some { OnErr result (info.now ≢ []) }
@@ -79,7 +80,7 @@ impl Makings<'_> {
     {
         let plan = self.plan;
         let tree = folders.enter(alloc, directory, visits)?;
-        let (tree, told) = make_and_tell(
+        let (tree, told) = make_and_report(
             alloc, tree, directory, plan.algs, self.info, plan.quiet, out,
         );
         folders.leave(tree, visits);

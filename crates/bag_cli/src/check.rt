@@ -15,7 +15,8 @@ use bag_tree::{Out, Tree};
 use bag_walk::{Outcome, Request, run};
 use std::alloc::{AllocError, Global};
 
-/// Checks the bag in a folder, as a plan says. The folder is asked for before anything else that takes memory.
+/// Checks the bag in a folder, as a plan says. The folder is asked for before anything else that
+/// takes memory.
 pub(crate) fn check_folder<D: Disks, O: Out>(
     alloc: Global,
     folders: &Folders<'_, D>,
@@ -51,7 +52,8 @@ pub(crate) fn check_sample<O: Out>(
     checked
 }
 
-/// Checks the bag of a tree under a name, as a plan says. Where memory for what is asked for runs out, it doesn't look at the tree.
+/// Checks the bag of a tree under a name, as a plan says. Where memory for what is asked for runs
+/// out, it doesn't look at the tree.
 fn check_tree<T: Tree, O: Out>(
     alloc: Global,
     tree: T,
@@ -73,7 +75,7 @@ fn check_tree<T: Tree, O: Out>(
     }
 }
 
-/// What a plan's check of a bag of this name asks for. It fails for want of memory alone.
+/// What a plan's check of a bag of this name asks for. It fails only when out of memory.
 pub fn request_for(alloc: Global, plan: &Plan, name: &str) -> Result<Request, AllocError>
     ensures { IfOk result (λ request. request ≡ request_of plan.now name.now) }
 {

@@ -31,7 +31,8 @@ pub trait Disks {
         ensures state { IfOk result (λ disk. Self.Disk.state disk ≡ below self.now base.now) }
         ensures base { IfOk result (λ disk. is_below disk base.now) };
 
-    /// The bytes of the file at a path, all of them. A file of more than `most` bytes can't be read.
+    /// The bytes of the file at a path, all of them. A file of more than `most` bytes can't be
+    /// read.
     ///
     /// The path is one of the system's, and leads from no base folder.
     fn read_file(&self, alloc: Global, path: &str, most: u32) -> Result<Vec<u8>, ReadFault>

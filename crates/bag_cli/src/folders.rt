@@ -15,9 +15,9 @@ use std::alloc::{AllocError, Global};
 
 /// The folders that disks reach, and the files beside them.
 ///
-/// A function that borrows a `Folders` and no disks reaches a disk through it alone. So the `Visits` that were made with it hold each
-/// folder that was looked into, with the state in which its tree was left, each that couldn't be given, and each file that was read,
-/// with the answer.
+/// A function that borrows a `Folders` and no disks reaches a disk through it alone. So the
+/// `Visits` that were made with it hold each folder that was looked into, with the state in which
+/// its tree was left, each that couldn't be given, and each file that was read, with the answer.
 #[derive(Drop)]
 pub struct Folders<'d, D> {
     disks: &'d D,
@@ -65,7 +65,8 @@ impl<'d, D: Disks> Folders<'d, D> {
         visits.note_of(&tree);
     }
 
-    /// The bytes of the file at a path, all of them. A file of more than `most` bytes can't be read.
+    /// The bytes of the file at a path, all of them. A file of more than `most` bytes can't be
+    /// read.
     ///
     /// The path is one of the system's, and leads from no folder.
     pub fn read_file(

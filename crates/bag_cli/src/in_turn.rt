@@ -14,15 +14,15 @@ use std::alloc::Global;
 
 /// What is done with one folder after the other.
 pub(crate) trait Task {
-    /// What was done with the tree of a folder of this name, where that was the last: with the output before and after it, and the
-    /// visits.
+    /// What was done with the tree of a folder of this name, where that was the last: with the
+    /// output before and after it, and the visits.
     ghost ends: { Self → TreeState → List ℕ → OutState → OutState → List Event → Type 0 };
 
     /// What was done with it where the next folder comes, with its status.
     ghost goes: { Self → TreeState → List ℕ → Deed };
 
-    /// Does it with a folder, and says on `err` what was refused beside what it writes to `out`. Gives the status where all of that
-    /// was written.
+    /// Does it with a folder, and says on `err` what was refused beside what it writes to `out`.
+    /// Gives the status where all of that was written.
     fn do_in<D: Disks, O: Out, E: Out>(
         &self,
         alloc: Global,
@@ -39,7 +39,8 @@ pub(crate) trait Task {
             (goes self.now tree directory.now (O.state out.old) (O.state out.new) own)) };
 }
 
-/// Does a task with folders, one after the other, up to the first of which not all was written. Gives the greatest status.
+/// Does a task with folders, one after the other, up to the first of which not all was written.
+/// Gives the greatest status.
 pub(crate) fn do_in_turn<T, D, O, E>(
     task: &T,
     alloc: Global,

@@ -7,12 +7,13 @@
 //! let status = run_program(&rt, &folders, &mut visits, &mut out, &mut err);
 //! ```
 //!
-//! `Disks` gives the disks that the program looks at, and the bytes of files elsewhere, as profiles; it is implemented for
-//! every runtime of the system, of which nothing is promised.
+//! `Disks` gives the disks that the program looks at, and the bytes of files elsewhere, as
+//! profiles; it is implemented for every runtime of the system, of which nothing is promised.
 //!
-//! For each directory the output takes what the run theorem says of its tree, or what its making told, and the status is the
-//! greatest of all. The disk is the one below the base folder; each folder whose tree is given, and as what it is left, is
-//! noted. A file's bytes are the whole file, up to a bound.
+//! For each directory the output takes what the run theorem says of its tree, or what its making
+//! reported, and the status is the greatest of all. The disk is the one below the base folder; each
+//! folder whose tree is given, and as what it is left, is noted. A file's bytes are the whole file,
+//! up to a bound.
 #![tactic(auto)]
 
 mod all_checks;
@@ -45,7 +46,7 @@ pub use bag_tree::WriterOut;
 pub use check::request_for;
 pub use disks::Disks;
 pub use folders::Folders;
-pub use making::make_and_tell;
+pub use making::make_and_report;
 pub use making_line::put_making;
 pub use performing::perform;
 pub use profile_file::{MOST_BYTES, read_profile};

@@ -9,8 +9,8 @@ use bag_tree::{Out, Refused, Stop, TreeFault};
 use bag_walk::put_line;
 use itoa::Buffer;
 
-/// Hands the line about a folder of this name to the output, or nothing where the bag was made and the making is quiet. The name
-/// and the path of a file are written as fields of a line.
+/// Hands the line about a folder of this name to the output, or nothing where the bag was made and
+/// the making is quiet. The name and the path of a file are written as fields of a line.
 pub fn put_making<W: Out>(
     name: &str,
     made: &Result<(), MakeFault>,
@@ -47,7 +47,8 @@ fn put_not_made<W: Out>(name: &str, fault: &MakeFault, out: &mut W) -> Result<()
 }
 
 fn put_reason<W: Out>(name: &str, reason: &str, out: &mut W) -> Result<(), Refused>
-    ensures { Writes (W.state out.old) (W.state out.new) (spec.not_made name.now reason.now) result }
+    ensures { Writes (W.state out.old) (W.state out.new) (spec.not_made name.now reason.now)
+        result }
 {
     put_line(name, &[said::NOT_MADE, reason, "\n"], out)
 }

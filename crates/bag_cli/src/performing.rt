@@ -17,17 +17,20 @@ use std::alloc::Global;
 /// The exit status where a read, a write or a growth was refused.
 pub(crate) const REFUSED: u8 = 3;
 
-/// Does a plan: writes the reports, what was made or the help to `out`, and what is refused beside that to `err`.
+/// Does a plan: writes the reports, what was made or the help to `out`, and what is refused beside
+/// that to `err`.
 ///
-/// Gives the exit status, over several folders the greatest: 0 where a bag was checked to its end, without a cursor, and has no
-/// fault, or was made, or help was written; 1 where it has faults, or the report was one above a cursor or stopped at its limit; 2 where the profile is
-/// refused; and 3 where a read, a write or a growth was, or a bag wasn't made. The profile is read first. Where `out` refuses, it
-/// stops. Unless the status is 2 or 3, `out` took a whole report for each bag that was checked, and the line of each that was made
-/// but for a quiet plan.
+/// Gives the exit status, over several folders the greatest: 0 where a bag was checked to its end,
+/// without a cursor, and has no fault, or was made, or help was written; 1 where it has faults, or
+/// the report was one above a cursor or stopped at its limit; 2 where the profile is refused; and 3
+/// where a read, a write or a growth was, or a bag wasn't made. The profile is read first. Where
+/// `out` refuses, it stops. Unless the status is 2 or 3, `out` took a whole report for each bag
+/// that was checked, and the line of each that was made but for a quiet plan.
 ///
-/// `visits` are those that were made with the folders: each folder of the plan is looked into once at most, in order, and no other;
-/// the profile's file is read once, and no other. Whatever a folder's status, the next one is asked for; where memory runs out for
-/// one, it stops, and that one was asked for.
+/// `visits` are those that were made with the folders: each folder of the plan is looked into once
+/// at most, in order, and no other; the profile's file is read once, and no other. Whatever a
+/// folder's status, the next one is asked for; where memory runs out for one, it stops, and that
+/// one was asked for.
 pub fn perform<D, O, E>(
     alloc: Global,
     folders: &Folders<'_, D>,

@@ -20,7 +20,8 @@ pub enum ReadFault {
     Memory,
 }
 
-/// What a call of the system answered, its error as a fault: `Memory` where it is one of memory, and else `Unread`.
+/// What a call of the system answered, its error as a fault: `Memory` where it is one of memory,
+/// and else `Unread`.
 pub(crate) fn answer_of<T>(answer: io::Result<T>) -> Result<T, ReadFault>
     ensures given { IfOk result (λ given. answer ≡ Ok given) }
     ensures answered { IfOk answer (λ given. result ≡ Ok given) }

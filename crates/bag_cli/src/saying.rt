@@ -1,5 +1,6 @@
-//! What is said on `err`, beside the output. It takes no memory, and where `err` refuses, that is told no further.
-ghost use Rattle.bag_walk.specs.Write.{text_of};
+//! What is said on `err`, beside the output. It takes no memory, and where `err` refuses, that is
+//! reported no further.
+ghost use Rattle.bag_walk.specs.Write.{joined_pieces};
 ghost use Rattle.bag_cli.specs.Saying.{Says, output_refused, out_of_memory};
 
 use bag_text::said;
@@ -8,7 +9,7 @@ use bag_walk::put_pieces;
 
 /// Says the pieces of a text.
 pub(crate) fn say_on<E: Out>(err: &mut E, pieces: &[&str])
-    ensures { Says (E.state err.old) (E.state err.new) (text_of pieces.now) }
+    ensures { Says (E.state err.old) (E.state err.new) (joined_pieces pieces.now) }
 {
     let _ = put_pieces(err, pieces);
 }

@@ -8,8 +8,8 @@ use std::fs;
 use std::io::Read;
 use std::rt::Files;
 
-/// Opens the regular file at a path, or where a link there leads. Anything else isn't opened: a pipe may wait for its other
-/// end.
+/// Opens the regular file at a path, or where a link there leads. Anything else isn't opened: a
+/// pipe may wait for its other end.
 pub(crate) fn open_file<R: Files>(rt: &R, path: &str) -> Result<R::File, ReadFault> {
     let metadata = answer_of(fs::metadata(rt, path))?;
     if metadata.is_file() {
@@ -19,7 +19,8 @@ pub(crate) fn open_file<R: Files>(rt: &R, path: &str) -> Result<R::File, ReadFau
     }
 }
 
-/// All bytes that a reader has left, where they are no more than the bound. It takes one byte above the bound at most.
+/// All bytes that a reader has left, where they are no more than the bound. It takes one byte above
+/// the bound at most.
 pub(crate) fn read_within<F: Read + Drop>(
     alloc: Global,
     file: F,

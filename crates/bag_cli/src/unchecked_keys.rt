@@ -7,7 +7,8 @@ use bag_text::said;
 use bag_tree::{Out, Refused};
 use bag_walk::{put_line, put_pieces};
 
-/// Hands the output a line for each key of the profile that isn't checked, in their order. It takes no memory.
+/// Hands the output a line for each key of the profile that isn't checked, in their order. It takes
+/// no memory.
 pub fn write_unchecked<O: Out>(profile: &Profile, out: &mut O) -> Result<(), Refused>
     ensures { Writes (O.state out.old) (O.state out.new)
         (spec.unchecked_lines profile.now.unchecked) result }

@@ -6,10 +6,12 @@ ghost use Rattle.bag_cli.specs.Visits.{Event};
 use crate::record::Record;
 use std::marker::PhantomData;
 
-/// Which folders were looked into that disks of the type `D` reach, one after another, as what their trees were left, which
-/// couldn't be given, and which files were read beside them, with what was answered. Only clauses read it: it takes no memory.
+/// Which folders were looked into that disks of the type `D` reach, one after another, as what
+/// their trees were left, which couldn't be given, and which files were read beside them, with what
+/// was answered. Only clauses read it: it takes no memory.
 ///
-/// It comes with the `Folders`: nothing else makes one, and who has no disks can't make a second one of their type.
+/// It comes with the `Folders`: nothing else makes one, and who has no disks can't make a second
+/// one of their type.
 #[derive(Drop)]
 pub struct Visits<D> {
     of: PhantomData<D>,

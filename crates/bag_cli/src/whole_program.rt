@@ -14,8 +14,8 @@ use std::alloc::Global;
 
 /// Does what the words ask for, without the program's name, and gives the exit status.
 ///
-/// The status of refused words is 2, and of words for which memory ran out 3, and then nothing is written to `out`; what
-/// `perform` says is that of all others.
+/// The status of refused words is 2, and of words for which memory ran out 3, and then nothing is
+/// written to `out`; what `perform` says is that of all others.
 pub fn program<D, O, E>(
     alloc: Global,
     folders: &Folders<'_, D>,
@@ -38,7 +38,8 @@ where
     }
 }
 
-/// Does what the words ask for that the program was started with, in folders that are lent, and gives the exit status.
+/// Does what the words ask for that the program was started with, in folders that are lent, and
+/// gives the exit status.
 ///
 /// A word that isn't UTF-8 is refused.
 pub fn run_program<R, D, O, E>(

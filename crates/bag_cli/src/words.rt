@@ -25,8 +25,8 @@ pub trait Words {
         ensures { answers self.now (answered result) };
 }
 
-/// The words that a runtime was started with. Std says nothing of them, and of their refusal no more than that a word isn't UTF-8 or
-/// memory ran out.
+/// The words that a runtime was started with. Std says nothing of them, and of their refusal no
+/// more than that a word isn't UTF-8 or memory ran out.
 impl<R: Env + AllocGlobal> Words for R {
     ghost answers = { λ _. MayAnswer };
 

@@ -9,7 +9,8 @@ use bag_arguments::Usage;
 use bag_text::said;
 use bag_tree::Out;
 
-/// Says on `err` why the words are refused, in a line or, of clap, some lines, and gives the exit status. It takes no memory.
+/// Says on `err` why the words are refused, in a line or, of clap, some lines, and gives the exit
+/// status. It takes no memory.
 pub fn refuse_words<E: Out>(usage: &Usage, err: &mut E) -> u8
     ensures status { result ≡ usage_status usage.now }
     ensures said { Says (E.state err.old) (E.state err.new) (usage_line usage.now) }

@@ -1,19 +1,25 @@
 -- The names that this crate's proofs cite, passed on from one place. Declares nothing.
-pub use Rattle.std.proofs.Common.{Bool, Contains, IsTrue, List, MatchOption, None, Option, Result, Some, [], ap, append-nil, arith, cond, drop, eqb, false, filter, get_or, inl, inr, length, length-drop, map, not, of_calls, refl, rules, subst, suc, sym, take, tests, true, zero, ℕ, ◌&&◌, ◌++◌, ◌+◌, ◌-◌, ◌<◌, ◌||◌, ◌↔◌, ◌∙◌, ◌∷◌, ◌≡◌, ◌≢◌, ◌≤◌, ◌⊎◌}
+pub use Rattle.std.proofs.Common.{Bool, Contains, IsTrue, List, MatchOption, None, Option, Result, Some, [], ap}
+pub use Rattle.std.proofs.Common.{append-nil, arith, cond, drop, eqb, false, filter, get_or, inl, inr, length}
+pub use Rattle.std.proofs.Common.{length-drop, map, not, of_calls, refl, rules, subst, suc, sym, take, tests, true}
+pub use Rattle.std.proofs.Common.{zero, ℕ, ◌&&◌, ◌++◌, ◌+◌, ◌-◌, ◌<◌, ◌||◌, ◌↔◌, ◌∙◌, ◌∷◌, ◌≡◌, ◌≢◌, ◌≤◌, ◌⊎◌}
 pub use Rattle.std.proofs.lemmas.Bool.Decides.{same_from_decides}
 pub use Rattle.std.proofs.lemmas.Fn.{always_returns_same}
 pub use Rattle.std.proofs.lemmas.Grind.{common_steps, flat_map-append}
 pub use Rattle.std.proofs.lemmas.Iterator.{YieldsList-from_map_by, YieldsList-from_slice}
 pub use Rattle.std.proofs.lemmas.Iterator.Search.{any_from_yields_List, cmp_from_yields_List}
 pub use Rattle.std.proofs.lemmas.List.{get_or-drop, map-id}
-pub use Rattle.std.proofs.lemmas.List.Kept.{Contains-dedup, Contains-from_dedup, IsStrictlySortedBy-dedup, IsStrictlySortedBy-filter}
-pub use Rattle.std.proofs.lemmas.List.Sorted.{Contains-permutation, IsPermutation-sym, answers_always, ranks_by, searchable_from_sorted}
+pub use Rattle.std.proofs.lemmas.List.Kept.{Contains-dedup, Contains-from_dedup, IsStrictlySortedBy-dedup}
+pub use Rattle.std.proofs.lemmas.List.Kept.{IsStrictlySortedBy-filter}
+pub use Rattle.std.proofs.lemmas.List.Sorted.{Contains-permutation, IsPermutation-sym, answers_always, ranks_by}
+pub use Rattle.std.proofs.lemmas.List.Sorted.{searchable_from_sorted}
 pub use Rattle.std.proofs.lemmas.Result.{IfOk-weaker}
 pub use Rattle.std.proofs.lemmas.Slice.Eq.{bytes_eq-Decides}
 pub use Rattle.std.specs.Borrow.{Bor}
 pub use Rattle.std.specs.Cmp.Lexicographic.{nat_list_cmp_total, nat_list_eq_equiv}
 pub use Rattle.std.specs.List.{AllWithin, dedup, enumerate_from, flat_map, list_any}
-pub use Rattle.std.specs.List.Sorted.{IsBinarySearchResult, IsNonDecreasingBy, IsPartitionPoint, IsPartitionedBy, IsPermutation, IsSearchInRange, IsSorted, IsStableBy, IsStrictlySortedBy, ties}
+pub use Rattle.std.specs.List.Sorted.{IsBinarySearchResult, IsNonDecreasingBy, IsPartitionPoint, IsPartitionedBy}
+pub use Rattle.std.specs.List.Sorted.{IsPermutation, IsSearchInRange, IsSorted, IsStableBy, IsStrictlySortedBy, ties}
 pub use Rattle.std.specs.Option.{is_some, option_and_then}
 pub use Rattle.std.specs.Ordering.{eq_by_cmp, is_lt, nat_cmp, ordering_index}
 pub use Rattle.std.specs.Result.{is_ok}
@@ -22,13 +28,14 @@ pub use Rattle.bag_facts.proofs.ByPath.{found}
 pub use Rattle.bag_facts.proofs.Mapped.{contains_mapped, kept, mapped_contains, passed, take_one_more, taken_cases}
 pub use Rattle.bag_facts.specs.Facts.{IsFactsOf, rules_in}
 pub use Rattle.bag_facts.specs.FaultAt.{of_path}
-pub use Rattle.bag_facts.specs.TagReader.{AreListed}
+pub use Rattle.bag_facts.specs.TagReader.{AreFilesOfBag}
 pub use Rattle.bag_facts.specs.declared.fault.Fault.{Fault}
 pub use Rattle.bag_profile.specs.Pattern.{matches}
 pub use Rattle.bag_profile.specs.Profile.{Profile, names}
 pub use Rattle.bag_profile.specs.declared.label.LabelRule.{LabelRule}
 pub use Rattle.bag_profile.specs.declared.rule.ListRule.{ListRule}
-pub use Rattle.bag_profile.specs.declared.rule.ListRule.TheVariants.{AcceptBagItVersion, TagFilesAllowed, TagFilesRequired}
+pub use Rattle.bag_profile.specs.declared.rule.ListRule.TheVariants.{AcceptBagItVersion, TagFilesAllowed}
+pub use Rattle.bag_profile.specs.declared.rule.ListRule.TheVariants.{TagFilesRequired}
 pub use Rattle.bag_profile.specs.declared.terms.Serialization.TheVariants.{Required}
 pub use Rattle.bag_read.proofs.InfoElements.{elements_of}
 pub use Rattle.bag_read.proofs.PickedOut.{any_from, from_any}
@@ -41,7 +48,8 @@ pub use Rattle.bag_read.specs.declared.kind.Kind.{Kind}
 pub use Rattle.bag_read.specs.declared.kind.Kind.TheVariants.{Payload, Tag}
 pub use Rattle.bag_stages.proofs.ByPath.{take_whole}
 pub use Rattle.bag_stages.proofs.FaultFields.{made_of}
-pub use Rattle.bag_stages.proofs.HasLists.{Decided, both_decided, either, false_or_not, for_each, nothing, one_where, only, same_set, true_or_not}
+pub use Rattle.bag_stages.proofs.HasLists.{Decided, both_decided, either, false_or_not, for_each, nothing, one_where}
+pub use Rattle.bag_stages.proofs.HasLists.{only, same_set, true_or_not}
 pub use Rattle.bag_stages.proofs.ManifestsList.{missing_or_not}
 pub use Rattle.bag_stages.proofs.OxumFaults.{by_line}
 pub use Rattle.bag_stages.specs.FaultFields.{At, of_bag}
@@ -49,17 +57,31 @@ pub use Rattle.bag_stages.specs.HasList.{HasList}
 pub use Rattle.bag_stages.specs.Metadata.{HasElement, HasLater, bag_info_txt}
 pub use Rattle.bag_stages.specs.MetadataStage.{pair}
 pub use Rattle.bag_stages.specs.TagFiles.{HasManifest, bagit_txt, lines_in, lines_or_none}
-pub use Rattle.bag_text.proofs.ListOf.{contains_behind, contains_cases, contains_first, contains_front, contains_nothing, member_has}
+pub use Rattle.bag_text.proofs.ListOf.{contains_behind, contains_cases, contains_first, contains_front}
+pub use Rattle.bag_text.proofs.ListOf.{contains_nothing, member_has}
 pub use Rattle.bag_text.specs.Order.{IsListOf}
 pub use Rattle.bag_text.specs.Path.{is_payload_path}
 pub use Rattle.bag_text.specs.Text.{same_label, text_cmp}
 pub use Rattle.bag_text.specs.declared.code.Code.{Code}
-pub use Rattle.bag_text.specs.declared.code.Code.TheVariants.{FetchNotAllowed, LabelRepeated, LabelRequired, ManifestNotAllowed, ManifestRequired, ProfileIdentifier, SerializationRequired, TagFileNotAllowed, TagFileRequired, TagmanifestNotAllowed, TagmanifestRequired, ValueNotAllowed, VersionNotAccepted}
+pub use Rattle.bag_text.specs.declared.code.Code.TheVariants.{FetchNotAllowed, LabelRepeated, LabelRequired}
+pub use Rattle.bag_text.specs.declared.code.Code.TheVariants.{ManifestNotAllowed, ManifestRequired, ProfileIdentifier}
+pub use Rattle.bag_text.specs.declared.code.Code.TheVariants.{SerializationRequired, TagFileNotAllowed, TagFileRequired}
+pub use Rattle.bag_text.specs.declared.code.Code.TheVariants.{TagmanifestNotAllowed, TagmanifestRequired}
+pub use Rattle.bag_text.specs.declared.code.Code.TheVariants.{ValueNotAllowed, VersionNotAccepted}
 pub use Rattle.bag_tree.specs.Bag.{Bag, HasFile, file, has_file}
 pub use Rattle.bag_tree.specs.declared.listing.FileEntry.{FileEntry}
-pub use Rattle.bag_conformance.specs.ConformanceFaults.{AreAll, IsOfElements, IsOfKind, IsOfTagFiles, IsOfWhole, other_code, required_code}
-pub use Rattle.bag_conformance.specs.ConformanceStage.{ConformanceFaultsAreListed, ConformanceFaultsAreOfStageEight, HasFetchFile, HasOtherManifest, HasOtherTagFile, HasOtherValue, HasOtherVersion, IsOfProfile, IsToBeSerialized, LacksIdentifier, LacksLabel, LacksManifest, LacksTagFile, RepeatsLabel, allowed_manifests, fetch_txt, identifier_label, required_manifests}
-pub use Rattle.bag_conformance.specs.ElementFaults.{allows, element_faults, has_other, has_value, identifier_faults, in_info, labelled, later_fault, lent, repeated_faults, required_faults, rule_faults, rules_faults, value_fault, value_faults}
+pub use Rattle.bag_conformance.specs.ConformanceFaults.{AreAll, IsOfElements, IsOfKind, IsOfTagFiles, IsOfWhole}
+pub use Rattle.bag_conformance.specs.ConformanceFaults.{other_code, required_code}
+pub use Rattle.bag_conformance.specs.ConformanceStage.{ConformanceFaultsAreListed, ConformanceFaultsAreOfStageEight}
+pub use Rattle.bag_conformance.specs.ConformanceStage.{HasFetchFile, HasOtherManifest, HasOtherTagFile, HasOtherValue}
+pub use Rattle.bag_conformance.specs.ConformanceStage.{HasOtherVersion, IsOfProfile, IsToBeSerialized, LacksIdentifier}
+pub use Rattle.bag_conformance.specs.ConformanceStage.{LacksLabel, LacksManifest, LacksTagFile, RepeatsLabel}
+pub use Rattle.bag_conformance.specs.ConformanceStage.{allowed_manifests, fetch_txt, identifier_label}
+pub use Rattle.bag_conformance.specs.ConformanceStage.{required_manifests}
+pub use Rattle.bag_conformance.specs.ElementFaults.{allows, element_faults, has_other, has_value, identifier_faults}
+pub use Rattle.bag_conformance.specs.ElementFaults.{in_info, labelled, later_fault, lent, repeated_faults}
+pub use Rattle.bag_conformance.specs.ElementFaults.{required_faults, rule_faults, rules_faults, value_fault}
+pub use Rattle.bag_conformance.specs.ElementFaults.{value_faults}
 pub use Rattle.bag_conformance.specs.LabelOrder.{IsByLabel, folded_label, label_cmp}
 pub use Rattle.bag_conformance.specs.NotAllowed.{IsOtherManifest, IsOtherTagFile, other_version}
 pub use Rattle.bag_conformance.specs.ProfileRules.{Excludes, IsFreeTagFile, Lists, MatchesNone}

@@ -1,5 +1,8 @@
 -- The faults of a bag and a profile are of the eighth stage, and a list has them.
-use Rattle.bag_conformance.proofs.Common.{arith, ◌≡◌, None, Some, refl, Code, ProfileIdentifier, Payload, Tag, Bag, Fault, Profile, nothing, same_set, either, IsOfElements, IsOfKind, IsOfTagFiles, IsOfWhole, ConformanceFaultsAreListed, ConformanceFaultsAreOfStageEight}
+use Rattle.bag_conformance.proofs.Common.{arith, ◌≡◌, None, Some, refl, Code, ProfileIdentifier, Payload, Tag, Bag}
+use Rattle.bag_conformance.proofs.Common.{Fault, Profile, nothing, same_set, either, IsOfElements, IsOfKind}
+use Rattle.bag_conformance.proofs.Common.{IsOfTagFiles, IsOfWhole, ConformanceFaultsAreListed}
+use Rattle.bag_conformance.proofs.Common.{ConformanceFaultsAreOfStageEight}
 use Rattle.bag_text.specs.Code.{stage}
 use Rattle.bag_conformance.specs.ConformanceStage.{ConformanceHolds, IsOfProfile}
 use Rattle.bag_conformance.proofs.ConformanceLists.{elements_listed, kind_listed, tag_files_listed, whole_listed}
@@ -26,6 +29,7 @@ conformance_faults_are_listed bag (Some profile) =
     (either _ (IsOfWhole bag profile)
     (either _ (IsOfTagFiles bag profile)
     (either (IsOfElements bag profile) (IsOfBothKinds bag profile) (elements_listed bag profile)
-    (either (λ f. IsOfKind bag profile f Payload) (λ f. IsOfKind bag profile f Tag) (kind_listed bag profile Payload) (kind_listed bag profile Tag)))
+    (either (λ f. IsOfKind bag profile f Payload) (λ f. IsOfKind bag profile f Tag) (kind_listed bag profile Payload)
+    (kind_listed bag profile Tag)))
     (tag_files_listed bag profile))
     (whole_listed bag profile))

@@ -1,29 +1,46 @@
 -- Every bag and every profile have a list of the faults of each part.
-use Rattle.bag_conformance.proofs.Common.{◌≡◌, ◌++◌, ◌∷◌, inl, inr, ℕ, List, [], Contains, Option, None, Some, refl, enumerate_from, FetchNotAllowed, SerializationRequired, TagFileNotAllowed, elements_of, manifest_name, Kind, Bag, file, has_file, HasFile, of_bag, of_path, Profile, TagFilesRequired, TagFilesAllowed, AcceptBagItVersion, made_of, rules_in, HasList, bag_info_txt, lines_in, bagit_txt, HasManifest, same_set, either, one_where, true_or_not, false_or_not, both_decided, required_code, other_code, IsOfElements, IsOfKind, IsOfTagFiles, IsOfWhole, element_faults, fetch_txt, required_manifests, allowed_manifests, LacksManifest, HasOtherManifest, Excludes, IsOtherTagFile, Lists, other_version}
+use Rattle.bag_conformance.proofs.Common.{◌≡◌, ◌++◌, ◌∷◌, inl, inr, ℕ, List, [], Contains, Option, None, Some, refl}
+use Rattle.bag_conformance.proofs.Common.{enumerate_from, FetchNotAllowed, SerializationRequired, TagFileNotAllowed}
+use Rattle.bag_conformance.proofs.Common.{elements_of, manifest_name, Kind, Bag, file, has_file, HasFile, of_bag}
+use Rattle.bag_conformance.proofs.Common.{of_path, Profile, TagFilesRequired, TagFilesAllowed, AcceptBagItVersion}
+use Rattle.bag_conformance.proofs.Common.{made_of, rules_in, HasList, bag_info_txt, lines_in, bagit_txt, HasManifest}
+use Rattle.bag_conformance.proofs.Common.{same_set, either, one_where, true_or_not, false_or_not, both_decided}
+use Rattle.bag_conformance.proofs.Common.{required_code, other_code, IsOfElements, IsOfKind, IsOfTagFiles, IsOfWhole}
+use Rattle.bag_conformance.proofs.Common.{element_faults, fetch_txt, required_manifests, allowed_manifests}
+use Rattle.bag_conformance.proofs.Common.{LacksManifest, HasOtherManifest, Excludes, IsOtherTagFile, Lists}
+use Rattle.bag_conformance.proofs.Common.{other_version}
 use Rattle.bag_read.specs.InfoReader as reading
 use Rattle.bag_stages.proofs.BagLists.{files_listed, manifests_listed}
 use Rattle.bag_stages.proofs.HasLists.{not_decided}
-use Rattle.bag_conformance.proofs.Decisions.{required_or_not, free_or_not, manifest_or_not, names_listed, excluded_or_not, unmatched_or_not}
+use Rattle.bag_conformance.proofs.Decisions.{required_or_not, free_or_not, manifest_or_not, names_listed}
+use Rattle.bag_conformance.proofs.Decisions.{excluded_or_not, unmatched_or_not}
 use Rattle.bag_conformance.proofs.ElementFaults.{elements_are, labelled_are}
 use Rattle.bag_conformance.proofs.FaultSets.{code_at, whole_at}
 use Rattle.bag_conformance.proofs.ItemFaults.{each_listed, items_listed}
 use Rattle.bag_conformance.proofs.TagFiles as tags
-use Rattle.bag_conformance.proofs.WholeBag.{HasOther, accepted_all, excluded_all, folder_all, serialized_all, undeclared_all, version_in}
+use Rattle.bag_conformance.proofs.WholeBag.{HasOther, accepted_all, excluded_all, folder_all, serialized_all}
+use Rattle.bag_conformance.proofs.WholeBag.{undeclared_all, version_in}
 
 module _ (bag : Bag) (profile : Profile) where
   pub elements_listed : HasList (IsOfElements bag profile)
   elements_listed =
       let all = lines_in bag bag_info_txt in
       let elements = reading.elements (rules_in bag) (enumerate_from 1 all) in
-      let faults = element_faults profile.identifier profile.labels elements in
-      (faults, elements_are bag profile elements (labelled_are bag elements (elements_of (rules_in bag) all)) faults refl)
+      let faults = element_faults profile.identifier profile.labels elements in (
+        faults,
+        elements_are bag profile elements (labelled_are bag elements (elements_of (rules_in bag) all)) faults
+            refl,
+      )
 
   pub kind_listed : (kind : Kind) → HasList (λ f. IsOfKind bag profile f kind)
   kind_listed kind =
-      either (λ f. (f.code ≡ required_code kind) × LacksManifest bag profile f kind) (λ f. (f.code ≡ other_code kind) × HasOtherManifest bag profile f kind)
-      (items_listed (required_code kind) (manifest_name kind) (Lists profile (required_manifests kind)) (λ name. ¬ (HasManifest bag kind name))
+      either (λ f. (f.code ≡ required_code kind) × LacksManifest bag profile f kind) (λ f.
+      (f.code ≡ other_code kind) × HasOtherManifest bag profile f kind)
+      (items_listed (required_code kind) (manifest_name kind) (Lists profile (required_manifests kind)) (λ name.
+      ¬ (HasManifest bag kind name))
       (λ name. not_decided _ (manifest_or_not bag kind name)) (names_listed profile (required_manifests kind)))
-      (items_listed (other_code kind) (manifest_name kind) (HasManifest bag kind) (Excludes profile (allowed_manifests kind))
+      (items_listed (other_code kind) (manifest_name kind) (HasManifest bag kind)
+      (Excludes profile (allowed_manifests kind))
       (excluded_or_not profile (allowed_manifests kind)) (manifests_listed bag kind))
 
   lacking_files : HasList (tags.Lacks bag profile)
@@ -35,7 +52,8 @@ module _ (bag : Bag) (profile : Profile) where
 
   other_files : HasList (tags.HasOther bag profile)
   other_files =
-      same_set (tags.IsOther bag profile) (tags.HasOther bag profile) (tags.to_other bag profile) (tags.from_other bag profile)
+      same_set (tags.IsOther bag profile) (tags.HasOther bag profile) (tags.to_other bag profile)
+      (tags.from_other bag profile)
       (each_listed (λ path. of_path TagFileNotAllowed path None []) (HasFile bag) (IsOtherTagFile profile)
       (λ path. both_decided _ _ (free_or_not path) (unmatched_or_not profile TagFilesAllowed path)) (files_listed bag))
 
@@ -49,12 +67,17 @@ module _ (bag : Bag) (profile : Profile) where
 
   pub tag_files_listed : HasList (IsOfTagFiles bag profile)
   tag_files_listed =
-      either (tags.Lacks bag profile) _ lacking_files (either (tags.HasOther bag profile) (tags.HasSomeFetch bag profile) other_files fetch_files)
+      either (tags.Lacks bag profile) _ lacking_files
+      (either (tags.HasOther bag profile) (tags.HasSomeFetch bag profile) other_files fetch_files)
 
-  versions_by : (declared : Option (List ℕ)) → declared ≡ version_in (file bag bagit_txt) → HasList (HasOther bag profile)
+  versions_by : (declared : Option (List ℕ)) → declared ≡ version_in (file bag bagit_txt)
+      → HasList (HasOther bag profile)
   versions_by None e = ([], undeclared_all bag profile [] refl e)
   versions_by (Some version) e = elim (excluded_or_not profile AcceptBagItVersion version) [
-    | inl out ↦ (other_version version ∷ [], excluded_all bag profile version e (other_version version ∷ []) (other_version version) refl refl out)
+    | inl out ↦ (
+      other_version version ∷ [],
+      excluded_all bag profile version e (other_version version ∷ []) (other_version version) refl refl out,
+    )
     | inr not ↦ ([], accepted_all bag profile version e [] refl not)
   ]
 
@@ -63,6 +86,9 @@ module _ (bag : Bag) (profile : Profile) where
       let versions = versions_by (version_in (file bag bagit_txt)) refl in
       let serialization = of_bag SerializationRequired in
       elim (required_or_not profile.terms.serialization) [
-        | inl asks ↦ (versions.0 ++ serialization ∷ [], serialized_all bag profile versions.0 _ serialization versions.1 refl refl asks)
+        | inl asks ↦ (
+          versions.0 ++ serialization ∷ [],
+          serialized_all bag profile versions.0 _ serialization versions.1 refl refl asks,
+        )
         | inr other ↦ (versions.0, folder_all bag profile versions.0 versions.0 versions.1 refl other)
       ]

@@ -1,5 +1,11 @@
 -- What can be decided of a bag and a profile.
-use Rattle.bag_conformance.proofs.Common.{◌≡◌, ◌≢◌, inl, inr, ℕ, List, true, false, Option, None, Some, refl, sym, subst, arith, Contains, list_any, bytes_eq-Decides, is_payload_path, any_from, from_any, manifest_name, is_alg_text, is_manifest_name, tag_path, Kind, Payload, Tag, Bag, matches, Profile, names, ListRule, Required, HasList, HasManifest, Decided, nothing, only, same_set, for_each, one_where, true_or_not, false_or_not, both_decided, missing_or_not, Lists, Excludes, MatchesNone, IsFreeTagFile}
+use Rattle.bag_conformance.proofs.Common.{◌≡◌, ◌≢◌, inl, inr, ℕ, List, true, false, Option, None, Some, refl, sym}
+use Rattle.bag_conformance.proofs.Common.{subst, arith, Contains, list_any, bytes_eq-Decides, is_payload_path, any_from}
+use Rattle.bag_conformance.proofs.Common.{from_any, manifest_name, is_alg_text, is_manifest_name, tag_path, Kind}
+use Rattle.bag_conformance.proofs.Common.{Payload, Tag, Bag, matches, Profile, names, ListRule, Required, HasList}
+use Rattle.bag_conformance.proofs.Common.{HasManifest, Decided, nothing, only, same_set, for_each, one_where}
+use Rattle.bag_conformance.proofs.Common.{true_or_not, false_or_not, both_decided, missing_or_not, Lists, Excludes}
+use Rattle.bag_conformance.proofs.Common.{MatchesNone, IsFreeTagFile}
 use Rattle.std.proofs.Common.{bytes_eq}
 use Rattle.std.proofs.lemmas.Bool.{both_ways, false_from_ne_true}
 use Rattle.std.proofs.lemmas.Option.{none-some, same_Some}
@@ -47,8 +53,17 @@ pub free_or_not : (path : List ℕ) → Decided (IsFreeTagFile path)
 free_or_not path =
     decided_as _ (IsFreeTagFile path)
     (λ h. let kinds = h.1.1.1.1 in
-    record { outside_payload = h.0; no_declaration = h.1.0; no_info = h.1.1.0; no_fetch = h.1.1.1.0; no_manifest = elim [ Payload ↦ kinds.0 | Tag ↦ kinds.1 ] })
-    (λ h. (h.outside_payload, (h.no_declaration, (h.no_info, (h.no_fetch, (h.no_manifest Payload, h.no_manifest Tag))))))
+    record {
+      outside_payload = h.0;
+      no_declaration = h.1.0;
+      no_info = h.1.1.0;
+      no_fetch = h.1.1.1.0;
+      no_manifest = elim [ Payload ↦ kinds.0 | Tag ↦ kinds.1 ];
+    })
+    (λ h. (
+      h.outside_payload,
+      (h.no_declaration, (h.no_info, (h.no_fetch, (h.no_manifest Payload, h.no_manifest Tag)))),
+    ))
     (both_decided _ _ (false_or_not (is_payload_path path))
     (both_decided _ _ (not_decided _ (same_or_not path (tag_path Declaration)))
     (both_decided _ _ (not_decided _ (same_or_not path (tag_path Info)))
@@ -62,7 +77,8 @@ module _ (profile : Profile) (rule : ListRule) where
   -- the names of a list
   pub names_listed : HasList (Lists profile rule)
   names_listed =
-      for_each (λ listed name. Contains listed name) (λ listed. (listed, λ name. (λ c. c, λ c. c))) (λ listed. names profile rule ≡ Some listed)
+      for_each (λ listed name. Contains listed name) (λ listed. (listed, λ name. (λ c. c, λ c. c))) (λ listed.
+      names profile rule ≡ Some listed)
       (of_option (names profile rule))
 
   -- what is said of the list, where there is one
@@ -77,7 +93,8 @@ module _ (profile : Profile) (rule : ListRule) where
   excluded_or_not name = of_list (λ listed. ¬ (Contains listed name)) (λ listed. missing_or_not listed name)
 
   pub unmatched_or_not : (name : List ℕ) → Decided (MatchesNone profile rule name)
-  unmatched_or_not name = of_list (λ patterns. (pattern : List ℕ) → Contains patterns pattern → matches pattern name ≡ false) (λ patterns.
+  unmatched_or_not name =
+      of_list (λ patterns. (pattern : List ℕ) → Contains patterns pattern → matches pattern name ≡ false) (λ patterns.
       let test = λ (pattern : List ℕ). matches pattern name in
       decided_as (list_any test patterns ≡ false) _
       (λ none pattern c. false_from_ne_true _ (λ m. both_ways _ none (any_from test patterns pattern c m)))

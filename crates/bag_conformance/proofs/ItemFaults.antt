@@ -1,5 +1,6 @@
 -- The faults of one code that name a path, of those items of a set of which something holds.
-use Rattle.bag_conformance.proofs.Common.{◌≡◌, ℕ, List, [], None, Code, of_path, Fault, At, made_of, HasList, Decided, one_where, same_set, for_each}
+use Rattle.bag_conformance.proofs.Common.{◌≡◌, ℕ, List, [], None, Code, of_path, Fault, At, made_of, HasList, Decided}
+use Rattle.bag_conformance.proofs.Common.{one_where, same_set, for_each}
 use Rattle.bag_conformance.proofs.FaultSets.{code_at, whole_at}
 
 -- one fault for each
@@ -20,4 +21,5 @@ module _ {I : Type 0} (code : Code) (path : I → List ℕ) (Q D : I → Type 0)
   from_fault f h = (h.1.0, h.1.2, made_of f code (path h.1.0) None 0 [] h.0 h.1.1, h.1.3)
 
   pub items_listed : ((i : I) → Decided (D i)) → HasList Q → HasList IsFault
-  items_listed decided items = same_set _ IsFault to_fault from_fault (each_listed (λ i. of_path code (path i) None []) Q D decided items)
+  items_listed decided items =
+      same_set _ IsFault to_fault from_fault (each_listed (λ i. of_path code (path i) None []) Q D decided items)

@@ -1,5 +1,12 @@
 -- The faults of a rule are those of the elements of its label.
-use Rattle.bag_conformance.proofs.Common.{◌≡◌, ◌≢◌, ◌⊎◌, ◌<◌, ◌≤◌, ◌↔◌, ◌++◌, ℕ, List, [], ◌∷◌, map, drop, filter, None, Bool, true, false, not, cond, refl, arith, Contains, nat_list_eq_equiv, list_any, bytes_eq, same_from_decides, bytes_eq-Decides, IsListOf, Code, LabelRequired, LabelRepeated, ValueNotAllowed, contains_cases, contains_first, contains_behind, contains_nothing, member_has, Element, Bag, Fault, kept, passed, LabelRule, At, bag_info_txt, HasElement, HasLater, pair, made_of, by_line, AreAll, in_info, later_fault, allows, required_faults, repeated_faults, has_other, value_fault, value_faults, rule_faults}
+use Rattle.bag_conformance.proofs.Common.{◌≡◌, ◌≢◌, ◌⊎◌, ◌<◌, ◌≤◌, ◌↔◌, ◌++◌, ℕ, List, [], ◌∷◌, map, drop, filter, None}
+use Rattle.bag_conformance.proofs.Common.{Bool, true, false, not, cond, refl, arith, Contains, nat_list_eq_equiv}
+use Rattle.bag_conformance.proofs.Common.{list_any, bytes_eq, same_from_decides, bytes_eq-Decides, IsListOf, Code}
+use Rattle.bag_conformance.proofs.Common.{LabelRequired, LabelRepeated, ValueNotAllowed, contains_cases, contains_first}
+use Rattle.bag_conformance.proofs.Common.{contains_behind, contains_nothing, member_has, Element, Bag, Fault, kept}
+use Rattle.bag_conformance.proofs.Common.{passed, LabelRule, At, bag_info_txt, HasElement, HasLater, pair, made_of}
+use Rattle.bag_conformance.proofs.Common.{by_line, AreAll, in_info, later_fault, allows, required_faults}
+use Rattle.bag_conformance.proofs.Common.{repeated_faults, has_other, value_fault, value_faults, rule_faults}
 use Rattle.std.specs.List.Sorted.{IsStrictlySortedBy}
 use Rattle.std.specs.Bool.{Decides}
 use Rattle.std.proofs.lemmas.Bool.{both_ways, false_from_ne_true, not-true, not_from_false}
@@ -13,17 +20,24 @@ fields code line detail = record { path_is = refl; alg_is = refl; line_is = refl
 
 -- whether a value is among these
 among : (value : List ℕ) (values : List (List ℕ)) → (list_any (bytes_eq value) values ≡ true) ↔ Contains values value
-among value values = (Contains-from_any (λ x y is. (bytes_eq-Decides x y).0 is) value values, list_any-from_Contains nat_list_eq_equiv value values)
+among value values = (
+  Contains-from_any (λ x y is. (bytes_eq-Decides x y).0 is) value values,
+  list_any-from_Contains nat_list_eq_equiv value values,
+)
 
 -- a value that isn't allowed
-forbidden : (values : List (List ℕ)) (value : List ℕ) → (not (allows values value) ≡ true) ↔ ((values ≢ []) × (¬ (Contains values value)))
+forbidden : (values : List (List ℕ)) (value : List ℕ)
+    → (not (allows values value) ≡ true) ↔ ((values ≢ []) × (¬ (Contains values value)))
 forbidden [] value = (λ e. cc, λ h. absurd (h.0 refl))
-forbidden (v ∷ values) value = grind (arith, both_ways, not-true, not_from_false, false_from_ne_true, among value (v ∷ values))
+forbidden (v ∷ values) value =
+    grind (arith, both_ways, not-true, not_from_false, false_from_ne_true, among value (v ∷ values))
 
 -- whether a value is found among those that are allowed
-pub found_allowed : (values : List (List ℕ)) (value : List ℕ) (r : Bool) → values ≢ [] → Decides r (Contains values value) → r ≡ allows values value
+pub found_allowed : (values : List (List ℕ)) (value : List ℕ) (r : Bool) → values ≢ []
+    → Decides r (Contains values value) → r ≡ allows values value
 found_allowed [] value r some found = absurd (some refl)
-found_allowed (v ∷ values) value r some found = same_from_decides r (list_any (bytes_eq value) (v ∷ values)) found (among value (v ∷ values))
+found_allowed (v ∷ values) value r some found =
+    same_from_decides r (list_any (bytes_eq value) (v ∷ values)) found (among value (v ∷ values))
 
 module _ (bag : Bag) where
   -- the elements of a label, in line order
@@ -50,15 +64,21 @@ module _ (bag : Bag) where
   -- what is a fault of one rule
   module _ (rule : LabelRule) where
     abbrev pub Lacks : Fault → Type 0
-    Lacks f = (f.code ≡ LabelRequired) × At f bag_info_txt None 0 rule.label × (rule.required ≡ true) × ((e : Element) → ¬ (HasElement bag rule.label e))
+    Lacks f =
+        (f.code ≡ LabelRequired) × At f bag_info_txt None 0 rule.label × (rule.required ≡ true)
+        × ((e : Element) → ¬ (HasElement bag rule.label e))
 
     abbrev pub Repeats : Fault → Type 0
-    Repeats f = (f.code ≡ LabelRepeated) × ((e : Element) × At f bag_info_txt None e.line rule.label × (rule.repeatable ≡ false) × HasLater bag rule.label e)
+    Repeats f =
+        (f.code ≡ LabelRepeated)
+        × ((e : Element) × At f bag_info_txt None e.line rule.label × (rule.repeatable ≡ false)
+        × HasLater bag rule.label e)
 
     abbrev pub Differs : Fault → Type 0
     Differs f =
         (f.code ≡ ValueNotAllowed)
-        × ((e : Element) × At f bag_info_txt None e.line (pair rule.label e.value) × (rule.values ≢ []) × HasElement bag rule.label e × ¬ (Contains rule.values e.value))
+        × ((e : Element) × At f bag_info_txt None e.line (pair rule.label e.value) × (rule.values ≢ [])
+        × HasElement bag rule.label e × ¬ (Contains rule.values e.value))
 
     abbrev pub IsOfRule : Fault → Type 0
     IsOfRule f = (Lacks f ⊎ Repeats f) ⊎ Differs f
@@ -70,11 +90,16 @@ module _ (bag : Bag) where
     repeated_by : (b : Bool) (found : List Element) → rule.repeatable ≡ b → AreOf rule.label found
         → AreAll Repeats (cond b [] (map (later_fault rule.label) (drop 1 found)))
     repeated_by true found e list = none_all Repeats [] refl (λ f h. both_ways _ h.1.2 e)
-    repeated_by false [] e list = none_all Repeats [] refl (λ f h. contains_nothing h.1.0 ((list.members h.1.0).1 h.1.3.0))
+    repeated_by false [] e list =
+        none_all Repeats [] refl (λ f h. contains_nothing h.1.0 ((list.members h.1.0).1 h.1.3.0))
     repeated_by false (first ∷ later) e list =
         mapped_all Repeats (later_fault rule.label) later
         (λ x c. (refl, (x, fields LabelRepeated x.line rule.label, e, later_is rule.label first later list x c)))
-        (λ f h. (h.1.0, behind_first rule.label first later list h.1.0 h.1.3, made_of f LabelRepeated bag_info_txt None h.1.0.line rule.label h.0 h.1.1))
+        (λ f h. (
+          h.1.0,
+          behind_first rule.label first later list h.1.0 h.1.3,
+          made_of f LabelRepeated bag_info_txt None h.1.0.line rule.label h.0 h.1.1,
+        ))
 
     differing : (found : List Element) → AreOf rule.label found → AreAll Differs (value_faults rule found)
     differing found list =
@@ -85,7 +110,9 @@ module _ (bag : Bag) where
         (refl, (x, fields ValueNotAllowed x.line (pair rule.label x.value), other.0, (list.members x).0 is.1, other.1)))
         (λ f h.
         let e : Element = h.1.0 in
-        let there = passed (has_other rule) found e ((forbidden rule.values e.value).1 (h.1.2, h.1.4)) ((list.members e).1 h.1.3) in
+        let there =
+        passed (has_other rule) found e ((forbidden rule.values e.value).1 (h.1.2, h.1.4))
+        ((list.members e).1 h.1.3) in
         (e, there, made_of f ValueNotAllowed bag_info_txt None e.line (pair rule.label e.value) h.0 h.1.1))
 
     -- the faults of a rule
@@ -93,5 +120,6 @@ module _ (bag : Bag) where
     rule_faults_are found list =
         let of_count : List Fault = required_faults rule found ++ repeated_faults rule found in
         both_all (λ f. Lacks f ⊎ Repeats f) Differs of_count (value_faults rule found) (rule_faults rule found) refl
-        (both_all Lacks Repeats (required_faults rule found) (repeated_faults rule found) of_count refl (lacking found list)
+        (both_all Lacks Repeats (required_faults rule found) (repeated_faults rule found) of_count refl
+        (lacking found list)
         (repeated_by rule.repeatable found refl list)) (differing found list)

@@ -1,5 +1,10 @@
 -- The faults of a profile are those of its parts.
-use Rattle.bag_conformance.proofs.Common.{arith, ◌≡◌, ◌⊎◌, inl, inr, List, ◌++◌, refl, sym, subst, Code, ProfileIdentifier, LabelRequired, LabelRepeated, ValueNotAllowed, ManifestRequired, ManifestNotAllowed, TagmanifestRequired, TagmanifestNotAllowed, TagFileRequired, TagFileNotAllowed, FetchNotAllowed, VersionNotAccepted, SerializationRequired, Payload, Tag, Bag, Fault, Profile, AreAll, IsOfElements, IsOfKind, IsOfTagFiles, IsOfWhole}
+use Rattle.bag_conformance.proofs.Common.{arith, ◌≡◌, ◌⊎◌, inl, inr, List, ◌++◌, refl, sym, subst, Code}
+use Rattle.bag_conformance.proofs.Common.{ProfileIdentifier, LabelRequired, LabelRepeated, ValueNotAllowed}
+use Rattle.bag_conformance.proofs.Common.{ManifestRequired, ManifestNotAllowed, TagmanifestRequired}
+use Rattle.bag_conformance.proofs.Common.{TagmanifestNotAllowed, TagFileRequired, TagFileNotAllowed, FetchNotAllowed}
+use Rattle.bag_conformance.proofs.Common.{VersionNotAccepted, SerializationRequired, Payload, Tag, Bag, Fault, Profile}
+use Rattle.bag_conformance.proofs.Common.{AreAll, IsOfElements, IsOfKind, IsOfTagFiles, IsOfWhole}
 use Rattle.bag_conformance.specs.ConformanceStage.{ConformanceHolds, IsOfProfile}
 use Rattle.bag_conformance.proofs.FaultSets.{both_all, same_all}
 
@@ -42,8 +47,10 @@ module _ (bag : Bag) (profile : Profile) where
     is_of_some h = some_by f.code refl h
 
   -- the parts together
-  pub parts_all : (elements manifests tag_files whole two three all : List Fault) → two ≡ elements ++ manifests → three ≡ two ++ tag_files → all ≡ three ++ whole
-      → AreAll (IsOfElements bag profile) elements → AreAll IsOfBothKinds manifests → AreAll (IsOfTagFiles bag profile) tag_files → AreAll (IsOfWhole bag profile) whole
+  pub parts_all : (elements manifests tag_files whole two three all : List Fault) → two ≡ elements ++ manifests
+      → three ≡ two ++ tag_files → all ≡ three ++ whole
+      → AreAll (IsOfElements bag profile) elements → AreAll IsOfBothKinds manifests
+      → AreAll (IsOfTagFiles bag profile) tag_files → AreAll (IsOfWhole bag profile) whole
       → AreAll (IsOfProfile bag profile) all
   parts_all elements manifests tag_files whole two three all make_two make_three make_all e m t w =
       same_all IsOfSome (IsOfProfile bag profile) all (λ f h. of_some f h) (λ f h. is_of_some f h)

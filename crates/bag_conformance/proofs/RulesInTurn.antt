@@ -1,9 +1,14 @@
 -- The faults of rules, found one rule after the other.
-use Rattle.bag_conformance.proofs.Common.{◌≡◌, ◌<◌, ◌+◌, ◌-◌, ◌++◌, ℕ, List, length, take, drop, map, get_or, false, append-nil, length-drop, arith, Bor, flat_map-append, Element, take_one_more, take_whole, LabelRule, labelled, later_fault, lent, repeated_faults, rule_faults, rules_faults}
+use Rattle.bag_conformance.proofs.Common.{◌≡◌, ◌<◌, ◌+◌, ◌-◌, ◌++◌, ℕ, List, length, take, drop, map, get_or, false}
+use Rattle.bag_conformance.proofs.Common.{append-nil, length-drop, arith, Bor, flat_map-append, Element, take_one_more}
+use Rattle.bag_conformance.proofs.Common.{take_whole, LabelRule, labelled, later_fault, lent, repeated_faults}
+use Rattle.bag_conformance.proofs.Common.{rule_faults, rules_faults}
 
 -- one rule more
-pub one_rule_more : (elements : List Element) (rules : List LabelRule) (i : ℕ) (rule : LabelRule) → i < length rules → rule ≡ get_or rules i rule
-    → rules_faults elements (take (i + 1) rules) ≡ rules_faults elements (take i rules) ++ rule_faults rule (labelled rule.label elements)
+pub one_rule_more : (elements : List Element) (rules : List LabelRule) (i : ℕ) (rule : LabelRule) → i < length rules
+    → rule ≡ get_or rules i rule
+    → rules_faults elements (take (i + 1) rules)
+    ≡ rules_faults elements (take i rules) ++ rule_faults rule (labelled rule.label elements)
 one_rule_more elements rules i rule lt is = grind (arith, take_one_more rules i rule lt is, flat_map-append, append-nil)
 
 -- what stands there again, where one may stand there

@@ -1,5 +1,9 @@
 -- The faults of other tag files that are lacking, or may not be there.
-use Rattle.bag_conformance.proofs.Common.{arith, None, ◌≡◌, ◌↔◌, ℕ, List, [], ◌++◌, Contains, refl, sym, ap, subst, TagFileRequired, TagFileNotAllowed, FetchNotAllowed, Bag, HasFile, FileEntry, of_path, Fault, AreListed, Profile, TagFilesRequired, made_of, AreAll, IsOfTagFiles, LacksTagFile, HasOtherTagFile, HasFetchFile, IsOtherTagFile, Lists}
+use Rattle.bag_conformance.proofs.Common.{arith, None, ◌≡◌, ◌↔◌, ℕ, List, [], ◌++◌, Contains, refl, sym, ap, subst}
+use Rattle.bag_conformance.proofs.Common.{TagFileRequired, TagFileNotAllowed, FetchNotAllowed, Bag, HasFile, FileEntry}
+use Rattle.bag_conformance.proofs.Common.{of_path, Fault, AreFilesOfBag, Profile, TagFilesRequired, made_of, AreAll}
+use Rattle.bag_conformance.proofs.Common.{IsOfTagFiles, LacksTagFile, HasOtherTagFile, HasFetchFile, IsOtherTagFile}
+use Rattle.bag_conformance.proofs.Common.{Lists}
 use Rattle.bag_conformance.proofs.FaultSets.{FaultsOf, same_all, three_all, whole_at, code_at}
 use Rattle.bag_conformance.proofs.FilesThere.{fault_of, HoldsOf, IsFaultOfAFile, files_all}
 
@@ -13,7 +17,8 @@ module _ (bag : Bag) (profile : Profile) where
   abbrev pub Lacks : Fault → Type 0
   Lacks f = (f.code ≡ TagFileRequired) × LacksTagFile bag profile f
 
-  to_lacking : (required : List (List ℕ)) → ((path : List ℕ) → Contains required path ↔ Lists profile TagFilesRequired path) → (f : Fault)
+  to_lacking : (required : List (List ℕ))
+      → ((path : List ℕ) → Contains required path ↔ Lists profile TagFilesRequired path) → (f : Fault)
       → FaultsOf lacking_fault IsLacking required f → Lacks f
   to_lacking required are f (path, c, is, lacks) =
       let at : f.path ≡ path = ap (λ (x : Fault). x.path) is in
@@ -27,7 +32,8 @@ module _ (bag : Bag) (profile : Profile) where
       )
 
   -- the files that must be there, and aren't
-  pub lacking_all : (required : List (List ℕ)) (faults : List Fault) → ((path : List ℕ) → Contains required path ↔ Lists profile TagFilesRequired path)
+  pub lacking_all : (required : List (List ℕ)) (faults : List Fault)
+      → ((path : List ℕ) → Contains required path ↔ Lists profile TagFilesRequired path)
       → AreAll (FaultsOf lacking_fault IsLacking required) faults → AreAll Lacks faults
   lacking_all required faults are all =
       same_all (FaultsOf lacking_fault IsLacking required) Lacks faults (to_lacking required are)
@@ -47,16 +53,19 @@ module _ (bag : Bag) (profile : Profile) where
   from_other f h = (f.path, h.1.1, made_of f TagFileNotAllowed f.path None 0 [] h.0 h.1.0, (h.1.2, h.1.3))
 
   -- the files that may not be there
-  pub other_all : (files : List FileEntry) (faults : List Fault) → AreListed bag files
-      → AreAll (FaultsOf (fault_of TagFileNotAllowed (IsOtherTagFile profile)) (HoldsOf TagFileNotAllowed (IsOtherTagFile profile)) files) faults → AreAll HasOther faults
+  pub other_all : (files : List FileEntry) (faults : List Fault) → AreFilesOfBag bag files
+      → AreAll (FaultsOf (fault_of TagFileNotAllowed (IsOtherTagFile profile))
+      (HoldsOf TagFileNotAllowed (IsOtherTagFile profile)) files) faults → AreAll HasOther faults
   other_all files faults listed all =
-      same_all IsOther HasOther faults to_other from_other (files_all TagFileNotAllowed (IsOtherTagFile profile) bag files listed faults all)
+      same_all IsOther HasOther faults to_other from_other
+      (files_all TagFileNotAllowed (IsOtherTagFile profile) bag files listed faults all)
 
   abbrev pub HasSomeFetch : Fault → Type 0
   HasSomeFetch f = (f.code ≡ FetchNotAllowed) × HasFetchFile bag profile f
 
   -- the three together
-  pub tag_files_all : (lacking others of_fetch two three : List Fault) → two ≡ lacking ++ others → three ≡ two ++ of_fetch → AreAll Lacks lacking → AreAll HasOther others → AreAll HasSomeFetch of_fetch
+  pub tag_files_all : (lacking others of_fetch two three : List Fault) → two ≡ lacking ++ others
+      → three ≡ two ++ of_fetch → AreAll Lacks lacking → AreAll HasOther others → AreAll HasSomeFetch of_fetch
       → AreAll (IsOfTagFiles bag profile) three
   tag_files_all lacking others of_fetch two three make_two make_three l o t =
       three_all Lacks HasOther HasSomeFetch lacking others of_fetch two three make_two make_three l o t

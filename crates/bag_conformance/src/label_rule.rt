@@ -45,7 +45,7 @@ fn required_faults(
     Ok(vec![in alloc; info_fault(alloc, Code::LabelRequired, 0, detail)?]?)
 }
 
-/// The faults of the elements behind the first, where only one may be there.
+/// The faults of the elements after the first, where only one may be there.
 fn repeated_faults(
     alloc: Global,
     rule: &LabelRule,

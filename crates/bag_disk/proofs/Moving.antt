@@ -6,4 +6,5 @@ use Rattle.bag_disk.specs.WritableDisk.{MovedNodesAreThere}
 use Rattle.bag_disk.proofs.DiskPaths.{none_below_no_folder}
 
 pub nodes_move : MovedNodesAreThere
-nodes_move nodes from to disk free = moves_all nodes from to (λ path within. grind (arith, within_cases, none_below_no_folder))
+nodes_move nodes from to disk free =
+    moves_all nodes from to (λ path within. grind (arith, within_cases, none_below_no_folder))

@@ -1,5 +1,8 @@
 -- Sorted files of which no two neighbours have the same path.
-use Rattle.bag_disk.proofs.Common.{◌≡◌, ℕ, ◌+◌, ◌<◌, Bool, true, false, not, List, [], length, get_or, map, is_lt, arith, refl, sym, ap, ◌∙◌, subst, ◌↔◌, IsTrue, Less, ordering_reverse, is_eq, IsAllAdjacentAnswer, IsSortedByKey, IsStrictlySortedBy, pointwise, nat_list_cmp_total, texts_ties, nat_eq, get_or-map, length-map, text_cmp, FileEntry}
+use Rattle.bag_disk.proofs.Common.{◌≡◌, ℕ, ◌+◌, ◌<◌, Bool, true, false, not, List, [], length, get_or, map, is_lt}
+use Rattle.bag_disk.proofs.Common.{arith, refl, sym, ap, ◌∙◌, subst, ◌↔◌, IsTrue, Less, ordering_reverse, is_eq}
+use Rattle.bag_disk.proofs.Common.{IsAllAdjacentAnswer, IsSortedByKey, IsStrictlySortedBy, pointwise}
+use Rattle.bag_disk.proofs.Common.{nat_list_cmp_total, texts_ties, nat_eq, get_or-map, length-map, text_cmp, FileEntry}
 use Rattle.std.specs.declared.cmp.Ordering.{Ordering}
 use Rattle.std.proofs.lemmas.Map.Keys.{sorted_from_all_adjacent, Less-from_sorted}
 
@@ -10,13 +13,16 @@ less_case : (o : Ordering) → is_lt (ordering_reverse o) ≡ false → true ≡
 less_case Less h e = refl
 less_case _ h e = cc
 
-less_from_other : (a b : List ℕ) → is_lt (text_cmp b a) ≡ false → true ≡ not (pointwise nat_eq a b) → text_cmp a b ≡ Less
-less_from_other a b h e = less_case (text_cmp a b) (sym (ap is_lt (nat_list_cmp_total.antisymm b a)) ∙ h) (e ∙ ap not (texts_ties a b))
+less_from_other : (a b : List ℕ) → is_lt (text_cmp b a) ≡ false → true ≡ not (pointwise nat_eq a b)
+    → text_cmp a b ≡ Less
+less_from_other a b h e =
+    less_case (text_cmp a b) (sym (ap is_lt (nat_list_cmp_total.antisymm b a)) ∙ h) (e ∙ ap not (texts_ties a b))
 
 some_file : FileEntry
 some_file = record { path = []; size = 0 }
 
-path_at : (files : List FileEntry) (k : ℕ) → k < length files → get_or (paths_of files) k [] ≡ (get_or files k some_file).path
+path_at : (files : List FileEntry) (k : ℕ) → k < length files
+    → get_or (paths_of files) k [] ≡ (get_or files k some_file).path
 path_at files k h = get_or-map (λ file. file.path) files k some_file [] h
 
 -- neighbours that differ are in strict order, and others are not
@@ -42,7 +48,10 @@ sorted_and_differ files false sorted differ = (
       let here : k < length files = omega arith in
       let first = (get_or files k some_file).path in
       let second = (get_or files (k + 1) some_file).path in
-      let within : k + 1 < length (paths_of files) = subst (λ n. k + 1 < n) (sym (length-map files (λ file. file.path))) next in
-      let less : text_cmp first second ≡ Less = rw (path_at files k here, path_at files (k + 1) next) at (Less-from_sorted text_cmp (paths_of files) k (k + 1) [] up (omega arith) within) in
+      let within : k + 1 < length (paths_of files) =
+      subst (λ n. k + 1 < n) (sym (length-map files (λ file. file.path))) next in
+      let less : text_cmp first second ≡ Less =
+      rw (path_at files k here, path_at files (k + 1) next) at
+      (Less-from_sorted text_cmp (paths_of files) k (k + 1) [] up (omega arith) within) in
       differ.2 some_file ∙ ap not (texts_ties first second ∙ ap is_eq less),
 )

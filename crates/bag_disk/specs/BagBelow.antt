@@ -129,7 +129,8 @@ base_names ((k, File bytes) ∷ es) q h = base_names es q h
 base_names ((k, Other) ∷ es) q h = base_names es q h
 base_names ((k, Folder) ∷ es) q h =
     elim (is_base_name k) as (λ b. is_base_name k ≡ b → is_base_name q ≡ true) [
-      | true ↦ λ is. kept_name k q (list_any (eq_by_cmp text_cmp q) (filter_map as_base_folder es)) is
+      | true ↦ λ is. kept_name k q (list_any (eq_by_cmp text_cmp q) (filter_map as_base_folder es))
+          is
           (base_names es q) (rw is at h)
       | false ↦ λ is. base_names es q (rw is at h)
     ] refl

@@ -103,8 +103,8 @@ IsFolder nodes [] = Unit {0}
 IsFolder nodes (c ∷ path) = node nodes (c ∷ path) ≡ Some Folder
 
 -- each folder on the way to the path is a folder, and no link
-abbrev pub IsReached : Nodes → List ℕ → Type 0
-IsReached nodes path = (folder rest : List ℕ) → path ≡ under folder rest
+abbrev pub IsReachedByFolders : Nodes → List ℕ → Type 0
+IsReachedByFolders nodes path = (folder rest : List ℕ) → path ≡ under folder rest
     → node nodes folder ≡ Some Folder
 
 -- each folder on the way to the path, up to a length, is a folder
@@ -115,13 +115,13 @@ IsReachedTo nodes path end =
 
 -- The rest holds where the disk is honest, and each folder on the way to the path is there.
 abbrev pub WhereReached : DiskState → List ℕ → Type 0 → Type 0
-WhereReached disk path P = IsTrue disk.honest → IsReached disk.nodes path → P
+WhereReached disk path P = IsTrue disk.honest → IsReachedByFolders disk.nodes path → P
 
 -- what every disk has: paths, each in a folder, those of files and folders in UTF-8, and bytes
 pub record IsDisk (nodes : Nodes) : Type 0 where
   pub paths : (path : List ℕ) → Has nodes path → IsTrue (is_path path)
   pub texts : (path : List ℕ) (n : Node) → node nodes path ≡ Some n → n ≢ Other → IsUtf8 path
-  pub folders : (path : List ℕ) → Has nodes path → IsReached nodes path
+  pub folders : (path : List ℕ) → Has nodes path → IsReachedByFolders nodes path
   pub bytes : (path content : List ℕ) → node nodes path ≡ Some (File content)
       → All (λ b. b < 256) content
 
@@ -146,15 +146,15 @@ abbrev pub entry_count : Nodes → ℕ
 entry_count nodes = map.len (files_and_folders nodes)
 
 -- what is answered of a node
-abbrev pub entry_of : Node → Entry
-entry_of (File bytes) = entry.File (length bytes)
-entry_of Folder = entry.Folder
-entry_of Other = entry.Other
+abbrev pub entry_of_node : Node → Entry
+entry_of_node (File bytes) = entry.File (length bytes)
+entry_of_node Folder = entry.Folder
+entry_of_node Other = entry.Other
 
 -- this stands at the path, which the disk says only where it is honest and the path is reached
 abbrev pub HasEntryAt : DiskState → List ℕ → Entry → Type 0
 HasEntryAt disk path entry =
-    WhereReached disk path (option_map entry_of (node disk.nodes path) ≡ Some entry)
+    WhereReached disk path (option_map entry_of_node (node disk.nodes path) ≡ Some entry)
 
 -- so nothing stands at the path
 abbrev pub HasNothingAt : DiskState → List ℕ → Type 0
@@ -195,7 +195,7 @@ IsFileWith nodes path bytes = node nodes path ≡ Some (File bytes)
 
 -- where the disk is honest and the path is reached, the file there is open, at its first byte
 abbrev pub HasOpened : DiskState → DiskState → List ℕ → Type 0
-HasOpened old new path = IsTrue old.honest → IsReached old.nodes path → (bytes : List ℕ)
+HasOpened old new path = IsTrue old.honest → IsReachedByFolders old.nodes path → (bytes : List ℕ)
     → IsFileWith old.nodes path bytes → new.rest ≡ Some bytes
 
 -- where the disk is honest, the first bytes of the buffer, so many, were the next of the open file

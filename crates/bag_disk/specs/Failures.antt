@@ -3,5 +3,5 @@ use Rattle.std.specs.Prelude.{ℕ, length}
 use Rattle.bag_disk.specs.declared.failures.Failures.{Failures}
 
 -- a byte was heard each time
-abbrev pub count_of : Failures → ℕ
-count_of failures = length failures.heard.bytes
+abbrev pub failures_counted : Failures → ℕ
+failures_counted failures = length failures.heard.bytes

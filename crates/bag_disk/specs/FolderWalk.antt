@@ -30,8 +30,8 @@ abbrev pub IsFileOf : Nodes → FileEntry → Type 0
 IsFileOf nodes entry =
     (bytes : List ℕ) × (node nodes entry.path ≡ Some (File bytes)) × (entry.size ≡ length bytes)
 
-abbrev pub paths_of : List FileEntry → List (List ℕ)
-paths_of files = map (λ file. file.path) files
+abbrev pub walked_paths : List FileEntry → List (List ℕ)
+walked_paths files = map (λ file. file.path) files
 
 -- What was found, and what is still to be listed: folders, and in one folder the paths that weren't
 -- looked at.
@@ -41,7 +41,7 @@ pub record Walked (nodes : Nodes) (files : List FileEntry)
   pub are_folders : (folder : List ℕ) → Contains folders folder → IsFolder nodes folder
   pub were_folders : (folder : List ℕ) → Contains listed folder → IsFolder nodes folder
   pub all : (path : List ℕ) → Has nodes path →
-      Contains (paths_of files) path ⊎ (Contains listed path ⊎ (Contains folders path
+      Contains (walked_paths files) path ⊎ (Contains listed path ⊎ (Contains folders path
       ⊎ (((folder : List ℕ) × Contains folders folder × IsBelow folder path)
       ⊎ ((top : List ℕ) × Contains pending top × IsAtOrBelow top path))))
 
@@ -168,7 +168,7 @@ pub record IsUnlistable (files : List FileEntry) : Type 0 where
   pub sorted : List FileEntry
   pub same : IsPermutation files sorted
   pub in_order : IsSortedByKey (λ file. file.path) text_cmp sorted
-  pub twice : ¬ (IsStrictlySortedBy text_cmp (paths_of sorted))
+  pub twice : ¬ (IsStrictlySortedBy text_cmp (walked_paths sorted))
 
 -- the disk's answers contradict one another: a whole walk found what can't be listed
 pub record Contradiction (disk : DiskState) : Type 0 where

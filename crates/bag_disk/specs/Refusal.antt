@@ -48,12 +48,12 @@ IsDueInMove special absent taken folder InTheWay = folder
 IsDueInMove special absent taken folder refusal = IsDueInStep special absent taken refusal
 
 -- what a fault of the disk means at the path of one file
-abbrev pub of_path : DiskFault → Refusal
-of_path disk.NotFound = NotFound
-of_path disk.Exists = Device
-of_path disk.Name = Device
-of_path disk.Memory = Memory
-of_path disk.Device = Device
+abbrev pub refusal_at_path : DiskFault → Refusal
+refusal_at_path disk.NotFound = NotFound
+refusal_at_path disk.Exists = Device
+refusal_at_path disk.Name = Device
+refusal_at_path disk.Memory = Memory
+refusal_at_path disk.Device = Device
 
 -- what it means where the disk's own answers named what stands there
 abbrev pub at_known : DiskFault → Refusal

@@ -5,7 +5,7 @@ ghost use Rattle.bag_text.specs.Path.{is_path};
 ghost use Rattle.bag_disk.specs.Disk.{DiskState, SameDisk, OnlyLooks, IsDisk, HasEntryAt};
 ghost use Rattle.bag_disk.specs.Disk.{HasNothingAt, HasEntered, TakesName, HasUnnamed, HasOpened};
 ghost use Rattle.bag_disk.specs.Disk.{HasReadNext};
-ghost use Rattle.bag_disk.specs.Refusal.{CountsAs, at_known, of_name, of_path};
+ghost use Rattle.bag_disk.specs.Refusal.{CountsAs, at_known, of_name, refusal_at_path};
 ghost use Rattle.bag_disk.specs.declared.disk.DiskFault.TheVariants.{Name, NotFound};
 
 use bag_text::Text;
@@ -55,7 +55,7 @@ pub trait Disk {
         ensures names { (state self.new).names ≡ (state self.old).names }
         ensures found { IfOk result (HasEntryAt (state self.old) path.now) }
         ensures absent { IsErrOf result NotFound → HasNothingAt (state self.old) path.now }
-        ensures failures { CountsAs of_path result (state self.old) (state self.new) };
+        ensures failures { CountsAs refusal_at_path result (state self.old) (state self.new) };
 
     /// What stands at the path of what was named last, where a link isn't followed. All faults but
     /// `Memory` are counted, since something stands there.
@@ -95,7 +95,7 @@ pub trait Disk {
         ensures absent { IsErrOf result NotFound → HasNothingAt (state self.old) path.now }
         ensures closed { OnErr result ((state self.new).rest ≡ None) }
         ensures not_opened { OnErr result ((state self.new).openings ≡ (state self.old).openings) }
-        ensures failures { CountsAs of_path result (state self.old) (state self.new) };
+        ensures failures { CountsAs refusal_at_path result (state self.old) (state self.new) };
 
     /// Whether a file is open.
     fn is_open(&self) -> bool

@@ -16,14 +16,14 @@ pub struct Failures {
 impl Failures {
     ghost use Rattle.std.specs.Prelude.{◌≡◌, ◌+◌, IfErr, IfOk, IsTrue, MatchOption, ⊤};
     ghost use Rattle.bag_text.specs.Path.{is_path};
-    ghost use Rattle.bag_disk.specs.Failures.{count_of};
+    ghost use Rattle.bag_disk.specs.Failures.{failures_counted};
     ghost use Rattle.bag_disk.specs.Refusal.{IsCountedAs, failures_after, of_name};
     ghost use Rattle.bag_disk.specs.Subject.{meaning};
     ghost use Rattle.bag_disk.specs.declared.disk.DiskFault.TheVariants.{Device};
 
     /// It hasn't refused yet.
     pub fn none() -> Failures
-        ensures { count_of result ≡ 0 }
+        ensures { failures_counted result ≡ 0 }
     {
         Failures {
             heard: Heard::new(),
@@ -38,7 +38,7 @@ impl Failures {
     ) -> Result<T, DiskFault>
         ensures same { result ≡ answer }
         ensures failures { IsCountedAs
-            (meaning subject) result (count_of self.old) (count_of self.new) }
+            (meaning subject) result (failures_counted self.old) (failures_counted self.new) }
     {
         if let Err(fault) = &answer {
             self.refuse(subject.refusal(*fault));
@@ -51,7 +51,8 @@ impl Failures {
         ensures given { IfOk result (λ next. next ≡ Some name) }
         ensures path { IfOk result (λ next. MatchOption next ⊤ (λ name. IsTrue (is_path name))) }
         ensures refused { IfErr result (λ fault. fault ≡ Device) }
-        ensures failures { IsCountedAs of_name result (count_of self.old) (count_of self.new) }
+        ensures failures { IsCountedAs of_name result (failures_counted self.old)
+            (failures_counted self.new) }
     {
         if !is_path(name.as_str()) {
             self.note();
@@ -62,7 +63,7 @@ impl Failures {
 
     /// Counts a refusal, where it is one by the device.
     pub fn refuse(&mut self, refusal: Refusal)
-        ensures { count_of self.new ≡ failures_after refusal (count_of self.old) }
+        ensures { failures_counted self.new ≡ failures_after refusal (failures_counted self.old) }
     {
         match refusal {
             Refusal::Device => self.note(),
@@ -79,7 +80,7 @@ impl Failures {
 
     /// Counts one more.
     fn note(&mut self)
-        ensures { count_of self.new ≡ count_of self.old + 1 }
+        ensures { failures_counted self.new ≡ failures_counted self.old + 1 }
     {
         self.heard.note(&[0]);
     }

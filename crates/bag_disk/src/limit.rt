@@ -13,7 +13,7 @@ use bag_tree::FileEntry;
 use std::alloc::AllocError;
 
 /// Why a walk has no room for what it found: there is too much, or, where the disk named something
-/// twice, want of memory.
+/// twice, out of memory.
 pub(crate) fn no_room(walk: FolderWalk) -> Refusal
     ensures quiet { is_device result ≡ false }
     ensures due { IsDue ⊥ ⊥ ⊥ (IsTooMuch walk) result }

@@ -1,7 +1,7 @@
 //! Opening a file of a disk.
 ghost use Rattle.std.specs.Prelude.{◌≡◌, ◌++◌, ◌∷◌, [], None, OnOk, OnErr, IfErr, IsTrue, is_some};
 ghost use Rattle.bag_text.specs.Path.{is_path};
-ghost use Rattle.bag_disk.specs.Disk.{OnlyLooks, SameDisk, IsReached};
+ghost use Rattle.bag_disk.specs.Disk.{OnlyLooks, SameDisk, IsReachedByFolders};
 ghost use Rattle.bag_disk.specs.Opening.{HasFolderAt, MayRefuseAsFolder, MayRefuseOpening};
 ghost use Rattle.bag_disk.specs.Opening.{MayRefuseWay, OpensFileOfBag};
 ghost use Rattle.bag_disk.specs.Refusal.{IsCounted};
@@ -45,7 +45,7 @@ pub fn open_at<D: Disk>(disk: &mut D, path: &str) -> Result<(), Refusal>
 fn check_folders<D: Disk>(disk: &mut D, path: &str) -> Result<(), Refusal>
     ensures looks { OnlyLooks (D.state disk.old) (D.state disk.new) }
     ensures reached { OnOk result
-        (IsTrue (D.state disk.old).honest → IsReached (D.state disk.old).nodes path.now) }
+        (IsTrue (D.state disk.old).honest → IsReachedByFolders (D.state disk.old).nodes path.now) }
     ensures refused { IfErr result (MayRefuseWay (D.state disk.old) path.now) }
     ensures failures { IsCounted result (D.state disk.old) (D.state disk.new) }
 {

@@ -3,7 +3,7 @@ ghost use Rattle.std.specs.Prelude.{◌↔◌, IsTrue, map};
 ghost use Rattle.std.specs.List.Sorted.{IsPermutation, IsSortedByKey, IsStrictlySortedBy};
 ghost use Rattle.bag_text.specs.Text.{text_cmp};
 
-use bag_text::{common_front, key_behind};
+use bag_text::{common_front, key_after};
 use bag_tree::FileEntry;
 use std::alloc::AllocError;
 
@@ -46,9 +46,9 @@ fn common_len(files: &[FileEntry]) -> usize {
 /// `skipped` bytes.
 fn key_of(path: &str, skipped: usize) -> u128 {
     if path.starts_with(PAYLOAD) {
-        return IN_PAYLOAD | (key_behind(path.as_bytes(), skipped) >> 2);
+        return IN_PAYLOAD | (key_after(path.as_bytes(), skipped) >> 2);
     }
-    let key = key_behind(path.as_bytes(), 0) >> 2;
+    let key = key_after(path.as_bytes(), 0) >> 2;
     if path < PAYLOAD {
         key
     } else {

@@ -1,6 +1,6 @@
 //! Why the disk refused.
 ghost use Rattle.std.specs.Prelude.{◌≡◌};
-ghost use Rattle.bag_disk.specs.Refusal.{at_known, is_device, of_making, of_name, of_path};
+ghost use Rattle.bag_disk.specs.Refusal.{at_known, is_device, of_making, of_name, refusal_at_path};
 ghost use Rattle.bag_disk.specs.declared.refusal.Refusal.TheVariants.{Memory};
 
 use crate::DiskFault;
@@ -77,7 +77,7 @@ impl<T: Drop> From<AllocFailed<T>> for Refusal {
 impl Refusal {
     /// What a fault of the disk means at the path of one file.
     pub fn of_path(fault: DiskFault) -> Refusal
-        ensures { result ≡ of_path fault }
+        ensures { result ≡ refusal_at_path fault }
     {
         match fault {
             DiskFault::NotFound => Refusal::NotFound,

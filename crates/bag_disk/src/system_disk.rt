@@ -4,7 +4,7 @@ ghost use Rattle.std.specs.Prelude.{is_some, false, length};
 ghost use Rattle.std.specs.Fs.{dir_entry_name};
 ghost use Rattle.bag_disk.specs.SystemDisk.{base_of, system_state, written_state};
 ghost use Rattle.bag_disk.specs.Disk.{empty_disk};
-ghost use Rattle.bag_disk.specs.Failures.{count_of};
+ghost use Rattle.bag_disk.specs.Failures.{failures_counted};
 
 use crate::base_folder::BaseFolder;
 use crate::disk::{Disk, DiskFault, Entry};
@@ -86,7 +86,7 @@ impl<R: Files> SystemDisk<R> {
 
 impl<R: Files + AllocGlobal + Clone + Drop> Disk for SystemDisk<R> {
     ghost state = { λ disk.
-        system_state disk.openings (is_some disk.opened) (count_of disk.failures) };
+        system_state disk.openings (is_some disk.opened) (failures_counted disk.failures) };
 
     fn entry_at(&mut self, path: &str) -> Result<Entry, DiskFault> {
         let found = self.base.entry(&self.rt, path);

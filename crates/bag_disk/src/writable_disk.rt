@@ -4,7 +4,8 @@ ghost use Rattle.std.specs.Prelude.{Option, None, Some, is_some, length, take};
 ghost use Rattle.bag_text.specs.Path.{is_path};
 ghost use Rattle.bag_disk.specs.Disk.{HasSomethingAt, IsUnreached, OnlyLooks, OnlySyncs};
 ghost use Rattle.bag_disk.specs.Refusal.{CountsAs, at_known, of_making};
-ghost use Rattle.bag_disk.specs.WritableDisk.{AddsFile, AddsFolder, AppendsTo, Closes, HasNoFolder};
+ghost use Rattle.bag_disk.specs.WritableDisk.{AddsFile, AddsFolder, AppendsTo, ClosesOpenFile};
+ghost use Rattle.bag_disk.specs.WritableDisk.{HasNoFolder};
 ghost use Rattle.bag_disk.specs.WritableDisk.{HasNothingToMove, MovesOnly, MovesToFree, Notes};
 ghost use Rattle.bag_tree.specs.declared.event.DeviceEvent.TheVariants.{MakeFolder, Rename, Create};
 ghost use Rattle.bag_tree.specs.declared.event.DeviceEvent.TheVariants.{Write, Sync, SyncFolder};
@@ -29,7 +30,7 @@ pub trait WritableDisk: Disk {
         requires { IsTrue (is_path path.now) }
         ensures made { OnOk result
             (AddsFolder (Self.state self.old) (Self.state self.new) path.now) }
-        ensures closed { OnOk result (Closes (Self.state self.old) (Self.state self.new)) }
+        ensures closed { OnOk result (ClosesOpenFile (Self.state self.old) (Self.state self.new)) }
         ensures ended { OnOk result (written self.new ≡ None) }
         ensures taken { IsErrOf result Exists → HasSomethingAt (Self.state self.old) path.now }
         ensures absent { IsErrOf result NotFound → IsUnreached (Self.state self.old) path.now }
@@ -49,7 +50,7 @@ pub trait WritableDisk: Disk {
             (MovesToFree (Self.state self.old) (Self.state self.new) from.now to.now) }
         ensures others { OnOk result
             (MovesOnly (Self.state self.old) (Self.state self.new) from.now to.now) }
-        ensures closed { OnOk result (Closes (Self.state self.old) (Self.state self.new)) }
+        ensures closed { OnOk result (ClosesOpenFile (Self.state self.old) (Self.state self.new)) }
         ensures ended { OnOk result (written self.new ≡ None) }
         ensures taken { IsErrOf result Exists → HasSomethingAt (Self.state self.old) to.now }
         ensures absent { IsErrOf result NotFound
@@ -65,7 +66,7 @@ pub trait WritableDisk: Disk {
         requires { IsTrue (is_path path.now) }
         ensures made { OnOk result
             (AddsFile (Self.state self.old) (Self.state self.new) path.now) }
-        ensures closed { OnOk result (Closes (Self.state self.old) (Self.state self.new)) }
+        ensures closed { OnOk result (ClosesOpenFile (Self.state self.old) (Self.state self.new)) }
         ensures begun { OnOk result (IsTrue (is_some (written self.new))) }
         ensures begun_there { OnOk result
             (IsTrue (Self.state self.old).honest → written self.new ≡ Some path.now) }
@@ -79,15 +80,14 @@ pub trait WritableDisk: Disk {
             → OnOk result (written self.new ≡ Some path.now) }
         ensures failures { CountsAs of_making result (Self.state self.old) (Self.state self.new) };
 
-    /// Puts some first bytes, as many as it answers, behind those of the file that is being
-    /// written; one at least, where there are any. An honest disk refuses it by `Memory` or
-    /// `Device` alone.
+    /// Puts some first bytes, as many as it answers, after those of the file that is being written;
+    /// one at least, where there are any. An honest disk refuses it by `Memory` or `Device` alone.
     fn write(&mut self, bytes: &[u8]) -> Result<usize, DiskFault>
         requires { IsTrue (is_some (written self.old)) }
         ensures within { IfOk result (λ n. n ≤ length bytes.now) }
         ensures appended { IfOk result (λ n. AppendsTo
             (written self.old) (Self.state self.old) (Self.state self.new) (take n bytes.now)) }
-        ensures closed { OnOk result (Closes (Self.state self.old) (Self.state self.new)) }
+        ensures closed { OnOk result (ClosesOpenFile (Self.state self.old) (Self.state self.new)) }
         ensures taken { IsErrOf result Exists → IsTrue (Self.state self.old).honest → ⊥ }
         ensures absent { IsErrOf result NotFound → IsTrue (Self.state self.old).honest → ⊥ }
         ensures unnamed { IsErrOf result Name → IsTrue (Self.state self.old).honest → ⊥ }
@@ -104,7 +104,7 @@ pub trait WritableDisk: Disk {
     fn sync(&mut self) -> Result<(), DiskFault>
         requires { IsTrue (is_some (written self.old)) }
         ensures held { OnOk result ((Self.state self.new).nodes ≡ (Self.state self.old).nodes) }
-        ensures closed { OnOk result (Closes (Self.state self.old) (Self.state self.new)) }
+        ensures closed { OnOk result (ClosesOpenFile (Self.state self.old) (Self.state self.new)) }
         ensures ended { OnOk result (written self.new ≡ None) }
         ensures taken { IsErrOf result Exists → IsTrue (Self.state self.old).honest → ⊥ }
         ensures absent { IsErrOf result NotFound → IsTrue (Self.state self.old).honest → ⊥ }

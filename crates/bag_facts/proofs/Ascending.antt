@@ -1,5 +1,7 @@
 -- An ascending list is determined by its members.
-use Rattle.bag_facts.proofs.Common.{◌≡◌, zero, suc, List, [], ◌∷◌, refl, sym, subst, ◌⊎◌, inl, inr, ◌↔◌, true, arith, Contains, Ordering, Less, Equal, eq_by_cmp, IsTotalOrder, AllByRecursion, OneOfThree, IsStrictlySortedBy}
+use Rattle.bag_facts.proofs.Common.{◌≡◌, zero, suc, List, [], ◌∷◌, refl, sym, subst, ◌⊎◌, inl, inr, ◌↔◌, true, arith}
+use Rattle.bag_facts.proofs.Common.{Contains, Ordering, Less, Equal, eq_by_cmp, IsTotalOrder, AllByRecursion}
+use Rattle.bag_facts.proofs.Common.{OneOfThree, IsStrictlySortedBy}
 
 module _ {A : Type 0} {R : A → A → Ordering} (total : IsTotalOrder R) where
   pub not_both : (x y : A) → R x y ≡ Less → R y x ≡ Less → ⊥
@@ -17,7 +19,8 @@ module _ {A : Type 0} {R : A → A → Ordering} (total : IsTotalOrder R) where
 
   at_member : (P : A → Type 0) (xs : List A) (z : A) → AllByRecursion P xs → Contains xs z → P z
   at_member P [] z all (k, inside, is) = absurd (omega arith)
-  at_member P (x ∷ xs) z all has = elim (member_of_cons x xs z has) [ inl same ↦ subst P same all.0 | inr later ↦ at_member P xs z all.1 later ]
+  at_member P (x ∷ xs) z all has =
+      elim (member_of_cons x xs z has) [ inl same ↦ subst P same all.0 | inr later ↦ at_member P xs z all.1 later ]
 
   -- an element that is below all of a list is not in it
   not_in_above : (x : A) (xs : List A) → AllByRecursion (λ y. R x y ≡ Less) xs → Contains xs x → ⊥
@@ -30,14 +33,18 @@ module _ {A : Type 0} {R : A → A → Ordering} (total : IsTotalOrder R) where
         | inl same ↦ sym same
         | inr later ↦ elim (member_of_cons x xs y has_y) [
           | inl same ↦ same
-          | inr other ↦ absurd (not_both x y (at_member (λ z. R x z ≡ Less) xs y above_x other) (at_member (λ z. R y z ≡ Less) ys x above_y later))
+          | inr other ↦ absurd
+              (not_both x y (at_member (λ z. R x z ≡ Less) xs y above_x other)
+              (at_member (λ z. R y z ≡ Less) ys x above_y later))
         ]
       ]
 
   -- what is in the rest of one list is in the rest of the other
-  rest_in : (x y : A) (xs ys : List A) → x ≡ y → AllByRecursion (λ z. R x z ≡ Less) xs → ((z : A) → Contains (x ∷ xs) z → Contains (y ∷ ys) z)
+  rest_in : (x y : A) (xs ys : List A) → x ≡ y → AllByRecursion (λ z. R x z ≡ Less) xs
+      → ((z : A) → Contains (x ∷ xs) z → Contains (y ∷ ys) z)
       → (z : A) → Contains xs z → Contains ys z
-  rest_in x y xs ys same above_x moves z has = grind (arith, member_of_cons y ys z (moves z (member_after x xs z has)), member_after, not_in_above)
+  rest_in x y xs ys same above_x moves z has =
+      grind (arith, member_of_cons y ys z (moves z (member_after x xs z has)), member_after, not_in_above)
 
   pub same_lists : (xs ys : List A) → IsStrictlySortedBy R xs → IsStrictlySortedBy R ys
       → ((z : A) → Contains xs z → Contains ys z) → ((z : A) → Contains ys z → Contains xs z) → xs ≡ ys
@@ -54,7 +61,8 @@ module _ {A : Type 0} {R : A → A → Ordering} (total : IsTotalOrder R) where
   self_ties x = grind arith
 
   pub not_less_than_itself : (x y : A) → x ≡ y → R x y ≡ Less → ⊥
-  not_less_than_itself x y same less = let self : R x x ≡ Less = subst (λ z. R x z ≡ Less) (sym same) less in not_both x x self self
+  not_less_than_itself x y same less =
+      let self : R x x ≡ Less = subst (λ z. R x z ≡ Less) (sym same) less in not_both x x self self
 
   pub one_of_three : ((x y : A) → R x y ≡ Equal → x ≡ y) → (x y : A) → OneOfThree (R x y ≡ Less) (x ≡ y) (R y x ≡ Less)
   one_of_three tied x y = grind (arith, not_less_than_itself, not_both)

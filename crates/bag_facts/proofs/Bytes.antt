@@ -1,5 +1,6 @@
 -- The bytes of a text are bytes.
-use Rattle.bag_facts.proofs.Common.{◌≡◌, ℕ, ◌<◌, true, List, [], ◌∷◌, All, subst, arith, nat_lt, IsUtf8, all_scalars, encode_utf8_all, cond_both, nat_tests, All-nil, All-cons, All-append, IsByte}
+use Rattle.bag_facts.proofs.Common.{◌≡◌, ℕ, ◌<◌, true, List, [], ◌∷◌, All, subst, arith, nat_lt, IsUtf8, all_scalars}
+use Rattle.bag_facts.proofs.Common.{encode_utf8_all, cond_both, nat_tests, All-nil, All-cons, All-append, IsByte}
 use Rattle.std.specs.Char.{encode_utf8, IsScalar}
 
 one : (a : ℕ) → a < 256 → All IsByte (a ∷ [])
@@ -20,7 +21,8 @@ char_bytes c s = grind (arith, cond_both, nat_lt, below, one, two, three, nat_te
 
 text_bytes : (cs : List ℕ) → all_scalars cs ≡ true → All IsByte (encode_utf8_all cs)
 text_bytes [] s = All-nil IsByte
-text_bytes (c ∷ cs) s = All-append IsByte (encode_utf8 c) (encode_utf8_all cs) (char_bytes c (grind arith)) (text_bytes cs (grind arith))
+text_bytes (c ∷ cs) s =
+    All-append IsByte (encode_utf8 c) (encode_utf8_all cs) (char_bytes c (grind arith)) (text_bytes cs (grind arith))
 
 pub utf8_bytes : (t : List ℕ) → IsUtf8 t → All IsByte t
 utf8_bytes t u = subst (All IsByte) u.1.1 (text_bytes u.0 u.1.0)

@@ -1,18 +1,26 @@
 -- The names that this crate's proofs cite, passed on from one place. Declares nothing.
-pub use Rattle.std.proofs.Common.{All, Any, Bool, Bor, Contains, Err, IsTrue, List, None, Ok, Option, Result, Some, [], add-one, ap, append-nil, append_assoc, arith, bytes_eq, codes, cond, decimal, drop, false, flat_map, get_or, inl, inr, is_lt, is_some, length, length-append, lit<, map, nat_lt, not, of_calls, refl, replicate, rules, subst, suc, sym, take, true, unwrap_or, zero, ℕ, ◌&&◌, ◌++◌, ◌+◌, ◌<◌, ◌==◌, ◌^◌, ◌||◌, ◌↔◌, ◌∙◌, ◌∷◌, ◌≡◌, ◌≢◌, ◌≤◌, ◌⊎◌}
+pub use Rattle.std.proofs.Common.{All, Any, Bool, Bor, Contains, Err, IsTrue, List, None, Ok, Option, Result, Some, []}
+pub use Rattle.std.proofs.Common.{add-one, ap, append-nil, append_assoc, arith, bytes_eq, codes, cond, decimal, drop}
+pub use Rattle.std.proofs.Common.{false, flat_map, get_or, inl, inr, is_lt, is_some, length, length-append, lit<, map}
+pub use Rattle.std.proofs.Common.{nat_lt, not, of_calls, refl, replicate, rules, subst, suc, sym, take, true, unwrap_or}
+pub use Rattle.std.proofs.Common.{zero, ℕ, ◌&&◌, ◌++◌, ◌+◌, ◌<◌, ◌==◌, ◌^◌, ◌||◌, ◌↔◌, ◌∙◌, ◌∷◌, ◌≡◌, ◌≢◌, ◌≤◌, ◌⊎◌}
 pub use Rattle.std.proofs.lemmas.Bool.{agree_below, agree_below_at, and_from, and_parts, both_ways, cases_lt, cond_both}
 pub use Rattle.std.proofs.lemmas.Bool.Decides.{nat_tests}
 pub use Rattle.std.proofs.lemmas.Cmp.{on_total, then_total}
 pub use Rattle.std.proofs.lemmas.Fmt.{decimal_injective, decimal_is_IsNumeral, first_decimal, parse-decimal}
 pub use Rattle.std.proofs.lemmas.Grind.{common_steps}
-pub use Rattle.std.proofs.lemmas.List.{get_or_default, length-replicate, map-append, take-append-drop, take-take, take_all}
-pub use Rattle.std.proofs.lemmas.List.Elements.{All-append, All-cons, All-contains, All-from_get_or, All-from_recursion, All-head, All-nil, All-replicate, All-tail, filter-append}
-pub use Rattle.std.proofs.lemmas.List.Sorted.{Contains-permutation, IsPermutation-sym, IsPermutation-trans, answers_always, ranks_by, searchable_from_sorted}
+pub use Rattle.std.proofs.lemmas.List.{get_or_default, length-replicate, map-append, take-append-drop, take-take}
+pub use Rattle.std.proofs.lemmas.List.{take_all}
+pub use Rattle.std.proofs.lemmas.List.Elements.{All-append, All-cons, All-contains, All-from_get_or, All-from_recursion}
+pub use Rattle.std.proofs.lemmas.List.Elements.{All-head, All-nil, All-replicate, All-tail, filter-append}
+pub use Rattle.std.proofs.lemmas.List.Sorted.{Contains-permutation, IsPermutation-sym, IsPermutation-trans}
+pub use Rattle.std.proofs.lemmas.List.Sorted.{answers_always, ranks_by, searchable_from_sorted}
 pub use Rattle.std.proofs.lemmas.Slice.Eq.{bytes_eq-Decides}
 pub use Rattle.std.proofs.lemmas.Str.{IsCharBoundary-from_take, IsUtf8-from_ascii, IsUtf8-string_bytes}
 pub use Rattle.std.specs.Cmp.{IsTotalOrder, nat_cmp_total, tied_itself}
 pub use Rattle.std.specs.Cmp.Lexicographic.{nat_list_cmp_total}
-pub use Rattle.std.specs.FinMap.{IsAntisymmetric, find, from_entries, get-from_entries, nat_cmp-IsAntisymmetric, slice_cmp-IsAntisymmetric}
+pub use Rattle.std.specs.FinMap.{IsAntisymmetric, find, from_entries, get-from_entries, nat_cmp-IsAntisymmetric}
+pub use Rattle.std.specs.FinMap.{slice_cmp-IsAntisymmetric}
 pub use Rattle.std.specs.List.{AllByRecursion, HoldsAt, IsDistinct, filter, join_with_byte, list_all, list_any}
 pub use Rattle.std.specs.List.Sorted.{IsBinarySearchResult, IsPermutation, IsSearchInRange, IsSortedByKey}
 unfoldable pub use Rattle.std.specs.List.Sorted.{IsStrictlySortedBy}
@@ -33,7 +41,8 @@ pub use Rattle.bag_read.specs.declared.line_fault.LineFault.{LineFault}
 pub use Rattle.bag_read.specs.declared.tag_name.TagName.{TagName}
 pub use Rattle.bag_read.specs.declared.tag_name.TagName.TheVariants.{Declaration, Fetch, Info, Manifest}
 pub use Rattle.bag_text.proofs.AlgSets.{each_is_listed, name_is_read_again, names_tell_apart}
-pub use Rattle.bag_text.proofs.ListOf.{contains_back, contains_behind, contains_cases, contains_either, contains_first, contains_front, contains_nothing, each_from_members, member_has, same_members}
+pub use Rattle.bag_text.proofs.ListOf.{contains_back, contains_behind, contains_cases, contains_either, contains_first}
+pub use Rattle.bag_text.proofs.ListOf.{contains_front, contains_nothing, each_from_members, member_has, same_members}
 pub use Rattle.bag_text.specs.Alg.{alg_named, algs, name, rank, rank_or_zero}
 pub use Rattle.bag_text.specs.Code.{all_codes, number, stage, word}
 pub use Rattle.bag_text.specs.Order.{IsListOf}
@@ -45,10 +54,11 @@ pub use Rattle.bag_text.specs.declared.alg.Alg.TheVariants.{Md5, Sha224, Sha384}
 pub use Rattle.bag_text.specs.declared.code.Code.{Code}
 pub use Rattle.bag_text.specs.declared.code.Code.TheVariants.{NotUtf8}
 pub use Rattle.bag_text.specs.declared.rules.Rules.{Rules}
-pub use Rattle.bag_tree.proofs.Calm.{memory_refused, memory_then, memory_unlisted, nothing_asked, nothing_given, nothing_then}
+pub use Rattle.bag_tree.proofs.Calm.{memory_refused, memory_then, memory_unlisted, nothing_asked, nothing_given}
+pub use Rattle.bag_tree.proofs.Calm.{nothing_then}
 pub use Rattle.bag_tree.proofs.SameText.{one_text, same_test, text_itself}
 pub use Rattle.bag_tree.specs.Bag.{Bag, HasFile, IsBag, file}
-pub use Rattle.bag_tree.specs.Calm.{MayTellMemory, RefusesNothing}
+pub use Rattle.bag_tree.specs.NothingFailed.{MayReportMemory, NothingFailed}
 pub use Rattle.bag_tree.specs.Listing.{IsListingOf, IsOrdered, entry_at, size_at}
 pub use Rattle.bag_tree.specs.Tree.{CameFromFile, FailsOver, IsEntryOf, Keeps, MayRefuse, OpensAtMost, TreeState}
 pub use Rattle.bag_tree.specs.Whole.{IsRefusedAt, MayRefuseWhole}
@@ -57,7 +67,8 @@ pub use Rattle.bag_tree.specs.declared.listing.FileEntry.{FileEntry}
 pub use Rattle.bag_tree.specs.declared.listing.Listing.{Listing}
 pub use Rattle.bag_tree.specs.declared.tree_fault.Stop.{Stop}
 pub use Rattle.bag_tree.specs.declared.tree_fault.TreeFault.{TreeFault}
-pub use Rattle.bag_tree.specs.declared.tree_fault.TreeFault.TheVariants.{Changed, Device, Exists, Memory, Name, NoneOpen, NotFound, Special, TooMany}
+pub use Rattle.bag_tree.specs.declared.tree_fault.TreeFault.TheVariants.{Changed, Device, Exists, Memory, Name}
+pub use Rattle.bag_tree.specs.declared.tree_fault.TreeFault.TheVariants.{NoneOpen, NotFound, Special, TooMany}
 pub use Rattle.percent_encoding.proofs.PercentLemmas.{All-percent_encode, IsByte, IsEscapeByte, round_trip}
 pub use Rattle.percent_encoding.specs.AsciiSet.{contains}
 unfoldable pub use Rattle.percent_encoding.specs.AsciiSet.{should_percent_encode}
@@ -66,9 +77,13 @@ pub use Rattle.bag_facts.specs.Facts.{AreJudged, AreParsed, AreRulesOf, HasItsFo
 pub use Rattle.bag_facts.specs.FaultLine.{LinesTellFaultsApart, alg_field, encoded, field, is_encoded, line_field}
 pub use Rattle.bag_facts.specs.FaultOrder.{EqualFaultsAreOne, OneOfThree, fault_cmp}
 pub use Rattle.bag_facts.specs.Stops.{IsOutOfMemory, IsRefusalOf, MayRefuseFacts, MayStopReading}
-pub use Rattle.bag_facts.specs.TagFacts.{AreByPath, AreEntriesOf, IsDeclarationOf, IsManifestNamed, IsManifestOf, IsParsed, IsReadOf, IsTagFileNamed, Says, entry_paths, name_of, path_of}
-pub use Rattle.bag_facts.specs.TagReader.{AreBytes, AreListed, AreTexts, IsWhole, ReadsWanted, StopsReading, read_path}
-pub use Rattle.bag_facts.specs.Wanted.{AreWanted, ForListing, IsWanted, OpensAll, OpensFirst, OpensUpTo, OpensWanted, Wants, paths_of}
+pub use Rattle.bag_facts.specs.TagFacts.{AreByPath, AreEntriesOf, IsDeclarationOf, IsManifestNamed, IsManifestOf}
+pub use Rattle.bag_facts.specs.TagFacts.{IsParsed, IsReadOf, IsTagFileNamed, SaysOfTagFile, entry_paths, name_of}
+pub use Rattle.bag_facts.specs.TagFacts.{path_of}
+pub use Rattle.bag_facts.specs.TagReader.{AreBytes, AreFilesOfBag, PathsAreTexts, IsWhole, ReadsWanted, StopsReading}
+pub use Rattle.bag_facts.specs.TagReader.{read_path}
+pub use Rattle.bag_facts.specs.Wanted.{AreWanted, ForListing, IsWanted, OpensAll, OpensFirst, OpensUpTo, OpensWanted}
+pub use Rattle.bag_facts.specs.Wanted.{Wants, paths_of}
 pub use Rattle.bag_facts.specs.declared.facts.Facts.{Facts}
 pub use Rattle.bag_facts.specs.declared.fault.TheConstants.{ESCAPED, ESCAPED_HYPHEN}
 pub use Rattle.bag_facts.specs.declared.options.Options.{Options}

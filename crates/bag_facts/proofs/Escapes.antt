@@ -1,5 +1,7 @@
 -- The escapes of a field.
-use Rattle.bag_facts.proofs.Common.{◌≡◌, ℕ, ◌||◌, ◌==◌, Bool, true, false, not, length, List, [], ◌∷◌, refl, nat_lt, arith, codes, agree_below, agree_below_at, nat_tests, contains, ESCAPED, is_encoded, encoded, field, percent_encode, should_percent_encode, bytes_eq, flat_map}
+use Rattle.bag_facts.proofs.Common.{◌≡◌, ℕ, ◌||◌, ◌==◌, Bool, true, false, not, length, List, [], ◌∷◌, refl, nat_lt}
+use Rattle.bag_facts.proofs.Common.{arith, codes, agree_below, agree_below_at, nat_tests, contains, ESCAPED, is_encoded}
+use Rattle.bag_facts.proofs.Common.{encoded, field, percent_encode, should_percent_encode, bytes_eq, flat_map}
 
 table : agree_below (contains ESCAPED) is_encoded 128 ≡ true
 table = refl

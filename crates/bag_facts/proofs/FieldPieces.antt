@@ -1,5 +1,7 @@
 -- The two fields that aren't a text's bytes.
-use Rattle.bag_facts.proofs.Common.{◌≡◌, ℕ, ◌==◌, true, false, length, List, [], ◌∷◌, refl, codes, arith, nat_tests, ESCAPED, ESCAPED_HYPHEN, field, percent_encode, percent_encode_byte, should_percent_encode, bytes_eq}
+use Rattle.bag_facts.proofs.Common.{◌≡◌, ℕ, ◌==◌, true, false, length, List, [], ◌∷◌, refl, codes, arith, nat_tests}
+use Rattle.bag_facts.proofs.Common.{ESCAPED, ESCAPED_HYPHEN, field, percent_encode, percent_encode_byte}
+use Rattle.bag_facts.proofs.Common.{should_percent_encode, bytes_eq}
 
 pub empty_field : (t : List ℕ) → (length t == 0) ≡ true → field t ≡ codes "-"
 empty_field [] e = refl

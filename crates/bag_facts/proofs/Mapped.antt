@@ -1,5 +1,8 @@
 -- Members of a mapped list, of a filtered one, and the first items of a list.
-use Rattle.bag_facts.proofs.Common.{◌≡◌, ◌<◌, ◌⊎◌, inl, inr, ℕ, zero, suc, ◌+◌, List, [], ◌∷◌, ◌++◌, map, length, take, get_or, Bool, true, false, Contains, refl, ap, sym, subst, cond, arith, add-one, filter, contains_cases, contains_first, contains_behind, contains_nothing, contains_either}
+use Rattle.bag_facts.proofs.Common.{◌≡◌, ◌<◌, ◌⊎◌, inl, inr, ℕ, zero, suc, ◌+◌, List, [], ◌∷◌, ◌++◌, map, length, take}
+use Rattle.bag_facts.proofs.Common.{get_or, Bool, true, false, Contains, refl, ap, sym, subst, cond, arith, add-one}
+use Rattle.bag_facts.proofs.Common.{filter, contains_cases, contains_first, contains_behind, contains_nothing}
+use Rattle.bag_facts.proofs.Common.{contains_either}
 
 pub mapped_contains : {A B : Type 0} (g : A → B) (xs : List A) (x : A) → Contains xs x → Contains (map g xs) (g x)
 mapped_contains g [] x c = absurd (contains_nothing x c)
@@ -8,7 +11,8 @@ mapped_contains g (y ∷ xs) x c = elim (contains_cases y xs x c) [
   | inr d ↦ contains_behind (g y) (map g xs) (g x) (mapped_contains g xs x d)
 ]
 
-pub contains_mapped : {A B : Type 0} (g : A → B) (xs : List A) (y : B) → Contains (map g xs) y → (x : A) × Contains xs x × (g x ≡ y)
+pub contains_mapped : {A B : Type 0} (g : A → B) (xs : List A) (y : B) → Contains (map g xs) y
+    → (x : A) × Contains xs x × (g x ≡ y)
 contains_mapped g [] y c = absurd (contains_nothing y c)
 contains_mapped g (x ∷ xs) y c = elim (contains_cases (g x) (map g xs) y c) [
   | inl e ↦ (x, contains_first x xs, e)
@@ -21,7 +25,8 @@ module _ {A : Type 0} (p : A → Bool) where
   kept [] x c = absurd (contains_nothing x c)
   kept (y ∷ xs) x c = grind (arith, contains_cases, contains_first, contains_behind, kept xs x)
 
-  passed_by : (b : Bool) (y : A) (xs : List A) (x : A) → p y ≡ b → p x ≡ true → (Contains xs x → Contains (filter p xs) x)
+  passed_by : (b : Bool) (y : A) (xs : List A) (x : A) → p y ≡ b → p x ≡ true
+      → (Contains xs x → Contains (filter p xs) x)
       → Contains (y ∷ xs) x → Contains (cond b (y ∷ filter p xs) (filter p xs)) x
   passed_by true y xs x is passes rest c = grind (arith, contains_cases, contains_first, contains_behind)
   passed_by false y xs x is passes rest c = grind (arith, contains_cases)
@@ -31,18 +36,22 @@ module _ {A : Type 0} (p : A → Bool) where
   passed [] x passes c = absurd (contains_nothing x c)
   passed (y ∷ xs) x passes c = passed_by (p y) y xs x refl passes (passed xs x passes) c
 
-take_suc_more : {A : Type 0} (xs : List A) (i : ℕ) (x : A) → i < length xs → x ≡ get_or xs i x → take (suc i) xs ≡ take i xs ++ x ∷ []
+take_suc_more : {A : Type 0} (xs : List A) (i : ℕ) (x : A) → i < length xs → x ≡ get_or xs i x
+    → take (suc i) xs ≡ take i xs ++ x ∷ []
 take_suc_more [] i x lt e = absurd (omega arith)
 take_suc_more (y ∷ xs) zero x lt e = ap (λ z. z ∷ []) (sym e)
 take_suc_more (y ∷ xs) (suc i) x lt e = ap (λ ys. y ∷ ys) (take_suc_more xs i x (omega arith) e)
 
 -- the first items, and one more
-pub take_one_more : {A : Type 0} (xs : List A) (i : ℕ) (x : A) → i < length xs → x ≡ get_or xs i x → take (i + 1) xs ≡ take i xs ++ x ∷ []
+pub take_one_more : {A : Type 0} (xs : List A) (i : ℕ) (x : A) → i < length xs → x ≡ get_or xs i x
+    → take (i + 1) xs ≡ take i xs ++ x ∷ []
 take_one_more xs i x lt e = rw add-one (take_suc_more xs i x lt e)
 
 -- a member of them is one of the first, or the one more
-pub taken_cases : {A : Type 0} (xs : List A) (i : ℕ) (x y : A) → i < length xs → x ≡ get_or xs i x → Contains (take (i + 1) xs) y → Contains (take i xs) y ⊎ (x ≡ y)
-taken_cases xs i x y lt e c = elim (contains_either (take i xs) (x ∷ []) y (subst (λ ys. Contains ys y) (take_one_more xs i x lt e) c)) [
-  | inl a ↦ inl a
-  | inr b ↦ elim (contains_cases x [] y b) [ inl same ↦ inr same | inr none ↦ absurd (contains_nothing y none) ]
-]
+pub taken_cases : {A : Type 0} (xs : List A) (i : ℕ) (x y : A) → i < length xs → x ≡ get_or xs i x
+    → Contains (take (i + 1) xs) y → Contains (take i xs) y ⊎ (x ≡ y)
+taken_cases xs i x y lt e c =
+    elim (contains_either (take i xs) (x ∷ []) y (subst (λ ys. Contains ys y) (take_one_more xs i x lt e) c)) [
+      | inl a ↦ inl a
+      | inr b ↦ elim (contains_cases x [] y b) [ inl same ↦ inr same | inr none ↦ absurd (contains_nothing y none) ]
+    ]

@@ -1,5 +1,8 @@
 -- The order of faults.
-use Rattle.bag_facts.proofs.Common.{◌≡◌, refl, Ordering, Equal, ordering_then, IsTotalOrder, nat_cmp_total, nat_list_cmp_total, IsAntisymmetric, nat_cmp-IsAntisymmetric, slice_cmp-IsAntisymmetric, on_total, then_total, rank_or_zero, number, stage, fault_cmp, EqualFaultsAreOne}
+use Rattle.bag_facts.proofs.Common.{◌≡◌, refl, Ordering, Equal, ordering_then, IsTotalOrder, nat_cmp_total}
+use Rattle.bag_facts.proofs.Common.{nat_list_cmp_total, IsAntisymmetric, nat_cmp-IsAntisymmetric}
+use Rattle.bag_facts.proofs.Common.{slice_cmp-IsAntisymmetric, on_total, then_total, rank_or_zero, number, stage}
+use Rattle.bag_facts.proofs.Common.{fault_cmp, EqualFaultsAreOne}
 use Rattle.bag_facts.proofs.Ascending.{equal_is_one}
 use Rattle.bag_facts.proofs.Algs.{same_alg}
 use Rattle.bag_facts.proofs.Codes.{same_code}

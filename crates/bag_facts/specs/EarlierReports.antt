@@ -12,7 +12,8 @@ use Rattle.bag_facts.specs.declared.fault.Fault.{Fault}
 use Rattle.bag_facts.specs.FaultLine.{field, line_field, IsLineOf}
 use Rattle.bag_facts.specs.FaultOrder.{fault_cmp, IsFault}
 
--- the place of an algorithm in the order of those reports, from 1, and 0 for one that they can't have
+-- the place of an algorithm in the order of those reports, from 1, and 0 for one that they can't
+-- have
 abbrev pub earlier_rank : Alg → ℕ
 earlier_rank Md5 = 1
 earlier_rank Sha1 = 2
@@ -55,7 +56,8 @@ earlier_cmp =
 abbrev pub earlier_line : Fault → List ℕ
 earlier_line f =
     join_with_byte (byte " ")
-    (decimal (number f.code) ∷ word f.code ∷ field f.path ∷ earlier_alg_field f.alg ∷ line_field f.line ∷ field f.detail ∷ [])
+    (decimal (number f.code) ∷ word f.code ∷ field f.path ∷ earlier_alg_field f.alg
+    ∷ line_field f.line ∷ field f.detail ∷ [])
 
 -- the text is the line of this fault in it
 pub record WasLineOf (line : List ℕ) (f : Fault) : Type 0 where
@@ -65,7 +67,8 @@ pub record WasLineOf (line : List ℕ) (f : Fault) : Type 0 where
 
 -- the law: its faults keep their order among themselves
 abbrev pub EarlierFaultsKeepTheirOrder : Type 0
-EarlierFaultsKeepTheirOrder = (f g : Fault) → IsEarlier f → IsEarlier g → fault_cmp f g ≡ earlier_cmp f g
+EarlierFaultsKeepTheirOrder = (f g : Fault) → IsEarlier f → IsEarlier g
+    → fault_cmp f g ≡ earlier_cmp f g
 
 -- the law: each of its lines is still a line, of the same fault
 abbrev pub EarlierLinesKeepTheirFaults : Type 0

@@ -6,7 +6,8 @@ use Rattle.bag_facts.specs.declared.fault.Fault.{Fault}
 
 -- the fault of a line of the file at a path; with an algorithm, that of its manifest
 abbrev pub of_line : Code → List ℕ → Option Alg → ℕ → List ℕ → Fault
-of_line code path alg line detail = record { code = code; path = path; alg = alg; line = line; detail = detail }
+of_line code path alg line detail =
+    record { code = code; path = path; alg = alg; line = line; detail = detail }
 
 -- the fault of a path, which is about no single line
 abbrev pub of_path : Code → List ℕ → Option Alg → List ℕ → Fault

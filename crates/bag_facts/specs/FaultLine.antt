@@ -1,5 +1,6 @@
 -- A fault as a line of text.
-use Rattle.std.specs.Prelude.{ℕ, ◌≡◌, ◌==◌, ◌||◌, Bool, List, [], ◌∷◌, Option, Some, None, bytes_eq, codes, decimal, if◌then◌else◌, flat_map, nat_le}
+use Rattle.std.specs.Prelude.{ℕ, ◌≡◌, ◌==◌, ◌||◌, Bool, List, [], ◌∷◌, Option, Some, None, bytes_eq}
+use Rattle.std.specs.Prelude.{codes, decimal, if◌then◌else◌, flat_map, nat_le}
 use Rattle.std.specs.List.{join_with_byte}
 use Rattle.std.specs.Str.{byte}
 use Rattle.percent_encoding.specs.Percent.{percent_encode_byte}
@@ -37,7 +38,8 @@ line_field line = if line == 0 then codes "-" else decimal line
 abbrev pub fault_line : Fault → List ℕ
 fault_line f =
     join_with_byte (byte " ")
-    (decimal (number f.code) ∷ word f.code ∷ field f.path ∷ alg_field f.alg ∷ line_field f.line ∷ field f.detail ∷ [])
+    (decimal (number f.code) ∷ word f.code ∷ field f.path ∷ alg_field f.alg ∷ line_field f.line
+    ∷ field f.detail ∷ [])
 
 -- the law: different faults have different lines
 abbrev pub LinesTellFaultsApart : Type 0

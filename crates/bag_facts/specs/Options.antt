@@ -3,8 +3,8 @@ use Rattle.std.specs.Prelude.{ℕ, ◌==◌, ◌||◌, Bool, nat_le}
 use Rattle.bag_facts.specs.declared.options.Depth.{Depth}
 use Rattle.bag_facts.specs.declared.options.Depth.TheVariants.{Declaration, Fast, Complete, Full}
 
--- Whether a depth looks at a stage: each up to its last, and at every depth but Declaration the eighth, which needs a
--- profile.
+-- Whether a depth looks at a stage: each up to its last, and at every depth but Declaration the
+-- eighth, which needs a profile.
 abbrev pub reaches : Depth → ℕ → Bool
 reaches Declaration k = nat_le k 1
 reaches Fast k = nat_le k 3 || k == 8

@@ -1,12 +1,14 @@
 -- Why listing a tree and reading its tag files may stop.
 use Rattle.std.specs.Prelude.{◌≡◌, ◌≢◌, ◌⊎◌, ◌<◌, ℕ, List, [], IsTrue}
 use Rattle.bag_tree.specs.Bag.{HasFile}
-use Rattle.bag_tree.specs.Calm.{MayTellMemory}
+use Rattle.bag_tree.specs.NothingFailed.{MayReportMemory}
 use Rattle.bag_tree.specs.Tree.{TreeState, MayRefuse, FailsOver, CameFromFile, most_entries}
 use Rattle.bag_tree.specs.declared.answer.Answer.TheVariants.{Unlisted}
 use Rattle.bag_tree.specs.declared.tree_fault.Stop.{Stop}
 use Rattle.bag_tree.specs.declared.tree_fault.TreeFault.{TreeFault}
-use Rattle.bag_tree.specs.declared.tree_fault.TreeFault.TheVariants.{Device, Special, Name, NotFound, TooMany, Changed, NoneOpen, Memory, Exists}
+use Rattle.bag_tree.specs.declared.tree_fault.TreeFault.TheVariants.{Device, Special, Name}
+use Rattle.bag_tree.specs.declared.tree_fault.TreeFault.TheVariants.{NotFound, TooMany, Changed}
+use Rattle.bag_tree.specs.declared.tree_fault.TreeFault.TheVariants.{NoneOpen, Memory, Exists}
 use Rattle.bag_facts.specs.Wanted.{IsWanted}
 use Rattle.bag_facts.specs.declared.options.Options.{Options}
 
@@ -14,12 +16,15 @@ use Rattle.bag_facts.specs.declared.options.Options.{Options}
 abbrev pub IsOutOfMemory : Stop → Type 0
 IsOutOfMemory stop = (stop.cause ≡ Memory) × (stop.path ≡ [])
 
--- The refusal of the file is told so: with its path, or without one where it was for want of memory.
+-- The refusal of the file is reported so: with its path, or without one where it was when out of
+-- memory.
 abbrev pub IsRefusalOf : TreeFault → List ℕ → Stop → Type 0
-IsRefusalOf cause path stop = ((cause ≢ Memory) × (stop.cause ≡ cause) × (stop.path ≡ path)) ⊎ ((cause ≡ Memory) × IsOutOfMemory stop)
+IsRefusalOf cause path stop = ((cause ≢ Memory) × (stop.cause ≡ cause) × (stop.path ≡ path))
+    ⊎ ((cause ≡ Memory) × IsOutOfMemory stop)
 
--- Why listing a tree and reading its tag files may be refused. Over an honest tree the cause is the device, something in
--- the tree that is no file and no folder or has a name that isn't UTF-8, the number of its files or want of memory.
+-- Why listing a tree and reading its tag files may be refused. Over an honest tree the cause is the
+-- device, something in the tree that is no file and no folder or has a name that isn't UTF-8, the
+-- number of its files or out of memory.
 abbrev pub MayRefuseFacts : TreeState → TreeState → TreeFault → Type 0
 MayRefuseFacts old new Device = old.failures < new.failures
 MayRefuseFacts old new Special = FailsOver old new
@@ -31,27 +36,31 @@ MayRefuseFacts old new NoneOpen = ⊥
 MayRefuseFacts old new Memory = Unit {0}
 MayRefuseFacts old new Exists = ⊥
 
--- the listing was refused, and no other call since: no file is named, none was opened, and what was open is left so
+-- the listing was refused, and no other call since: no file is named, none was opened, and what was
+-- open is left so
 abbrev pub IsOfListing : TreeState → TreeState → Stop → Type 0
 IsOfListing old new stop =
-    (stop.path ≡ []) × (new.openings ≡ old.openings) × (new.rest ≡ old.rest) × (new.last ≡ Unlisted stop.cause) × MayRefuse ⊥ ⊥ old new stop.cause
+    (stop.path ≡ []) × (new.openings ≡ old.openings) × (new.rest ≡ old.rest)
+    × (new.last ≡ Unlisted stop.cause) × MayRefuse ⊥ ⊥ old new stop.cause
 
 -- a file was refused: one that is wanted, and of an honest tree's bag
 abbrev pub IsRefusedFile : Options → TreeState → Stop → Type 0
-IsRefusedFile options old stop = IsWanted options stop.path × (IsTrue old.honest → HasFile old.bag stop.path)
+IsRefusedFile options old stop =
+    IsWanted options stop.path × (IsTrue old.honest → HasFile old.bag stop.path)
 
--- A stop tells what the tree answered last: where it names no file that the listing was refused, and where it names one that
--- a file was. Want of memory may be the caller's own, and names none.
-abbrev pub TellsAnswer : TreeState → Stop → Type 0
-TellsAnswer new stop =
-    IsOutOfMemory stop ⊎ ((stop.path ≡ []) × (new.last ≡ Unlisted stop.cause)) ⊎ ((stop.path ≢ []) × CameFromFile new stop.cause)
+-- A stop tells what the tree answered last: where it names no file that the listing was refused,
+-- and where it names one that a file was. Out of memory may be the caller's own, and names none.
+abbrev pub ReportsAnswer : TreeState → Stop → Type 0
+ReportsAnswer new stop =
+    IsOutOfMemory stop ⊎ ((stop.path ≡ []) × (new.last ≡ Unlisted stop.cause))
+    ⊎ ((stop.path ≢ []) × CameFromFile new stop.cause)
 
--- A stop tells the cause, which is the tree's own answer but for want of memory, and the file that was refused. It names
--- none for want of memory, and where it was the listing that was refused. Want of memory is told only where the tree told it
--- or refused nothing.
+-- A stop tells the cause, which is the tree's own answer but for out of memory, and the file that
+-- was refused. It names none when out of memory, and where it was the listing that was refused. Out
+-- of memory is reported only where the tree reported it or refused nothing.
 pub record MayStopReading (options : Options) (old new : TreeState) (stop : Stop) : Type 0 where
   pub cause : MayRefuseFacts old new stop.cause
-  pub answered : TellsAnswer new stop
+  pub answered : ReportsAnswer new stop
   pub path : IsOutOfMemory stop ⊎ IsOfListing old new stop ⊎ IsRefusedFile options old stop
   pub memory : stop.cause ≡ Memory → stop.path ≡ []
-  pub wanting : stop.cause ≡ Memory → MayTellMemory old new
+  pub wanting : stop.cause ≡ Memory → MayReportMemory old new

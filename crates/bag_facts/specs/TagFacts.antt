@@ -35,19 +35,22 @@ pub record IsDeclarationOf (bytes : List ℕ) (declaration : Declaration) : Type
 -- what is known of the metadata is what these bytes say by the rules
 pub record IsMetadataOf (rules : Rules) (bytes : List ℕ) (metadata : Metadata) : Type 0 where
   pub text : metadata.is_text ≡ is_utf8 bytes
-  pub elements : IsListOf (on (λ e. e.line) nat_cmp) (IsElement rules (lines_of_file bytes)) metadata.elements
+  pub elements : IsListOf (on (λ e. e.line) nat_cmp) (IsElement rules (lines_of_file bytes))
+      metadata.elements
   pub faults : AreFaults (IsInfoFault rules bytes) metadata.faults
 
 -- what is known of the list of files to fetch is what these bytes say by the rules
 pub record IsFetchListOf (rules : Rules) (bytes : List ℕ) (list : FetchList) : Type 0 where
   pub text : list.is_text ≡ is_utf8 bytes
-  pub entries : IsListOf (on (λ e. e.line) nat_cmp) (IsFetch rules (lines_of_file bytes)) list.entries
+  pub entries : IsListOf (on (λ e. e.line) nat_cmp) (IsFetch rules (lines_of_file bytes))
+      list.entries
   pub faults : AreFaults (IsFetchFault rules bytes) list.faults
 
 -- what is known of a manifest is what its bytes say by the rules
 pub record IsManifestOf (rules : Rules) (bytes : List ℕ) (manifest : Manifest) : Type 0 where
   pub text : manifest.is_text ≡ is_utf8 bytes
-  pub entries : IsListOf (on (λ e. e.path) text_cmp) (IsEntry rules manifest.kind manifest.alg (lines_of_file bytes)) manifest.entries
+  pub entries : IsListOf (on (λ e. e.path) text_cmp)
+      (IsEntry rules manifest.kind manifest.alg (lines_of_file bytes)) manifest.entries
   pub faults : AreFaults (IsManifestFault rules manifest.kind manifest.alg bytes) manifest.faults
 
 -- the tag file that it is
@@ -62,16 +65,16 @@ abbrev pub path_of : TagFacts → List ℕ
 path_of tag = tag_path (name_of tag)
 
 -- the bytes say what is known, by the rules; the declaration is read alike by all rules
-abbrev pub Says : Rules → List ℕ → TagFacts → Type 0
-Says rules bytes (facts.Declaration declaration) = IsDeclarationOf bytes declaration
-Says rules bytes (facts.Info metadata) = IsMetadataOf rules bytes metadata
-Says rules bytes (facts.Fetch list) = IsFetchListOf rules bytes list
-Says rules bytes (facts.Manifest manifest) = IsManifestOf rules bytes manifest
+abbrev pub SaysOfTagFile : Rules → List ℕ → TagFacts → Type 0
+SaysOfTagFile rules bytes (facts.Declaration declaration) = IsDeclarationOf bytes declaration
+SaysOfTagFile rules bytes (facts.Info metadata) = IsMetadataOf rules bytes metadata
+SaysOfTagFile rules bytes (facts.Fetch list) = IsFetchListOf rules bytes list
+SaysOfTagFile rules bytes (facts.Manifest manifest) = IsManifestOf rules bytes manifest
 
 -- what is known of a tag file that was read is what its bytes say
 pub record IsParsed (rules : Rules) (file : TagBytes) (tag : TagFacts) : Type 0 where
   pub name : name_of tag ≡ file.name
-  pub says : Says rules file.bytes.items tag
+  pub says : SaysOfTagFile rules file.bytes.items tag
 
 -- whether it is UTF-8, but for the declaration, of which its faults tell
 abbrev pub text_test : TagFacts → Option Bool
@@ -89,11 +92,12 @@ IsReadOf IsOf (Some bytes) None = ⊥
 
 -- what is known of this tag file is what its bytes say
 abbrev pub IsTagFileNamed : Rules → TagName → List ℕ → TagFacts → Type 0
-IsTagFileNamed rules name bytes tag = Says rules bytes tag × (name_of tag ≡ name)
+IsTagFileNamed rules name bytes tag = SaysOfTagFile rules bytes tag × (name_of tag ≡ name)
 
 -- the manifest of this kind and algorithm, and what is known of it is what its bytes say
 abbrev pub IsManifestNamed : Rules → Kind → Alg → List ℕ → Manifest → Type 0
-IsManifestNamed rules kind alg bytes manifest = IsManifestOf rules bytes manifest × (manifest.kind ≡ kind) × (manifest.alg ≡ alg)
+IsManifestNamed rules kind alg bytes manifest =
+    IsManifestOf rules bytes manifest × (manifest.kind ≡ kind) × (manifest.alg ≡ alg)
 
 -- the paths of entries
 abbrev pub entry_paths : List ManifestEntry → List (List ℕ)
@@ -103,8 +107,10 @@ entry_paths entries = map (λ entry. entry.path) entries
 abbrev pub AreByPath : List ManifestEntry → Type 0
 AreByPath entries = IsStrictlySortedBy (on (λ entry. entry.path) text_cmp) entries
 
--- these are the entries of a manifest with these bytes, in the order of their paths; none where it isn't there
+-- these are the entries of a manifest with these bytes, in the order of their paths; none where it
+-- isn't there
 abbrev pub AreEntriesOf : Rules → Kind → Alg → Option (List ℕ) → List ManifestEntry → Type 0
 AreEntriesOf rules kind alg None entries = entries ≡ []
 AreEntriesOf rules kind alg (Some bytes) entries =
-    IsListOf (on (λ entry. entry.path) text_cmp) (IsEntry rules kind alg (lines_of_file bytes)) entries
+    IsListOf (on (λ entry. entry.path) text_cmp) (IsEntry rules kind alg (lines_of_file bytes))
+    entries

@@ -1,9 +1,10 @@
 -- Reading the tag files of a listing.
-use Rattle.std.specs.Prelude.{◌≡◌, ◌⊎◌, ◌++◌, ◌∷◌, ◌<◌, ℕ, List, [], length, All, Contains, Option, None, Some, IsTrue, IsUtf8}
+use Rattle.std.specs.Prelude.{◌≡◌, ◌⊎◌, ◌++◌, ◌∷◌, ◌<◌, ℕ, List, [], length, All, Contains, Option}
+use Rattle.std.specs.Prelude.{None, Some, IsTrue, IsUtf8}
 use Rattle.std.specs.Option.{option_map}
 use Rattle.bag_read.specs.TagName.{tag_path}
 use Rattle.bag_tree.specs.Bag as bag
-use Rattle.bag_tree.specs.Calm.{MayTellMemory}
+use Rattle.bag_tree.specs.NothingFailed.{MayReportMemory}
 use Rattle.bag_tree.specs.Listing.{size_at}
 use Rattle.bag_tree.specs.Tree.{TreeState, CameFromFile}
 use Rattle.bag_tree.specs.declared.listing.FileEntry.{FileEntry}
@@ -19,12 +20,12 @@ abbrev pub read_path : TagBytes → List ℕ
 read_path read = tag_path read.name
 
 -- these are the files of the bag, with their lengths
-abbrev pub AreListed : bag.Bag → List FileEntry → Type 0
-AreListed of files = (path : List ℕ) → size_at files path ≡ option_map length (bag.file of path)
+abbrev pub AreFilesOfBag : bag.Bag → List FileEntry → Type 0
+AreFilesOfBag of files = (path : List ℕ) → size_at files path ≡ option_map length (bag.file of path)
 
 -- the paths of listed files are texts
-abbrev pub AreTexts : List FileEntry → Type 0
-AreTexts files = (entry : FileEntry) → Contains files entry → IsUtf8 entry.path
+abbrev pub PathsAreTexts : List FileEntry → Type 0
+PathsAreTexts files = (entry : FileEntry) → Contains files entry → IsUtf8 entry.path
 
 -- numbers below 256
 abbrev pub AreBytes : List ℕ → Type 0
@@ -37,7 +38,8 @@ pub record IsWhole (files : List FileEntry) (old : TreeState) (read : TagBytes) 
   pub bytes : IsTrue old.honest → bag.file old.bag (read_path read) ≡ Some read.bytes.items
 
 -- a wanted file was opened, and read whole
-pub record ReadsFile (options : Options) (entry : FileEntry) (old new : TreeState) (read : TagBytes) : Type 0 where
+pub record ReadsFile (options : Options) (entry : FileEntry) (old new : TreeState)
+    (read : TagBytes) : Type 0 where
   pub at : read_path read ≡ entry.path
   pub wanted : Wants options read.name
   pub opened : new.openings ≡ old.openings ++ entry.path ∷ []
@@ -47,13 +49,14 @@ pub record ReadsFile (options : Options) (entry : FileEntry) (old new : TreeStat
 
 -- a listed file was read where it is wanted, and passed over where it isn't
 abbrev pub ReadsWanted : Options → FileEntry → TreeState → TreeState → Option TagBytes → Type 0
-ReadsWanted options entry old new None = ¬ (IsWanted options entry.path) × (new.openings ≡ old.openings)
+ReadsWanted options entry old new None =
+    ¬ (IsWanted options entry.path) × (new.openings ≡ old.openings)
 ReadsWanted options entry old new (Some read) = ReadsFile options entry old new read
 
--- reading files stopped: at one that is wanted, or for want of memory
+-- reading files stopped: at one that is wanted, or when out of memory
 pub record StopsReading (options : Options) (old new : TreeState) (stop : Stop) : Type 0 where
   pub cause : MayRefuseFacts old new stop.cause
   pub answered : CameFromFile new stop.cause
   pub path : IsOutOfMemory stop ⊎ IsRefusedFile options old stop
   pub memory : stop.cause ≡ Memory → stop.path ≡ []
-  pub wanting : stop.cause ≡ Memory → MayTellMemory old new
+  pub wanting : stop.cause ≡ Memory → MayReportMemory old new

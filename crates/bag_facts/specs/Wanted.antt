@@ -14,7 +14,8 @@ use Rattle.bag_tree.specs.declared.listing.Listing.{Listing}
 use Rattle.bag_facts.specs.declared.options.Depth.TheVariants as depth_of
 use Rattle.bag_facts.specs.declared.options.Options.{Options}
 
--- the options ask for a tag file: always for the declaration, and above the depth of the declaration for each
+-- the options ask for a tag file: always for the declaration, and above the depth of the
+-- declaration for each
 abbrev pub Wants : Options → TagName → Type 0
 Wants options name = (name ≡ Declaration) ⊎ (options.depth ≢ depth_of.Declaration)
 
@@ -28,14 +29,16 @@ paths_of files = map (λ entry. entry.path) files
 
 -- the wanted tag files among these files, in path order
 abbrev pub AreWanted : Options → List FileEntry → List (List ℕ) → Type 0
-AreWanted options files paths = IsListOf text_cmp (λ path. IsWanted options path × Contains (paths_of files) path) paths
+AreWanted options files paths =
+    IsListOf text_cmp (λ path. IsWanted options path × Contains (paths_of files) path) paths
 
 -- each wanted tag file among these files was opened once, in path order, and no other file
 abbrev pub OpensAll : Options → List FileEntry → TreeState → TreeState → Type 0
 OpensAll options files old new =
     (paths : List (List ℕ)) × AreWanted options files paths × (new.openings ≡ old.openings ++ paths)
 
--- the first of the wanted tag files among these files were opened, each once and in path order, and no other file
+-- the first of the wanted tag files among these files were opened, each once and in path order, and
+-- no other file
 abbrev pub OpensFirst : Options → List FileEntry → TreeState → TreeState → Type 0
 OpensFirst options files old new =
     (paths : List (List ℕ)) × (more : List (List ℕ)) × AreWanted options files (paths ++ more)
@@ -47,12 +50,16 @@ OpensWanted options old new =
     (paths : List (List ℕ)) × (new.openings ≡ old.openings ++ paths)
     × IsStrictlySortedBy text_cmp paths × All (IsWanted options) paths
 
--- the file was refused when the wanted tag files before it had been opened, each once and in path order, and no other file
+-- the file was refused when the wanted tag files before it had been opened, each once and in path
+-- order, and no other file
 abbrev pub OpensUpTo : Options → List FileEntry → List ℕ → TreeState → TreeState → Type 0
 OpensUpTo options files path old new =
-    (before : List (List ℕ)) × (after : List (List ℕ)) × AreWanted options files (before ++ path ∷ after)
+    (before : List (List ℕ)) × (after : List (List ℕ))
+    × AreWanted options files (before ++ path ∷ after)
     × IsRefusedAt (old.openings ++ before) path new
 
 -- so it is for a listing that the tree gave, in an honest tree that of its bag
 abbrev pub ForListing : TreeState → (List FileEntry → Type 0) → Type 0
-ForListing old IsSo = (listing : Listing) × IsOrdered listing.files × (IsTrue old.honest → IsListingOf old.bag listing) × IsSo listing.files
+ForListing old IsSo =
+    (listing : Listing) × IsOrdered listing.files
+    × (IsTrue old.honest → IsListingOf old.bag listing) × IsSo listing.files

@@ -2,11 +2,11 @@
 ghost use Rattle.std.specs.List.Sorted.{IsPermutation};
 
 use bag_read::ManifestEntry;
-use bag_text::{common_front, key_behind};
+use bag_text::{common_front, key_after};
 use std::alloc::{AllocError, Global};
 
-/// Sorts entries by keys that tell most paths apart, so that a sort by path finds them in order. Few entries are moved
-/// more than once, and none to memory of its own.
+/// Sorts entries by keys that tell most paths apart, so that a sort by path finds them in order.
+/// Few entries are moved more than once, and none to memory of its own.
 pub(crate) fn arrange(alloc: Global, entries: &mut Vec<ManifestEntry>) -> Result<(), AllocError>
     ensures { IsPermutation entries.old.items entries.new.items }
 {
@@ -35,7 +35,7 @@ fn keys(alloc: Global, entries: &[ManifestEntry]) -> Result<Vec<(u128, usize)>, 
     let skipped = common_len(entries);
     let mut keys = Vec::with_capacity(alloc, entries.len())?;
     for (place, entry) in entries.iter().enumerate() {
-        keys.push((key_behind(entry.path.as_str().as_bytes(), skipped), place))?;
+        keys.push((key_after(entry.path.as_str().as_bytes(), skipped), place))?;
     }
     Ok(keys)
 }
@@ -78,7 +78,8 @@ fn move_to<T>(items: &mut [T], places: &mut [usize])
     }
 }
 
-/// Moves the item that stands here to its place. Gives where to go on: here, or next where it was at its place.
+/// Moves the item that stands here to its place. Gives where to go on: here, or next where it was
+/// at its place.
 fn move_from<T>(items: &mut [T], places: &mut [usize], here: usize) -> usize
     ensures { IsPermutation items.old items.new }
 {

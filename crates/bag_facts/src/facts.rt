@@ -1,5 +1,6 @@
 //! What is read of a bag.
-ghost use Rattle.std.specs.Prelude.{◌≡◌, ◌≢◌, ◌⊎◌, ◌↔◌, [], IsTrue, IfOk, IfErr, OnOk, OnErr, MatchOption, Any, Contains, codes};
+ghost use Rattle.std.specs.Prelude.{◌≡◌, ◌≢◌, ◌⊎◌, ◌↔◌, [], IsTrue, IfOk, IfErr, OnOk, OnErr};
+ghost use Rattle.std.specs.Prelude.{MatchOption, Any, Contains, codes};
 ghost use Rattle.std.specs.Option.{option_copied};
 ghost use Rattle.bag_text.specs.declared.alg.Alg.{Alg as Named};
 ghost use Rattle.bag_text.specs.Path.{is_payload_path};
@@ -7,11 +8,14 @@ ghost use Rattle.bag_text.specs.Rules.{rules_of};
 ghost use Rattle.bag_read.specs.TagName.{tag_path};
 ghost use Rattle.bag_read.specs.declared.tag_name.TagName.TheVariants as file_of;
 ghost use Rattle.bag_tree.specs.Bag.{Bag, IsBag, HasFile, file};
-ghost use Rattle.bag_tree.specs.Calm.{RefusesNothing};
+ghost use Rattle.bag_tree.specs.NothingFailed.{NothingFailed};
 ghost use Rattle.bag_tree.specs.Tree.{Keeps};
 ghost use Rattle.bag_facts.specs.Facts.{rules_in, AreJudged, AreParsed, AreRulesOf, HasItsFolder};
-ghost use Rattle.bag_facts.specs.TagFacts.{name_of, AreEntriesOf, IsReadOf, IsDeclarationOf, IsMetadataOf, IsFetchListOf, IsManifestNamed, IsTagFileNamed};
-ghost use Rattle.bag_facts.specs.Wanted.{ForListing, OpensAll, OpensFirst, OpensUpTo, OpensWanted, Wants};
+ghost use Rattle.bag_facts.specs.TagFacts.{name_of, AreEntriesOf, IsReadOf, IsDeclarationOf};
+ghost use Rattle.bag_facts.specs.TagFacts.{IsMetadataOf, IsFetchListOf, IsManifestNamed};
+ghost use Rattle.bag_facts.specs.TagFacts.{IsTagFileNamed};
+ghost use Rattle.bag_facts.specs.Wanted.{ForListing, OpensAll, OpensFirst, OpensUpTo, OpensWanted};
+ghost use Rattle.bag_facts.specs.Wanted.{Wants};
 ghost use Rattle.bag_facts.specs.declared.options.Depth.TheVariants as depth_of;
 ghost use Rattle.bag_facts.specs.Stops.{MayStopReading};
 
@@ -38,26 +42,34 @@ pub struct Facts {
 impl Facts {
     ghost use Rattle.bag_facts.specs.Facts.{IsFactsOf, OfBag};
 
-    /// Lists the tree, and reads its tag files whole, in path order and each once: at every depth `bagit.txt`, and at
-    /// the depths above `Declaration` also `bag-info.txt`, `fetch.txt` and the manifests of supported algorithms.
+    /// Lists the tree, and reads its tag files whole, in path order and each once: at every depth
+    /// `bagit.txt`, and at the depths above `Declaration` also `bag-info.txt`, `fetch.txt` and the
+    /// manifests of supported algorithms.
     ///
-    /// The stop of a refusal names the file that was refused; it names none for the listing and for want of memory. Its
-    /// cause is the tree's own answer, but for want of memory, which is told only where the tree told it or refused
-    /// nothing. The facts are those of an honest tree's bag. Of any other tree they are those of some bag that has the
-    /// listed files, and the payload folder where the listing has it or names a payload file.
+    /// The stop of a refusal names the file that was refused; it names none for the listing and
+    /// when out of memory. Its cause is the tree's own answer, but for out of memory, which is
+    /// reported only where the tree reported it or refused nothing. The facts are those of an
+    /// honest tree's bag. Of any other tree they are those of some bag that has the listed files,
+    /// and the payload folder where the listing has it or names a payload file.
     pub fn read<T: Tree>(alloc: Global, tree: &mut T, options: Options) -> Result<Facts, Stop>
         ensures keeps { Keeps (T.state tree.old) (T.state tree.new) }
-        ensures calm { OnOk result (RefusesNothing (T.state tree.old) (T.state tree.new)) }
+        ensures no_failure { OnOk result (NothingFailed (T.state tree.old) (T.state tree.new)) }
         ensures opens { OpensWanted options (T.state tree.old) (T.state tree.new) }
-        ensures opened { IfOk result (λ facts. OpensAll options facts.listing.files (T.state tree.old) (T.state tree.new)) }
-        ensures opened_first { OnErr result (((T.state tree.new).openings ≡ (T.state tree.old).openings)
-            ⊎ ForListing (T.state tree.old) (λ files. OpensFirst options files (T.state tree.old) (T.state tree.new))) }
+        ensures opened { IfOk result (λ facts.
+            OpensAll options facts.listing.files (T.state tree.old) (T.state tree.new)) }
+        ensures opened_first { OnErr result
+            (((T.state tree.new).openings ≡ (T.state tree.old).openings)
+            ⊎ ForListing (T.state tree.old) (λ files.
+            OpensFirst options files (T.state tree.old) (T.state tree.new))) }
         ensures refused { IfErr result (λ stop. stop.path ≢ []
-            → ForListing (T.state tree.old) (λ files. OpensUpTo options files stop.path (T.state tree.old) (T.state tree.new))) }
+            → ForListing (T.state tree.old) (λ files.
+            OpensUpTo options files stop.path (T.state tree.old) (T.state tree.new))) }
         ensures options { IfOk result (λ facts. facts.options ≡ options) }
-        ensures facts { IfOk result (λ facts. IsTrue (T.state tree.old).honest → IsFactsOf (T.state tree.old).bag facts) }
+        ensures facts { IfOk result (λ facts.
+            IsTrue (T.state tree.old).honest → IsFactsOf (T.state tree.old).bag facts) }
         ensures seen { IfOk result (λ facts. (bag : Bag) × IsBag bag × IsFactsOf bag facts) }
-        ensures plain { OnOk result (IsTrue (T.state tree.old).honest → IsTrue (T.state tree.old).plain) }
+        ensures plain { OnOk result
+            (IsTrue (T.state tree.old).honest → IsTrue (T.state tree.old).plain) }
         ensures stop { IfErr result (MayStopReading options (T.state tree.old) (T.state tree.new)) }
     {
         let listed = match tree.list() {
@@ -94,7 +106,9 @@ impl Facts {
 
     /// What `bagit.txt` declares, where it is there.
     pub fn declaration(&self) -> Option<&Declaration>
-        ensures { (bag : Bag) → IsFactsOf bag self.now → IsReadOf IsDeclarationOf (file bag (tag_path file_of.Declaration)) (option_copied result) }
+        ensures { (bag : Bag) → IsFactsOf bag self.now
+            → IsReadOf IsDeclarationOf (file bag (tag_path file_of.Declaration))
+            (option_copied result) }
     {
         let Some(TagFacts::Declaration(declaration)) = self.tag(TagName::Declaration) else {
             return None;
@@ -102,7 +116,8 @@ impl Facts {
         Some(declaration)
     }
 
-    /// The rules by which the bag is judged: those of 0.97 where that is the declared version, and else those of 1.0.
+    /// The rules by which the bag is judged: those of 0.97 where that is the declared version, and
+    /// else those of 1.0.
     pub fn rules(&self) -> Rules
         ensures { (bag : Bag) → IsFactsOf bag self.now → result ≡ rules_in bag }
     {
@@ -112,9 +127,12 @@ impl Facts {
         }
     }
 
-    /// What is known of `bag-info.txt`, where it is there and the facts were read for more than the declaration.
+    /// What is known of `bag-info.txt`, where it is there and the facts were read for more than the
+    /// declaration.
     pub fn metadata(&self) -> Option<&Metadata>
-        ensures { OfBag self.now (λ bag. IsReadOf (IsMetadataOf (rules_in bag)) (file bag (tag_path file_of.Info)) (option_copied result)) }
+        ensures { OfBag self.now (λ bag.
+            IsReadOf (IsMetadataOf (rules_in bag)) (file bag (tag_path file_of.Info))
+            (option_copied result)) }
     {
         let Some(TagFacts::Info(metadata)) = self.tag(TagName::Info) else {
             return None;
@@ -122,9 +140,12 @@ impl Facts {
         Some(metadata)
     }
 
-    /// What is known of `fetch.txt`, where it is there and the facts were read for more than the declaration.
+    /// What is known of `fetch.txt`, where it is there and the facts were read for more than the
+    /// declaration.
     pub fn fetch_list(&self) -> Option<&FetchList>
-        ensures { OfBag self.now (λ bag. IsReadOf (IsFetchListOf (rules_in bag)) (file bag (tag_path file_of.Fetch)) (option_copied result)) }
+        ensures { OfBag self.now (λ bag.
+            IsReadOf (IsFetchListOf (rules_in bag)) (file bag (tag_path file_of.Fetch))
+            (option_copied result)) }
     {
         let Some(TagFacts::Fetch(list)) = self.tag(TagName::Fetch) else {
             return None;
@@ -132,10 +153,12 @@ impl Facts {
         Some(list)
     }
 
-    /// What is known of a manifest, where it is there and the facts were read for more than the declaration.
+    /// What is known of a manifest, where it is there and the facts were read for more than the
+    /// declaration.
     pub fn manifest(&self, kind: Kind, alg: Alg) -> Option<&Manifest>
         ensures { OfBag self.now (λ bag.
-            IsReadOf (IsManifestNamed (rules_in bag) kind alg) (file bag (tag_path (file_of.Manifest kind alg))) (option_copied result)) }
+            IsReadOf (IsManifestNamed (rules_in bag) kind alg)
+            (file bag (tag_path (file_of.Manifest kind alg))) (option_copied result)) }
     {
         let Some(TagFacts::Manifest(manifest)) = self.tag(TagName::Manifest(kind, alg)) else {
             return None;
@@ -157,11 +180,12 @@ impl Facts {
         self.listing.files.as_slice()
     }
 
-    /// The algorithms of which the bag has a manifest of this kind (RFC 8493, 2.1.3 and 2.2.1), whatever the facts were
-    /// read for.
+    /// The algorithms of which the bag has a manifest of this kind (RFC 8493, 2.1.3 and 2.2.1),
+    /// whatever the facts were read for.
     pub fn algs(&self, kind: Kind) -> AlgSet
         ensures { (bag : Bag) → IsFactsOf bag self.now
-            → (alg : Named) → Contains result alg ↔ HasFile bag (tag_path (file_of.Manifest kind alg)) }
+            → (alg : Named) → Contains result alg
+            ↔ HasFile bag (tag_path (file_of.Manifest kind alg)) }
     {
         let files = self.listing.files.as_slice();
         let mut algs = AlgSet::empty();
@@ -173,11 +197,14 @@ impl Facts {
         algs
     }
 
-    /// The entries of a manifest, in the order of their paths by bytes: none where it isn't there, or the facts were read
-    /// for the declaration alone.
+    /// The entries of a manifest, in the order of their paths by bytes: none where it isn't there,
+    /// or the facts were read for the declaration alone.
     pub fn entries(&self, kind: Kind, alg: Alg) -> &[ManifestEntry]
-        ensures entries { OfBag self.now (λ bag. AreEntriesOf (rules_in bag) kind alg (file bag (tag_path (file_of.Manifest kind alg))) result.now) }
-        ensures none { (bag : Bag) → IsFactsOf bag self.now → self.now.options.depth ≡ depth_of.Declaration → result.now ≡ [] }
+        ensures entries { OfBag self.now (λ bag.
+            AreEntriesOf (rules_in bag) kind alg (file bag (tag_path (file_of.Manifest kind alg)))
+            result.now) }
+        ensures none { (bag : Bag) → IsFactsOf bag self.now
+            → self.now.options.depth ≡ depth_of.Declaration → result.now ≡ [] }
     {
         if self.options.depth == Depth::Declaration {
             return &[];
@@ -190,13 +217,16 @@ impl Facts {
 
     /// What is known of a tag file, where it is there and wanted.
     fn tag(&self, name: TagName) -> Option<&TagFacts>
-        ensures { (bag : Bag) → IsFactsOf bag self.now → Wants self.now.options name → IsReadOf (IsTagFileNamed (rules_in bag) name) (file bag (tag_path name)) (option_copied result) }
+        ensures { (bag : Bag) → IsFactsOf bag self.now → Wants self.now.options name
+            → IsReadOf (IsTagFileNamed (rules_in bag) name) (file bag (tag_path name))
+            (option_copied result) }
     {
         find_tag(self.tags.as_slice(), name)
     }
 }
 
-/// A listing with the payload folder where it names a payload file, as every bag has it: an honest tree's is as it was.
+/// A listing with the payload folder where it names a payload file, as every bag has it: an honest
+/// tree's is as it was.
 fn with_its_folder(listing: Listing) -> Listing
     ensures files { result.files ≡ listing.files }
     ensures folder { HasItsFolder result }
@@ -218,7 +248,8 @@ fn names_payload(files: &[FileEntry]) -> bool
 
 /// What is known of a tag file among these.
 fn find_tag(tags: &[TagFacts], name: TagName) -> Option<&TagFacts>
-    ensures { MatchOption (option_copied result) (¬ (Any (λ tag. name_of tag ≡ name) tags.now)) (λ tag. Contains tags.now tag × (name_of tag ≡ name)) }
+    ensures { MatchOption (option_copied result) (¬ (Any (λ tag. name_of tag ≡ name) tags.now))
+        (λ tag. Contains tags.now tag × (name_of tag ≡ name)) }
 {
     tags.iter().find(|tag| tag.name() == name)
 }
@@ -233,7 +264,8 @@ fn rules_declared(declaration: &Declaration) -> Rules
     }
 }
 
-/// The rules that the declaration among files that were read tells, and those of 1.0 where it isn't among them.
+/// The rules that the declaration among files that were read tells, and those of 1.0 where it isn't
+/// among them.
 fn rules_read(read: &[TagBytes]) -> Rules
     ensures { AreRulesOf read.now result }
 {
@@ -245,13 +277,15 @@ fn rules_read(read: &[TagBytes]) -> Rules
 
 /// The declaration among files that were read.
 fn find_declaration(read: &[TagBytes]) -> Option<&TagBytes>
-    ensures { MatchOption (option_copied result) (¬ (Any (λ file. file.name ≡ file_of.Declaration) read.now))
+    ensures { MatchOption (option_copied result)
+        (¬ (Any (λ file. file.name ≡ file_of.Declaration) read.now))
         (λ file. Contains read.now file × (file.name ≡ file_of.Declaration)) }
 {
     read.iter().find(|file| file.name == TagName::Declaration)
 }
 
-/// What the bytes of each tag file say by the rules, in their order. The bytes of each go as soon as it was read.
+/// What the bytes of each tag file say by the rules, in their order. The bytes of each go as soon
+/// as it was read.
 fn parse_all(
     alloc: Global,
     known: &Pool,

@@ -1,9 +1,10 @@
 //! A fault of a bag, the order of faults, and their lines.
 //!
-//! A line is `CODE WORD PATH ALG LINE DETAIL`, six fields with one space between, all of it ASCII. CODE is the number of
-//! the code, and WORD its word. ALG is the name of the algorithm, or `-` for none. LINE is in decimal, or `-` for 0. PATH
-//! and DETAIL are `-` where they are empty, and `%2D` where they are the text `-`. In any other text the bytes 0 to 32,
-//! `%`, 127 and those outside ASCII are written as `%` and two upper-case hex digits, and every other byte as itself.
+//! A line is `CODE WORD PATH ALG LINE DETAIL`, six fields with one space between, all of it ASCII.
+//! CODE is the number of the code, and WORD its word. ALG is the name of the algorithm, or `-` for
+//! none. LINE is in decimal, or `-` for 0. PATH and DETAIL are `-` where they are empty, and `%2D`
+//! where they are the text `-`. In any other text the bytes 0 to 32, `%`, 127 and those outside
+//! ASCII are written as `%` and two upper-case hex digits, and every other byte as itself.
 ghost use Rattle.std.specs.Prelude.{◌≡◌, IfOk, ◌++◌, ◌∷◌, OnOk, OnErr, string_bytes, decimal};
 ghost use Rattle.std.specs.Io.{StartsWith};
 ghost use Rattle.bag_text.specs.Alg.{rank_or_zero};
@@ -20,8 +21,8 @@ use percent_encoding::{AsciiSet, CONTROLS, PercentEncode, ascii_set, percent_enc
 use std::alloc::{AllocError, Global};
 use std::cmp::Ordering;
 
-/// What is wrong with a bag, and where. Faults are ordered by stage (the first digit of the code's number), path,
-/// algorithm (none first), line, code and detail; paths and details by bytes.
+/// What is wrong with a bag, and where. Faults are ordered by stage (the first digit of the code's
+/// number), path, algorithm (none first), line, code and detail; paths and details by bytes.
 #[derive(Debug, Drop)]
 pub struct Fault {
     /// What is wrong.
@@ -50,7 +51,8 @@ impl Fault {
         }
     }
 
-    /// The fault of a path, about no single line: of the file there, of a name, and of the whole bag where it is empty.
+    /// The fault of a path, about no single line: of the file there, of a name, and of the whole
+    /// bag where it is empty.
     pub fn of_path(code: Code, path: Text, alg: Option<Alg>, detail: Text) -> Fault
         ensures { result ≡ made.of_path code path alg detail }
     {
@@ -143,7 +145,8 @@ impl PartialOrd for Fault {
 
     ghost partial_cmp = { as_partial_cmp fault_cmp };
 
-    ghost laws = { partial_order_from_own_ties (Prim.search (comparing, rules) depth 12) (Prim.search (comparing, rules) depth 12) };
+    ghost laws = { partial_order_from_own_ties (Prim.search (comparing, rules) depth 12)
+        (Prim.search (comparing, rules) depth 12) };
 
     fn partial_cmp(&self, other: &Fault) -> Option<Ordering> {
         Some(self.cmp(other))
@@ -151,7 +154,8 @@ impl PartialOrd for Fault {
 }
 
 impl Fault {
-    /// The fault as a line, without an end: `601 payload-file-missing data/a md5 - -`. Fails only where memory runs out.
+    /// The fault as a line, without an end: `601 payload-file-missing data/a md5 - -`. Fails only
+    /// where memory runs out.
     pub fn to_line(&self, alloc: Global) -> Result<String, AllocError>
         ensures { IfOk result (λ line. string_bytes line ≡ spec.fault_line self.now) }
     {
@@ -160,9 +164,11 @@ impl Fault {
         Ok(line)
     }
 
-    /// Appends the fault as a line, without an end. Fails only where memory runs out, and leaves the text as it was.
+    /// Appends the fault as a line, without an end. Fails only where memory runs out, and leaves
+    /// the text as it was.
     pub fn append_line(&self, out: &mut String) -> Result<(), AllocError>
-        ensures ok { OnOk result (string_bytes out.new ≡ string_bytes out.old ++ spec.fault_line self.now) }
+        ensures ok { OnOk result
+            (string_bytes out.new ≡ string_bytes out.old ++ spec.fault_line self.now) }
         ensures err { OnErr result (string_bytes out.new ≡ string_bytes out.old) }
     {
         let start = out.len();
@@ -174,9 +180,11 @@ impl Fault {
     }
 }
 
-/// Appends the fields with a space between each two. Where memory runs out, some of it is behind the old text.
+/// Appends the fields with a space between each two. Where memory runs out, some of it is after the
+/// old text.
 fn append_fields(fault: &Fault, out: &mut String) -> Result<(), AllocError>
-    ensures ok { OnOk result (string_bytes out.new ≡ string_bytes out.old ++ spec.fault_line fault.now) }
+    ensures ok { OnOk result
+        (string_bytes out.new ≡ string_bytes out.old ++ spec.fault_line fault.now) }
     ensures err { OnErr result (StartsWith (string_bytes out.new) (string_bytes out.old)) }
 {
     append_number(u64::from(fault.code.number()), out)?;
@@ -215,7 +223,8 @@ fn append_word(word: &str, out: &mut String) -> Result<(), AllocError>
 
 /// Appends a space and the field of a line number.
 fn append_line_number(line: u64, out: &mut String) -> Result<(), AllocError>
-    ensures ok { OnOk result (string_bytes out.new ≡ string_bytes out.old ++ 32 ∷ spec.line_field line) }
+    ensures ok { OnOk result
+        (string_bytes out.new ≡ string_bytes out.old ++ 32 ∷ spec.line_field line) }
     ensures err { OnErr result (StartsWith (string_bytes out.new) (string_bytes out.old)) }
 {
     out.push_str(" ")?;
@@ -228,7 +237,8 @@ fn append_line_number(line: u64, out: &mut String) -> Result<(), AllocError>
 
 /// Appends a space and the field of a text.
 fn append_text(text: &str, out: &mut String) -> Result<(), AllocError>
-    ensures ok { OnOk result (string_bytes out.new ≡ string_bytes out.old ++ 32 ∷ spec.field text.now) }
+    ensures ok { OnOk result
+        (string_bytes out.new ≡ string_bytes out.old ++ 32 ∷ spec.field text.now) }
     ensures err { OnErr result (StartsWith (string_bytes out.new) (string_bytes out.old)) }
 {
     out.push_str(" ")?;
@@ -241,8 +251,9 @@ const ESCAPED: AsciiSet = ascii_set!(CONTROLS.add(b' ').add(b'%'));
 /// What a field escapes, and the hyphen, which alone stands for the empty text.
 const ESCAPED_HYPHEN: AsciiSet = ascii_set!(ESCAPED.add(b'-'));
 
-/// A text as a field, in pieces that take no memory: `-` where it is empty, `%2D` for the text `-`, and else each byte
-/// as itself or as `%` and two upper-case hex digits, so that the field is ASCII without a space.
+/// A text as a field, in pieces that take no memory: `-` where it is empty, `%2D` for the text `-`,
+/// and else each byte as itself or as `%` and two upper-case hex digits, so that the field is ASCII
+/// without a space.
 pub fn field_pieces(text: &str) -> PercentEncode<'_>
     ensures { encoded_text result ≡ field text.now }
 {

@@ -1,5 +1,6 @@
 //! Faults read back from their lines.
-ghost use Rattle.std.specs.Prelude.{◌≡◌, ◌<◌, ◌^◌, Option, List, ℕ, IfOk, MatchOption, MatchResult, IsUtf8, decimal};
+ghost use Rattle.std.specs.Prelude.{◌≡◌, ◌<◌, ◌^◌, Option, List, ℕ, IfOk, MatchOption, MatchResult};
+ghost use Rattle.std.specs.Prelude.{IsUtf8, decimal};
 ghost use Rattle.bag_text.specs.Code.{number};
 ghost use Rattle.bag_text.specs.declared.alg.Alg.{Alg};
 ghost use Rattle.bag_text.specs.declared.code.Code.{Code};
@@ -36,11 +37,13 @@ impl From<AllocError> for CursorFault {
 }
 
 impl Fault {
-    /// The fault whose line this is. Every text that `to_line` doesn't write is refused, so also one with an end, with
-    /// an escape that isn't needed, with lower-case hex, or with a line 0. Takes time in proportion to the text.
+    /// The fault whose line this is. Every text that `to_line` doesn't write is refused, so also
+    /// one with an end, with an escape that isn't needed, with lower-case hex, or with a line 0.
+    /// Takes time in proportion to the text.
     pub fn from_line(alloc: Global, line: &str) -> Result<Fault, CursorFault>
         ensures ok { IfOk result (spec.IsLineOf line.now) }
-        ensures refused { result ≡ Err CursorFault.NotALine → (fault : Fault) → ¬ (spec.IsLineOf line.now fault) }
+        ensures refused { result ≡ Err CursorFault.NotALine → (fault : Fault)
+            → ¬ (spec.IsLineOf line.now fault) }
     {
         let fault = read(alloc, line)?;
         let written = fault.to_line(alloc)?;
@@ -55,7 +58,8 @@ impl Fault {
 /// The fault whose line this is, or some other where the text is no line.
 fn read(alloc: Global, line: &str) -> Result<Fault, CursorFault>
     ensures fault { IfOk result IsFault }
-    ensures reads { (fault : Fault) → spec.IsLineOf line.now fault → MatchResult result (λ read. read ≡ fault) (λ e. e ≡ CursorFault.Memory) }
+    ensures reads { (fault : Fault) → spec.IsLineOf line.now fault
+        → MatchResult result (λ read. read ≡ fault) (λ e. e ≡ CursorFault.Memory) }
 {
     let Some(fields) = Fields::of(line) else {
         return Err(CursorFault::NotALine);
@@ -85,9 +89,10 @@ struct Fields<'a> {
 }
 
 impl<'a> Fields<'a> {
-    /// The fields before the first five spaces, and what stands behind these.
+    /// The fields before the first five spaces, and what stands after these.
     fn of(text: &'a str) -> Option<Fields<'a>>
-        ensures { (fault : Fault) → spec.IsLineOf text.now fault → MatchOption result ⊥ (AreFields fault) }
+        ensures { (fault : Fault) → spec.IsLineOf text.now fault
+            → MatchOption result ⊥ (AreFields fault) }
     {
         let Some((code, rest)) = text.split_once(' ') else {
             return None;
@@ -153,7 +158,8 @@ fn read_line_number(field: &str) -> Result<u64, CursorFault>
 /// The text that is written so, or some text written otherwise.
 fn read_text(alloc: Global, field: &str) -> Result<Text, CursorFault>
     ensures text { IfOk result (λ text. IsUtf8 text) }
-    ensures reads { (text : List ℕ) → IsUtf8 text → spec.field text ≡ field.now → MatchResult result (λ read. read ≡ text) (λ e. e ≡ CursorFault.Memory) }
+    ensures reads { (text : List ℕ) → IsUtf8 text → spec.field text ≡ field.now
+        → MatchResult result (λ read. read ≡ text) (λ e. e ≡ CursorFault.Memory) }
 {
     if field == "-" {
         return Ok(Text::empty(alloc));

@@ -1,7 +1,9 @@
 //! Laws of the definitions, each the contract of a function that gives nothing.
-ghost use Rattle.bag_facts.specs.EarlierReports.{EarlierFaultsKeepTheirOrder, EarlierLinesKeepTheirFaults};
+ghost use Rattle.bag_facts.specs.EarlierReports.{EarlierFaultsKeepTheirOrder};
+ghost use Rattle.bag_facts.specs.EarlierReports.{EarlierLinesKeepTheirFaults};
 ghost use Rattle.bag_facts.specs.FaultLine.{LinesTellFaultsApart};
-ghost use Rattle.bag_facts.specs.FaultOrder.{FaultsAreOrdered, OneOfThreeHolds, EqualFaultsAreOne, AscendingFaultsAreOne};
+ghost use Rattle.bag_facts.specs.FaultOrder.{FaultsAreOrdered, OneOfThreeHolds, EqualFaultsAreOne};
+ghost use Rattle.bag_facts.specs.FaultOrder.{AscendingFaultsAreOne};
 
 pub use crate::fault::every_fault_is_one;
 
@@ -30,8 +32,8 @@ pub fn lines_tell_faults_apart()
     ensures { LinesTellFaultsApart }
 {}
 
-/// In reports from before SHA-224 and SHA-384 were checked, faults stand in the order of today, and a line means the fault that it
-/// means today: so such a line is a good place to go on after.
+/// In reports from before SHA-224 and SHA-384 were checked, faults stand in the order of today, and
+/// a line means the fault that it means today: so such a line is a good place to go on after.
 pub fn earlier_reports_hold()
     ensures order { EarlierFaultsKeepTheirOrder }
     ensures lines { EarlierLinesKeepTheirFaults }

@@ -1,5 +1,5 @@
-//! What is read of a bag: its files, and what its tag files say; and the faults of a bag: what they say, their order, and
-//! their lines.
+//! What is read of a bag: its files, and what its tag files say; and the faults of a bag: what they
+//! say, their order, and their lines.
 //!
 //! ```
 //! let facts = Facts::read(alloc, &mut tree, options)?;
@@ -11,11 +11,12 @@
 //! let same = Fault::from_line(alloc, fault.to_line(alloc)?.as_str())?;
 //! ```
 //!
-//! Of RFC 8493 it keeps which files of a bag are tag files that are read (2.1, 2.2), and what each of them says.
+//! Of RFC 8493 it keeps which files of a bag are tag files that are read (2.1, 2.2), and what each
+//! of them says.
 //!
-//! The facts are the bag's, of an honest tree, and else those of some bag with the listed files; exactly the wanted tag files
-//! are opened, each once and in path order. The order of faults is total, and faults that tie are one; a line tells its fault,
-//! and is read back.
+//! The facts are the bag's, of an honest tree, and else those of some bag with the listed files;
+//! exactly the wanted tag files are opened, each once and in path order. The order of faults is
+//! total, and faults that tie are one; a line tells its fault, and is read back.
 #![tactic(auto)]
 
 mod arrangement;

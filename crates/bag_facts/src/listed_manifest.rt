@@ -10,7 +10,8 @@ use bag_tree::FileEntry;
 
 /// Whether a manifest is among files.
 pub(crate) fn has_manifest(files: &[FileEntry], kind: Kind, alg: Alg) -> bool
-    ensures { result ≡ list_any (λ file. bytes_eq file.path (tag_path (Manifest kind alg))) files.now }
+    ensures { result
+        ≡ list_any (λ file. bytes_eq file.path (tag_path (Manifest kind alg))) files.now }
 {
     files
         .iter()

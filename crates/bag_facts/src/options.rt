@@ -19,7 +19,8 @@ pub enum Depth {
 }
 
 impl Depth {
-    /// Whether a stage of the check, from 1 to 8, is looked at; the eighth has faults only where there is a profile.
+    /// Whether a stage of the check, from 1 to 8, is looked at; the eighth has faults only where
+    /// there is a profile.
     pub fn has_stage(self, stage: u8) -> bool
         ensures { result ≡ reaches self stage }
     {
@@ -41,7 +42,8 @@ pub struct Options {
 }
 
 impl Options {
-    /// Whether a tag file is read: `bagit.txt` at every depth, and the others at the depths above `Declaration`.
+    /// Whether a tag file is read: `bagit.txt` at every depth, and the others at the depths above
+    /// `Declaration`.
     pub fn wants(self, name: TagName) -> bool
         ensures { IsTrue result ↔ Wants self name }
     {

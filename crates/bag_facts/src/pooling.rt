@@ -8,7 +8,8 @@ use std::alloc::{AllocError, Global};
 /// How many paths stand in one text.
 const RUN: usize = 128;
 
-/// A listing with its paths in a few texts, and the pool of these. The memory of the paths of a run is there for the next.
+/// A listing with its paths in a few texts, and the pool of these. The memory of the paths of a run
+/// is there for the next.
 pub(crate) fn pooled(alloc: Global, listing: Listing) -> Result<(Listing, Pool), AllocError>
     ensures { IfOk result (λ pooled. pooled.0 ≡ listing) }
 {

@@ -5,9 +5,10 @@ use bag_text::Text;
 use bag_tree::{Stop, TreeFault};
 use std::alloc::Global;
 
-/// The stop of a refusal of the file at this path. Want of memory names no file.
+/// The stop of a refusal of the file at this path. Out of memory names no file.
 ///
-/// It takes no memory: whoever copies the path before the file is read tells no refusal of it as want of memory.
+/// It takes no memory: whoever copies the path before the file is read tells no refusal of it as
+/// out of memory.
 pub fn refusal_of(alloc: Global, cause: TreeFault, path: Text) -> Stop
     ensures { IsRefusalOf cause path result }
 {

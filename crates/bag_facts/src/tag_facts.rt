@@ -1,8 +1,10 @@
-//! What is known of one tag file: the declaration, the metadata, the list of files to fetch, or a manifest.
+//! What is known of one tag file: the declaration, the metadata, the list of files to fetch, or a
+//! manifest.
 ghost use Rattle.std.specs.Prelude.{◌≡◌, IfOk, ◌↔◌, IsTrue, Contains, MatchOption, Any};
 ghost use Rattle.std.specs.Option.{option_copied};
 ghost use Rattle.std.specs.List.Sorted.{IsPermutation, IsSortedByKey};
-ghost use Rattle.bag_facts.specs.TagFacts.{name_of, text_test, IsParsed, entry_paths, AreByPath, IsManifestOf, IsFetchListOf, IsMetadataOf};
+ghost use Rattle.bag_facts.specs.TagFacts.{name_of, text_test, IsParsed, entry_paths, AreByPath};
+ghost use Rattle.bag_facts.specs.TagFacts.{IsManifestOf, IsFetchListOf, IsMetadataOf};
 ghost use Rattle.std.specs.Ordering.{nat_cmp, on};
 ghost use Rattle.bag_read.specs.LineFault.{AreFaults};
 ghost use Rattle.bag_read.specs.Manifest.{IsEntry, IsManifestFault};
@@ -122,7 +124,8 @@ impl Manifest {
 
     /// Whether it names a path, found in time log n of its entries.
     pub fn names(&self, path: &Text) -> bool
-        ensures { AreByPath self.now.entries → IsTrue result ↔ Contains (entry_paths self.now.entries) path.now }
+        ensures { AreByPath self.now.entries
+            → IsTrue result ↔ Contains (entry_paths self.now.entries) path.now }
     {
         entry_at(self.entries.as_slice(), path).is_some()
     }
@@ -137,15 +140,19 @@ fn read_and_drop(
     alg: Alg,
     bytes: Vec<u8>,
 ) -> Result<Parsed<ManifestEntry>, AllocError>
-    ensures items { IfOk result (λ parsed. IsListOf (on (λ e. e.line) nat_cmp) (IsEntry rules kind alg (lines_of_file bytes.items)) parsed.items) }
-    ensures faults { IfOk result (λ parsed. AreFaults (IsManifestFault rules kind alg bytes.items) parsed.faults) }
+    ensures items { IfOk result (λ parsed.
+        IsListOf (on (λ e. e.line) nat_cmp) (IsEntry rules kind alg (lines_of_file bytes.items))
+        parsed.items) }
+    ensures faults { IfOk result (λ parsed.
+        AreFaults (IsManifestFault rules kind alg bytes.items) parsed.faults) }
 {
     read_manifest_among(alloc, known, rules, kind, alg, bytes.as_slice())
 }
 
 /// The entry of a path among entries in the order of their paths, found in time log n of these.
 pub(crate) fn entry_at<'a>(entries: &'a [ManifestEntry], path: &Text) -> Option<&'a ManifestEntry>
-    ensures { AreByPath entries.now → MatchOption (option_copied result) (¬ (Contains (entry_paths entries.now) path.now))
+    ensures { AreByPath entries.now
+        → MatchOption (option_copied result) (¬ (Contains (entry_paths entries.now) path.now))
         (λ entry. Contains entries.now entry × (entry.path ≡ path.now)) }
 {
     let Ok(place) = entries.binary_search_by(|entry| entry.path.cmp(path)) else {
@@ -154,7 +161,8 @@ pub(crate) fn entry_at<'a>(entries: &'a [ManifestEntry], path: &Text) -> Option<
     entries.get(place)
 }
 
-/// Entries in the order of their paths. Most are in order before the second sort, which then only compares neighbours.
+/// Entries in the order of their paths. Most are in order before the second sort, which then only
+/// compares neighbours.
 fn sorted_by_path(
     alloc: Global,
     entries: Items<ManifestEntry>,

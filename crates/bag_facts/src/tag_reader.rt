@@ -1,11 +1,13 @@
 //! Reads the tag files of a listing.
-ghost use Rattle.std.specs.Prelude.{◌≡◌, ◌≢◌, ◌++◌, [], IsTrue, IsUtf8, IfOk, IfErr, OnOk, OnErr, MatchOption, Contains, map};
+ghost use Rattle.std.specs.Prelude.{◌≡◌, ◌≢◌, ◌++◌, [], IsTrue, IsUtf8, IfOk, IfErr, OnOk, OnErr};
+ghost use Rattle.std.specs.Prelude.{MatchOption, Contains, map};
 ghost use Rattle.bag_read.specs.TagName.{tag_path};
-ghost use Rattle.bag_tree.specs.Calm.{RefusesNothing};
+ghost use Rattle.bag_tree.specs.NothingFailed.{NothingFailed};
 ghost use Rattle.bag_tree.specs.Listing.{IsOrdered};
 ghost use Rattle.bag_tree.specs.Tree.{Keeps, IsEntryOf, OpensAtMost};
 ghost use Rattle.bag_tree.specs.Whole.{IsRefusedAt};
-ghost use Rattle.bag_facts.specs.TagReader.{AreBytes, AreListed, AreTexts, IsWhole, ReadsWanted, StopsReading, read_path};
+ghost use Rattle.bag_facts.specs.TagReader.{AreBytes, AreFilesOfBag, PathsAreTexts, IsWhole};
+ghost use Rattle.bag_facts.specs.TagReader.{ReadsWanted, StopsReading, read_path};
 ghost use Rattle.bag_facts.specs.Wanted.{Wants, IsWanted, AreWanted, OpensFirst, OpensUpTo};
 ghost use Rattle.bag_facts.specs.declared.tag_reader.TagBytes.{TagBytes};
 
@@ -41,14 +43,20 @@ pub(crate) fn read_tag_files<T: Tree>(
 ) -> Result<Vec<TagBytes>, Stop>
     requires { IsOrdered files.now }
     ensures keeps { Keeps (T.state tree.old) (T.state tree.new) }
-    ensures calm { OnOk result (RefusesNothing (T.state tree.old) (T.state tree.new)) }
-    ensures opened { IfOk result (λ read. (T.state tree.new).openings ≡ (T.state tree.old).openings ++ map read_path read.items) }
-    ensures texts { OnOk result (AreTexts files.now) }
+    ensures no_failure { OnOk result (NothingFailed (T.state tree.old) (T.state tree.new)) }
+    ensures opened { IfOk result (λ read.
+        (T.state tree.new).openings ≡ (T.state tree.old).openings ++ map read_path read.items) }
+    ensures texts { OnOk result (PathsAreTexts files.now) }
     ensures wanted { IfOk result (λ read. AreWanted options files.now (map read_path read.items)) }
-    ensures whole { IfOk result (λ read. (file : TagBytes) → Contains read.items file → IsWhole files.now (T.state tree.old) file) }
-    ensures opened_first { OnErr result (OpensFirst options files.now (T.state tree.old) (T.state tree.new)) }
-    ensures refused { IfErr result (λ stop. stop.path ≢ [] → OpensUpTo options files.now stop.path (T.state tree.old) (T.state tree.new)) }
-    ensures stop { IfErr result (λ stop. (IsTrue (T.state tree.old).honest → AreListed (T.state tree.old).bag files.now)
+    ensures whole { IfOk result (λ read.
+        (file : TagBytes) → Contains read.items file → IsWhole files.now (T.state tree.old) file) }
+    ensures opened_first { OnErr result
+        (OpensFirst options files.now (T.state tree.old) (T.state tree.new)) }
+    ensures refused { IfErr result (λ stop.
+        stop.path ≢ [] → OpensUpTo options files.now stop.path (T.state tree.old)
+        (T.state tree.new)) }
+    ensures stop { IfErr result (λ stop.
+        (IsTrue (T.state tree.old).honest → AreFilesOfBag (T.state tree.old).bag files.now)
         → StopsReading options (T.state tree.old) (T.state tree.new) stop) }
 {
     let mut read = Vec::new(alloc);
@@ -71,19 +79,25 @@ fn read_wanted<T: Tree>(
     options: Options,
 ) -> Result<Option<TagBytes>, Stop>
     ensures keeps { Keeps (T.state tree.old) (T.state tree.new) }
-    ensures calm { OnOk result (RefusesNothing (T.state tree.old) (T.state tree.new)) }
+    ensures no_failure { OnOk result (NothingFailed (T.state tree.old) (T.state tree.new)) }
     ensures text { OnOk result (IsUtf8 entry.now.path) }
-    ensures read { IfOk result (ReadsWanted options entry.now (T.state tree.old) (T.state tree.new)) }
-    ensures opens { OnErr result (IsWanted options entry.now.path × OpensAtMost (T.state tree.old) (T.state tree.new) entry.now.path) }
+    ensures read { IfOk result
+        (ReadsWanted options entry.now (T.state tree.old) (T.state tree.new)) }
+    ensures opens { OnErr result
+        (IsWanted options entry.now.path
+        × OpensAtMost (T.state tree.old) (T.state tree.new) entry.now.path) }
     ensures refused { IfErr result (λ stop. stop.path ≢ [] → stop.path ≡ entry.now.path) }
-    ensures refused_at { IfErr result (λ stop. stop.path ≢ [] → IsRefusedAt (T.state tree.old).openings entry.now.path (T.state tree.new)) }
-    ensures stop { IfErr result (λ stop. (IsTrue (T.state tree.old).honest → IsEntryOf (T.state tree.old).bag entry.now)
+    ensures refused_at { IfErr result (λ stop.
+        stop.path ≢ [] → IsRefusedAt (T.state tree.old).openings entry.now.path
+        (T.state tree.new)) }
+    ensures stop { IfErr result (λ stop.
+        (IsTrue (T.state tree.old).honest → IsEntryOf (T.state tree.old).bag entry.now)
         → StopsReading options (T.state tree.old) (T.state tree.new) stop) }
 {
     let Some(name) = wanted_at(options, entry.path.as_str()) else {
         return Ok(None);
     };
-    // Copied before the file is read, so that its refusal isn't told as want of memory.
+    // Copied before the file is read, so that its refusal isn't reported as out of memory.
     let Ok(path) = entry.path.copy(alloc) else {
         return Err(Stop::without_path(alloc, TreeFault::Memory));
     };
@@ -95,7 +109,8 @@ fn read_wanted<T: Tree>(
 
 /// The wanted tag file that stands at a path.
 fn wanted_at(options: Options, path: &str) -> Option<TagName>
-    ensures { MatchOption result (¬ (IsWanted options path.now)) (λ name. (tag_path name ≡ path.now) × Wants options name) }
+    ensures { MatchOption result (¬ (IsWanted options path.now)) (λ name.
+        (tag_path name ≡ path.now) × Wants options name) }
 {
     let Some(name) = TagName::at(path) else {
         return None;

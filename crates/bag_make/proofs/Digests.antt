@@ -1,5 +1,7 @@
 -- A digest has the algorithm's length and lower-case digits.
-use Rattle.bag_make.proofs.Common.{◌≡◌, ℕ, ◌/◌, ◌%◌, ◌<◌, true, false, List, [], ◌∷◌, refl, arith, slice_index, list_all, agree_below_at, and_from, or_from, not_from_true, eq-eqb, All-head, All-tail, Alg, hash, digest, is_lower_hex_digit, is_bad_digest}
+use Rattle.bag_make.proofs.Common.{◌≡◌, ℕ, ◌/◌, ◌%◌, ◌<◌, true, false, List, [], ◌∷◌, refl, arith, slice_index}
+use Rattle.bag_make.proofs.Common.{list_all, agree_below_at, and_from, or_from, not_from_true, eq-eqb, All-head}
+use Rattle.bag_make.proofs.Common.{All-tail, Alg, hash, digest, is_lower_hex_digit, is_bad_digest}
 use Rattle.hex.specs.Hex.{encode_with, encode_lower, lower_digits}
 use Rattle.hex.proofs.HexLemmas.{length-encode_with}
 use Rattle.bag_tree.proofs.HashValues.{AreBytes, value}

@@ -1,5 +1,6 @@
 -- Examples of the definitions: they compute, and there is something that can be made.
-use Rattle.std.proofs.Common.{◌≡◌, ℕ, ◌^◌, ◌<◌, List, [], ◌∷◌, ◌++◌, map, length, sum_by, is_some, refl, sym, ap, ◌∙◌, subst, codes, arith}
+use Rattle.std.proofs.Common.{◌≡◌, ℕ, ◌^◌, ◌<◌, List, [], ◌∷◌, ◌++◌, map, length, sum_by, is_some, refl, sym, ap, ◌∙◌}
+use Rattle.std.proofs.Common.{subst, codes, arith}
 use Rattle.std.specs.Prelude.{All}
 use Rattle.std.specs.Char.{encode_utf8}
 use Rattle.std.specs.Fmt.{digits}
@@ -37,7 +38,8 @@ names_of_tag_files : map (λ (e : File). e.0) (new_tag_files files (Md5 ∷ Sha2
     ∷ codes "tagmanifest-md5.txt" ∷ codes "tagmanifest-sha256.txt" ∷ []
 names_of_tag_files = refl
 
-info_of_files : info_text (new_elements files (Md5 ∷ []) info) ≡ codes "Contact-Name: Ann" ++ 10 ∷ codes "Payload-Oxum: 3.2" ++ 10 ∷ []
+info_of_files : info_text (new_elements files (Md5 ∷ []) info)
+    ≡ codes "Contact-Name: Ann" ++ 10 ∷ codes "Payload-Oxum: 3.2" ++ 10 ∷ []
 unfolding digits
 info_of_files = refl
 
@@ -46,7 +48,8 @@ unfolding digits
 info_of_nothing = refl
 
 manifest_of_files : manifest Md5 (new_payload files) ≡
-    codes "900150983cd24fb0d6963f7d28e17f72  data/data/x" ++ 10 ∷ codes "d41d8cd98f00b204e9800998ecf8427e  data/y" ++ 10 ∷ []
+    codes "900150983cd24fb0d6963f7d28e17f72  data/data/x" ++ 10 ∷ codes "d41d8cd98f00b204e9800998ecf8427e  data/y"
+    ++ 10 ∷ []
 unfolding md5 block_words rounds compress hash_after digest_bytes encode_with
 manifest_of_files = refl
 
@@ -69,7 +72,9 @@ no_files = nil_from_length (files_of empty_bag) (sym (len-entries empty_bag.file
 
 info_texts : All (λ (e : NewElement). IsText e.0 × IsText e.1) info
 unfolding is_utf8 chars encode_utf8
-info_texts = All-cons (λ (e : NewElement). IsText e.0 × IsText e.1) (codes "Contact-Name", codes "Ann") [] (refl, refl) (All-nil (λ (e : NewElement). IsText e.0 × IsText e.1))
+info_texts =
+    All-cons (λ (e : NewElement). IsText e.0 × IsText e.1) (codes "Contact-Name", codes "Ann") [] (refl, refl)
+    (All-nil (λ (e : NewElement). IsText e.0 × IsText e.1))
 
 empty_can_be_made : CanMake empty_bag (Md5 ∷ []) info
 unfolding IsStrictlySortedBy

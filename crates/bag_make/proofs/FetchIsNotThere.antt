@@ -1,5 +1,6 @@
 -- Stage 4: a made bag has nothing to fetch.
-use Rattle.bag_make.proofs.Common.{arith, ◌≡◌, ℕ, List, [], Some, Alg, Code, FetchNotInManifest, Fetch, Bag, Fault, NewElement, made}
+use Rattle.bag_make.proofs.Common.{arith, ◌≡◌, ℕ, List, [], Some, Alg, Code, FetchNotInManifest, Fetch, Bag, Fault}
+use Rattle.bag_make.proofs.Common.{NewElement, made}
 use Rattle.std.specs.List.{slice_get}
 use Rattle.bag_stages.specs.FetchStage.{InFetch, FetchHolds, IsOfFetch}
 use Rattle.bag_make.proofs.Held.{no_fetch, tag_held}

@@ -1,5 +1,15 @@
 -- Which files a made bag holds, and with which bytes.
-use Rattle.bag_make.proofs.Common.{◌≡◌, ◌⊎◌, inl, inr, ℕ, true, List, [], ◌∷◌, ◌++◌, map, Option, Some, None, is_some, refl, sym, ap, ◌∙◌, subst, Contains, arith, get_or, nat_list_cmp_total, find, is_sorted, is_some-find, entries_sorted, get-entries, get-from_entries, below_all, eq_by_cmp, and_parts, All, All-append, All-contains, All-cons, name, under, text_cmp, Alg, any_from, contains_cases, contains_first, contains_behind, contains_nothing, contains_either, contains_front, contains_back, manifest_name, tag_path, Kind, Payload, Tag, TagName, Declaration, Info, Fetch, Manifest, paths_differ, Bag, Files, file, HasFile, files_of, contains_mapped, mapped_contains, one_text, text_itself, NewElement, IsNew, IsNewText, File, data_folder, new_payload, manifest, named_tag_files, declaration_file, info_file, payload_manifests, tag_manifests, new_tag_files}
+use Rattle.bag_make.proofs.Common.{◌≡◌, ◌⊎◌, inl, inr, ℕ, true, List, [], ◌∷◌, ◌++◌, map, Option, Some, None, is_some}
+use Rattle.bag_make.proofs.Common.{refl, sym, ap, ◌∙◌, subst, Contains, arith, get_or, nat_list_cmp_total, find}
+use Rattle.bag_make.proofs.Common.{is_sorted, is_some-find, entries_sorted, get-entries, get-from_entries, below_all}
+use Rattle.bag_make.proofs.Common.{eq_by_cmp, and_parts, All, All-append, All-contains, All-cons, name, under, text_cmp}
+use Rattle.bag_make.proofs.Common.{Alg, any_from, contains_cases, contains_first, contains_behind, contains_nothing}
+use Rattle.bag_make.proofs.Common.{contains_either, contains_front, contains_back, manifest_name, tag_path, Kind}
+use Rattle.bag_make.proofs.Common.{Payload, Tag, TagName, Declaration, Info, Fetch, Manifest, paths_differ, Bag, Files}
+use Rattle.bag_make.proofs.Common.{file, HasFile, files_of, contains_mapped, mapped_contains, one_text, text_itself}
+use Rattle.bag_make.proofs.Common.{NewElement, IsNew, IsNewText, File, data_folder, new_payload, manifest}
+use Rattle.bag_make.proofs.Common.{named_tag_files, declaration_file, info_file, payload_manifests, tag_manifests}
+use Rattle.bag_make.proofs.Common.{new_tag_files}
 use Rattle.std.specs.FinMap as fin
 use Rattle.std.proofs.lemmas.List.Elements.{All-map, Contains-get_or}
 use Rattle.bag_stages.proofs.PartFaults.{one_alg}
@@ -9,22 +19,26 @@ use Rattle.bag_make.specs.Made.{made}
 -- what is found in a list stands in it
 pub found : (q c : List ℕ) (es : List File) → find text_cmp q es ≡ Some c → Contains es (q, c)
 found q c [] e = cc
-found q c ((k, v) ∷ es) e = grind (arith, one_text q k, found q c es, contains_first (k, v) es, contains_behind (k, v) es (q, c))
+found q c ((k, v) ∷ es) e =
+    grind (arith, one_text q k, found q c es, contains_first (k, v) es, contains_behind (k, v) es (q, c))
 
 pub content_of : (o : Option (List ℕ)) → is_some o ≡ true → (c : List ℕ) × (o ≡ Some c)
 content_of None e = cc
 content_of (Some c) e = (c, refl)
 
 -- and what stands in it is found, where no other has its path
-found_alone : (q c : List ℕ) (es : List File) → Contains es (q, c) → ((d : List ℕ) → find text_cmp q es ≡ Some d → d ≡ c) → find text_cmp q es ≡ Some c
+found_alone : (q c : List ℕ) (es : List File) → Contains es (q, c)
+    → ((d : List ℕ) → find text_cmp q es ≡ Some d → d ≡ c) → find text_cmp q es ≡ Some c
 found_alone q c es h one =
     let key = λ (e : File). e.0 in
     let some = content_of (find text_cmp q es)
-    (is_some-find text_cmp q es ∙ any_from (eq_by_cmp text_cmp q) (map key es) q (mapped_contains key es (q, c) h) (text_itself q)) in
+    (is_some-find text_cmp q es
+    ∙ any_from (eq_by_cmp text_cmp q) (map key es) q (mapped_contains key es (q, c) h) (text_itself q)) in
     some.1 ∙ ap Some (one some.0 some.1)
 
 -- in an ordered list a path stands once
-in_order : (p c : List ℕ) (es : List File) → is_sorted text_cmp es ≡ true → Contains es (p, c) → find text_cmp p es ≡ Some c
+in_order : (p c : List ℕ) (es : List File) → is_sorted text_cmp es ≡ true → Contains es (p, c)
+    → find text_cmp p es ≡ Some c
 in_order p c [] up h = absurd (contains_nothing (p, c) h)
 in_order p c ((k, v) ∷ es) up h =
     let two = and_parts (below_all text_cmp k es) (is_sorted text_cmp es) up in
@@ -62,7 +76,8 @@ module _ (bag : Bag) (algs : List Alg) (info : List NewElement) where
   unfolding made
   held q = get-from_entries nat_list_cmp_total all q
 
-  stands : (q c : List ℕ) → Contains all (q, c) → ((d : List ℕ) → file (made bag algs info) q ≡ Some d → d ≡ c) → file (made bag algs info) q ≡ Some c
+  stands : (q c : List ℕ) → Contains all (q, c) → ((d : List ℕ) → file (made bag algs info) q ≡ Some d → d ≡ c)
+      → file (made bag algs info) q ≡ Some c
   stands q c h one = held q ∙ found_alone q c all h (λ d e. one d (held q ∙ e))
 
   abbrev InPayload : List ℕ → List ℕ → Type 0
@@ -88,25 +103,32 @@ module _ (bag : Bag) (algs : List Alg) (info : List NewElement) where
   pub named_tag : (q c : List ℕ) → Contains (named_tag_files files algs info) (q, c) → IsNew bag algs info q c
   named_tag q c h =
       All-contains IsNewFile (named_tag_files files algs info) (q, c)
-      (All-cons IsNewFile (info_file files algs info) (declaration_file files algs info ∷ payload_manifests files algs info) (Info, refl, refl)
-      (All-cons IsNewFile (declaration_file files algs info) (payload_manifests files algs info) (Declaration, refl, refl) payload_new)) h
+      (All-cons IsNewFile (info_file files algs info)
+      (declaration_file files algs info ∷ payload_manifests files algs info) (Info, refl, refl)
+      (All-cons IsNewFile (declaration_file files algs info) (payload_manifests files algs info)
+      (Declaration, refl, refl) payload_new)) h
 
   pub tag_member : (q c : List ℕ) → Contains (new_tag_files files algs info) (q, c) → IsNew bag algs info q c
   tag_member q c h =
-      let of_tags = All-map IsNewFile (λ alg. (tag_path (Manifest Tag alg), manifest alg (named_tag_files files algs info))) algs
+      let of_tags =
+      All-map IsNewFile (λ alg. (tag_path (Manifest Tag alg), manifest alg (named_tag_files files algs info))) algs
       (λ k d lt. (Manifest Tag (get_or algs k d), refl, (Contains-get_or algs k d lt, refl))) in
       All-contains IsNewFile (new_tag_files files algs info) (q, c)
-      (All-cons IsNewFile (declaration_file files algs info) (info_file files algs info ∷ manifests) (Declaration, refl, refl)
+      (All-cons IsNewFile (declaration_file files algs info) (info_file files algs info ∷ manifests)
+      (Declaration, refl, refl)
       (All-cons IsNewFile (info_file files algs info) manifests (Info, refl, refl)
       (All-append IsNewFile (payload_manifests files algs info) (tag_manifests files algs info) payload_new of_tags))) h
 
   pub held_is : (q c : List ℕ) → file (made bag algs info) q ≡ Some c → InPayload q c ⊎ IsNew bag algs info q c
   held_is q c e =
-      let either = contains_either (new_payload files) (new_tag_files files algs info) (q, c) (found q c all (sym (held q) ∙ e)) in
+      let either =
+      contains_either (new_payload files) (new_tag_files files algs info) (q, c) (found q c all (sym (held q) ∙ e))
+      in
       elim either [ inl a ↦ inl (payload_member q c a) | inr b ↦ inr (tag_member q c b) ]
 
   -- a tag file of the made bag has its text
-  pub tag_held : (tag : TagName) (c : List ℕ) → file (made bag algs info) (tag_path tag) ≡ Some c → IsNewText bag algs info tag c
+  pub tag_held : (tag : TagName) (c : List ℕ) → file (made bag algs info) (tag_path tag) ≡ Some c
+      → IsNewText bag algs info tag c
   tag_held tag c e = grind (arith, held_is, under_no_tag, paths_differ)
 
   -- a file under data/ is the folder's
@@ -114,34 +136,43 @@ module _ (bag : Bag) (algs : List Alg) (info : List NewElement) where
   payload_held p c e = grind (arith, held_is, under_no_tag)
 
   -- a tag file has one text
-  pub one_tag_text : (tag : TagName) (c d : List ℕ) → IsNewText bag algs info tag c → IsNewText bag algs info tag d → c ≡ d
+  pub one_tag_text : (tag : TagName) (c d : List ℕ) → IsNewText bag algs info tag c → IsNewText bag algs info tag d
+      → c ≡ d
   one_tag_text (Manifest Payload alg) c d h k = grind arith
   one_tag_text (Manifest Tag alg) c d h k = grind arith
   one_tag_text _ c d h k = grind arith
 
   behind : (e : File) → Contains manifests e → Contains (new_tag_files files algs info) e
   behind e h =
-      contains_behind (declaration_file files algs info) (info_file files algs info ∷ manifests) e (contains_behind (info_file files algs info) manifests e h)
+      contains_behind (declaration_file files algs info) (info_file files algs info ∷ manifests) e
+      (contains_behind (info_file files algs info) manifests e h)
 
-  tag_listed : (tag : TagName) (c : List ℕ) → IsNewText bag algs info tag c → Contains (new_tag_files files algs info) (tag_path tag, c)
-  tag_listed Declaration c h = rw h (contains_first (declaration_file files algs info) (info_file files algs info ∷ manifests))
+  tag_listed : (tag : TagName) (c : List ℕ) → IsNewText bag algs info tag c
+      → Contains (new_tag_files files algs info) (tag_path tag, c)
+  tag_listed Declaration c h =
+      rw h (contains_first (declaration_file files algs info) (info_file files algs info ∷ manifests))
   tag_listed Info c h =
-      rw h (contains_behind (declaration_file files algs info) (info_file files algs info ∷ manifests) (info_file files algs info)
+      rw h (contains_behind (declaration_file files algs info) (info_file files algs info ∷ manifests)
+      (info_file files algs info)
       (contains_first (info_file files algs info) manifests))
   tag_listed (Manifest Payload alg) c h =
       let one : File = (tag_path (Manifest Payload alg), manifest alg (new_payload files)) in
       rw h.1 (behind one (contains_front (payload_manifests files algs info) (tag_manifests files algs info) one
-      (mapped_contains {B = File} (λ alg. (tag_path (Manifest Payload alg), manifest alg (new_payload files))) algs alg h.0)))
+      (mapped_contains {B = File} (λ alg. (tag_path (Manifest Payload alg), manifest alg (new_payload files))) algs alg
+      h.0)))
   tag_listed (Manifest Tag alg) c h =
       let one : File = (tag_path (Manifest Tag alg), manifest alg (named_tag_files files algs info)) in
       rw h.1 (behind one (contains_back (payload_manifests files algs info) (tag_manifests files algs info) one
-      (mapped_contains {B = File} (λ alg. (tag_path (Manifest Tag alg), manifest alg (named_tag_files files algs info))) algs alg h.0)))
+      (mapped_contains {B = File} (λ alg. (tag_path (Manifest Tag alg), manifest alg (named_tag_files files algs info)))
+      algs alg h.0)))
   tag_listed _ c h = absurd h
 
   -- the tag files stand there
-  pub tag_there : (tag : TagName) (c : List ℕ) → IsNewText bag algs info tag c → file (made bag algs info) (tag_path tag) ≡ Some c
+  pub tag_there : (tag : TagName) (c : List ℕ) → IsNewText bag algs info tag c
+      → file (made bag algs info) (tag_path tag) ≡ Some c
   tag_there tag c h =
-      stands (tag_path tag) c (contains_back (new_payload files) (new_tag_files files algs info) (tag_path tag, c) (tag_listed tag c h))
+      stands (tag_path tag) c
+      (contains_back (new_payload files) (new_tag_files files algs info) (tag_path tag, c) (tag_listed tag c h))
       (λ d e. one_tag_text tag d c (tag_held tag d e) h)
 
   -- and the folder's files under data/
@@ -157,5 +188,6 @@ module _ (bag : Bag) (algs : List Alg) (info : List NewElement) where
   no_fetch = none_by (file (made bag algs info) (tag_path Fetch)) (tag_held Fetch)
 
   -- its manifests are of its algorithms, whatever the form of their names
-  pub manifest_is : (kind : Kind) (alg : List ℕ) → HasFile (made bag algs info) (manifest_name kind alg) → (a : Alg) × (alg ≡ name a) × Contains algs a
+  pub manifest_is : (kind : Kind) (alg : List ℕ) → HasFile (made bag algs info) (manifest_name kind alg)
+      → (a : Alg) × (alg ≡ name a) × Contains algs a
   manifest_is kind alg has = grind (arith, content_of, held_is, one_alg)

@@ -1,18 +1,26 @@
 -- What making a bag leaves.
-use Rattle.bag_make.proofs.Common.{arith, ◌≡◌, inl, inr, ◌++◌, List, false, IsTrue, map, All, false_from_ne_true, rank_cmp, Alg, IsBag, files_of, TreeState, Keeps, NewElement, File, MadeIsValid, CanAsk, CanTell, HasMade, HasNoFault, Leaves, MayRefuseMaking, is_in_the_way, steps, AreTexts, HasLeft, HasTaken, MakeFault, Step, Create}
+use Rattle.bag_make.proofs.Common.{arith, ◌≡◌, inl, inr, ◌++◌, List, false, IsTrue, map, All, false_from_ne_true}
+use Rattle.bag_make.proofs.Common.{rank_cmp, Alg, IsBag, files_of, TreeState, Keeps, NewElement, File, MadeIsValid}
+use Rattle.bag_make.proofs.Common.{CanAsk, HasKnownSize, HasMade, HasNoFault, Leaves, MayRefuseMaking, is_in_the_way}
+use Rattle.bag_make.proofs.Common.{steps, AreTexts, HasLeft, HasTaken, MakeFault, Step, Create}
 use Rattle.std.specs.List.Sorted.{IsStrictlySortedBy}
 use Rattle.bag_make.specs.declared.fault.MakeFault.TheVariants as fault_of
 use Rattle.bag_make.proofs.StepsMake.{steps_make}
 
-module _ (algs : List Alg) (info : List NewElement) (old mid new : TreeState) (planned : List Step) (is_bag : IsBag old.bag) (keeps : Keeps old mid)
-    (are : IsTrue old.honest → (planned ≡ steps old.bag algs info) × (is_in_the_way old.bag ≡ false)) (taken : HasTaken planned mid new) where
+module _ (algs : List Alg) (info : List NewElement) (old mid new : TreeState) (planned : List Step)
+    (is_bag : IsBag old.bag) (keeps : Keeps old mid)
+    (are : IsTrue old.honest → (planned ≡ steps old.bag algs info) × (is_in_the_way old.bag ≡ false))
+    (taken : HasTaken planned mid new) where
   -- all steps make the bag
-  pub has_made : CanAsk algs info → All AreTexts info → IsStrictlySortedBy rank_cmp algs → (IsTrue old.honest → IsTrue old.plain) → mid.failures ≡ old.failures
-      → (IsTrue old.honest → mid.openings ≡ old.openings ++ map (λ (e : File). e.0) (files_of old.bag)) → HasMade algs info old new
-  has_made asked texts ascend plain calm opened = grind (arith, steps_make, false_from_ne_true)
+  pub has_made : CanAsk algs info → All AreTexts info → IsStrictlySortedBy rank_cmp algs
+      → (IsTrue old.honest → IsTrue old.plain) → mid.failures ≡ old.failures
+      → (IsTrue old.honest → mid.openings ≡ old.openings ++ map (λ (e : File). e.0) (files_of old.bag))
+      → HasMade algs info old new
+  has_made asked texts ascend plain no_failure opened = grind (arith, steps_make, false_from_ne_true)
 
 -- and it has no fault
-pub made_has_no_fault : MadeIsValid → (algs : List Alg) (info : List NewElement) (old new : TreeState) → IsBag old.bag → HasMade algs info old new → IsTrue old.honest → CanTell old.bag
+pub made_has_no_fault : MadeIsValid → (algs : List Alg) (info : List NewElement) (old new : TreeState) → IsBag old.bag
+    → HasMade algs info old new → IsTrue old.honest → HasKnownSize old.bag
     → HasNoFault new.bag
 made_has_no_fault law algs info old new is_bag h honest can = grind arith
 
@@ -23,7 +31,8 @@ opens_nothing (Create name bytes) before new (inr left) = left.begun.openings
 opens_nothing _ before new left = left.openings
 
 -- where it was refused before a step
-pub leaves_bag : (algs : List Alg) (info : List NewElement) (old new : TreeState) (fault : MakeFault) → MayRefuseMaking algs info old new fault → IsTrue old.honest → Leaves algs info old.bag new.bag fault
+pub leaves_bag : (algs : List Alg) (info : List NewElement) (old new : TreeState) (fault : MakeFault)
+    → MayRefuseMaking algs info old new fault → IsTrue old.honest → Leaves algs info old.bag new.bag fault
 leaves_bag algs info old new fault_of.InTheWay h honest = h.1.keeps.bag
 leaves_bag algs info old new (fault_of.StepRefused place cause) (asked, h) honest = grind arith
 leaves_bag algs info old new _ h honest = h.1.bag

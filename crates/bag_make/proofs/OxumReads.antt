@@ -1,5 +1,12 @@
 -- The size of a payload that is written is read again.
-use Rattle.bag_make.proofs.Common.{◌≡◌, ℕ, zero, suc, ◌+◌, ◌-◌, ◌<◌, ◌^◌, Bool, true, false, not, List, [], ◌∷◌, ◌++◌, length, take, drop, reverse, get_or, nat_lt, Some, refl, sym, ap, ◌∙◌, arith, codes, bytes_eq, append_assoc, list_all, list_any, suffix_len, before_first, after_first, position_or_len, and_from, lt-ltb, not_from_false, false_from_ne_true, lit<, or_from, or_parts, both_ways, nat_tests, get_or-reverse, take_all, list_any-append, prefix_len_passes, suffix_len-le-length, prefix_len-le-length, bytes_eq-Decides, IsAscii-append, IsUtf8-from_ascii, is_utf8-from_IsUtf8, IsText, is_blank, trim, Oxum, both_true, oxum_text, is_bad_value}
+use Rattle.bag_make.proofs.Common.{◌≡◌, ℕ, zero, suc, ◌+◌, ◌-◌, ◌<◌, ◌^◌, Bool, true, false, not, List, [], ◌∷◌, ◌++◌}
+use Rattle.bag_make.proofs.Common.{length, take, drop, reverse, get_or, nat_lt, Some, refl, sym, ap, ◌∙◌, arith, codes}
+use Rattle.bag_make.proofs.Common.{bytes_eq, append_assoc, list_all, list_any, suffix_len, before_first, after_first}
+use Rattle.bag_make.proofs.Common.{position_or_len, and_from, lt-ltb, not_from_false, false_from_ne_true, lit<, or_from}
+use Rattle.bag_make.proofs.Common.{or_parts, both_ways, nat_tests, get_or-reverse, take_all, list_any-append}
+use Rattle.bag_make.proofs.Common.{prefix_len_passes, suffix_len-le-length, prefix_len-le-length, bytes_eq-Decides}
+use Rattle.bag_make.proofs.Common.{IsAscii-append, IsUtf8-from_ascii, is_utf8-from_IsUtf8, IsText, is_blank, trim, Oxum}
+use Rattle.bag_make.proofs.Common.{both_true, oxum_text, is_bad_value}
 use Rattle.std.specs.Char.{is_ascii_digit}
 use Rattle.std.specs.Fmt.{decimal}
 use Rattle.std.specs.Str.{all_ascii_digits}
@@ -24,14 +31,16 @@ module _ (p : ℕ → Bool) (t : List ℕ) (none : list_any p t ≡ false) where
       let within : 0 < length t = omega (arith, suffix_len-le-length p t) in
       let passes : p (get_or (reverse t) 0 0) ≡ true = prefix_len_passes p (reverse t) 0 0 (omega arith) in
       let at : get_or (reverse t) 0 0 ≡ get_or t (length t - 1 - 0) 0 = get_or-reverse t 0 0 within in
-      absurd (both_ways (p (get_or t (length t - 1 - 0) 0)) (none_at p t (length t - 1 - 0) none (omega arith)) (ap p (sym at) ∙ passes))
+      absurd (both_ways (p (get_or t (length t - 1 - 0) 0)) (none_at p t (length t - 1 - 0) none (omega arith))
+      (ap p (sym at) ∙ passes))
 
 stays_whole : (t : List ℕ) → list_any is_blank t ≡ false → trim t ≡ t
 stays_whole t none = grind (arith, no_back, take_all, prefix_len_passes, both_ways, none_at, prefix_len-le-length)
 
 -- ---- digits
 
-no_digit : (test : ℕ → Bool) → ((c : ℕ) → is_ascii_digit c ≡ true → test c ≡ false) → (t : List ℕ) → all_ascii_digits t ≡ true → list_any test t ≡ false
+no_digit : (test : ℕ → Bool) → ((c : ℕ) → is_ascii_digit c ≡ true → test c ≡ false) → (t : List ℕ)
+    → all_ascii_digits t ≡ true → list_any test t ≡ false
 no_digit test h [] e = refl
 no_digit test h (c ∷ t) e =
     let two = both_true (is_ascii_digit c) (all_ascii_digits t) e in
@@ -39,7 +48,15 @@ no_digit test h (c ∷ t) e =
 
 digits_no_dot : (t : List ℕ) → all_ascii_digits t ≡ true → list_all (λ c. not (is_dot c)) t ≡ true
 digits_no_dot [] e = refl
-digits_no_dot (c ∷ t) e = grind (arith, both_true (is_ascii_digit c) (all_ascii_digits t), and_from, not_from_false, nat_tests, digits_no_dot t)
+digits_no_dot (c ∷ t) e =
+    grind (
+      arith,
+      both_true (is_ascii_digit c) (all_ascii_digits t),
+      and_from,
+      not_from_false,
+      nat_tests,
+      digits_no_dot t,
+    )
 
 module _ (n : ℕ) (small : n < 2 ^ 64) where
   pub are_digits : all_ascii_digits (decimal n) ≡ true
@@ -62,10 +79,12 @@ module _ (sums : Oxum) (octets : sums.octets < 2 ^ 64) (streams : sums.streams <
   text_is = append_assoc front (codes ".") back
 
   dot_place : position_or_len is_dot (front ++ 46 ∷ back) ≡ length front
-  dot_place = front_len (λ c. not (is_dot c)) front (46 ∷ back) (digits_no_dot front (are_digits sums.octets octets)) refl
+  dot_place =
+      front_len (λ c. not (is_dot c)) front (46 ∷ back) (digits_no_dot front (are_digits sums.octets octets)) refl
 
   before : before_first is_dot (oxum_text sums) ≡ front
-  before = ap (before_first is_dot) text_is ∙ ap (λ n. take n (front ++ 46 ∷ back)) dot_place ∙ take_front front (46 ∷ back)
+  before =
+      ap (before_first is_dot) text_is ∙ ap (λ n. take n (front ++ 46 ∷ back)) dot_place ∙ take_front front (46 ∷ back)
 
   drop_past : (xs : List ℕ) → drop (length xs + 1) (xs ++ 46 ∷ back) ≡ back
   drop_past [] = refl

@@ -1,5 +1,10 @@
 -- Stage 2: the parts of a made bag are there, and its algorithms are supported.
-use Rattle.bag_make.proofs.Common.{arith, ◌≡◌, ◌≢◌, ℕ, true, false, List, [], ◌∷◌, is_some, refl, sym, ap, ◌∙◌, subst, Contains, nat_list_cmp_total, contains-insert, eq_by_cmp, or_left, name, text_cmp, IsNoText, Alg, Code, NoPayloadFolder, NoPayloadManifest, AlgorithmUnsupported, NotUtf8, contains_first, Payload, TagName, Declaration, Info, Fetch, Manifest, name_named, name_is_text, Bag, file, has_folder, text_itself, Fault, NewElement, InfoIsReadAgain, ManifestIsReadAgain, entries_of, data_folder, CanMake, IsNewText}
+use Rattle.bag_make.proofs.Common.{arith, ◌≡◌, ◌≢◌, ℕ, true, false, List, [], ◌∷◌, is_some, refl, sym, ap, ◌∙◌, subst}
+use Rattle.bag_make.proofs.Common.{Contains, nat_list_cmp_total, contains-insert, eq_by_cmp, or_left, name, text_cmp}
+use Rattle.bag_make.proofs.Common.{IsNoText, Alg, Code, NoPayloadFolder, NoPayloadManifest, AlgorithmUnsupported}
+use Rattle.bag_make.proofs.Common.{NotUtf8, contains_first, Payload, TagName, Declaration, Info, Fetch, Manifest}
+use Rattle.bag_make.proofs.Common.{name_named, name_is_text, Bag, file, has_folder, text_itself, Fault, NewElement}
+use Rattle.bag_make.proofs.Common.{InfoIsReadAgain, ManifestIsReadAgain, entries_of, data_folder, CanMake, IsNewText}
 use Rattle.bag_stages.specs.PartsStage.{PartHolds, IsOfParts}
 use Rattle.bag_read.specs.LineFault.{not_utf8}
 use Rattle.bag_make.specs.Made.{made}
@@ -22,12 +27,14 @@ module _ (bag : Bag) (algs : List Alg) (info : List NewElement) where
     is_text : (tag : TagName) (c : List ℕ) → tag ≢ Declaration → IsNewText bag algs info tag c → IsNoText c → ⊥
     is_text Declaration c other h bad = other refl
     is_text Info c other h bad =
-        (info_read (elements bag algs info can) (elements_text bag algs info can) (elements_good bag algs info can)).1 not_utf8 (refl, refl, subst IsNoText h bad)
+        (info_read (elements bag algs info can) (elements_text bag algs info can) (elements_good bag algs info can)).1
+        not_utf8 (refl, refl, subst IsNoText h bad)
     is_text Fetch c other h bad = h
     is_text (Manifest kind alg) c other h bad =
         let held = holds_manifest bag algs info kind alg c h in
         let written = writable bag algs info can kind alg in
-        (manifest_read kind alg (entries_of alg (listed bag algs info kind)) written.0 written.1).1 not_utf8 (refl, refl, subst IsNoText held.1 bad)
+        (manifest_read kind alg (entries_of alg (listed bag algs info kind)) written.0 written.1).1 not_utf8
+        (refl, refl, subst IsNoText held.1 bad)
 
     module _ (f : Fault) where
       by_code : (code : Code) → PartHolds (made bag algs info) f code → ⊥

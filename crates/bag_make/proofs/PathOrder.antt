@@ -1,6 +1,8 @@
 -- What manifests name is in path order.
 use Rattle.std.proofs.Common.{arith}
-use Rattle.bag_make.proofs.Common.{◌≡◌, ℕ, List, [], ◌∷◌, map, refl, ◌∙◌, entries_sorted, AllByRecursion, Less, rank_cmp, text_cmp, Alg, tag_path, Payload, Declaration, Info, Manifest, files_of, AreInPathOrder, ManifestsAscend, File, new_payload, manifest}
+use Rattle.bag_make.proofs.Common.{◌≡◌, ℕ, List, [], ◌∷◌, map, refl, ◌∙◌, entries_sorted, AllByRecursion, Less}
+use Rattle.bag_make.proofs.Common.{rank_cmp, text_cmp, Alg, tag_path, Payload, Declaration, Info, Manifest, files_of}
+use Rattle.bag_make.proofs.Common.{AreInPathOrder, ManifestsAscend, File, new_payload, manifest}
 use Rattle.std.specs.List.Sorted.{IsStrictlySortedBy}
 use Rattle.bag_tree.proofs.PathEntries.{t_true}
 use Rattle.bag_make.proofs.PayloadIsTheFolder.{sorted_payload}
@@ -13,11 +15,13 @@ module _ (text : Alg → List ℕ) where
   abbrev manifests : List Alg → List File
   manifests algs = map (λ alg. (path_of alg, text alg)) algs
 
-  above : (q : List ℕ) (algs : List Alg) → ((alg : Alg) → text_cmp q (path_of alg) ≡ Less) → AllByRecursion (λ p. text_cmp q p ≡ Less) (map (λ (e : File). e.0) (manifests algs))
+  above : (q : List ℕ) (algs : List Alg) → ((alg : Alg) → text_cmp q (path_of alg) ≡ Less)
+      → AllByRecursion (λ p. text_cmp q p ≡ Less) (map (λ (e : File). e.0) (manifests algs))
   above q [] h = tt
   above q (alg ∷ algs) h = (h alg, above q algs h)
 
-  above_manifest : (a : Alg) (algs : List Alg) → AllByRecursion (λ b. rank_cmp a b ≡ Less) algs → AllByRecursion (λ p. text_cmp (path_of a) p ≡ Less) (map (λ (e : File). e.0) (manifests algs))
+  above_manifest : (a : Alg) (algs : List Alg) → AllByRecursion (λ b. rank_cmp a b ≡ Less) algs
+      → AllByRecursion (λ p. text_cmp (path_of a) p ≡ Less) (map (λ (e : File). e.0) (manifests algs))
   above_manifest a [] up = tt
   above_manifest a (b ∷ algs) up = grind (arith, above_manifest a algs up.1)
 

@@ -1,5 +1,16 @@
 -- What a making outlasts.
-use Rattle.bag_make.proofs.Common.{arith, ◌≡◌, ◌≢◌, ◌++◌, ◌∷◌, ◌-◌, ◌⊎◌, inl, inr, ℕ, true, false, cond, List, [], Some, is_some, IsTrue, get_or, map, refl, sym, ap, ◌∙◌, subst, append-nil, bytes_eq, bytes_eq-Decides, eq_by_cmp, false≢true, false_from_ne_true, first-under, first_component, fold-append, get-insert, get_or_from_slice_get, list_any, nat_list_cmp_total, one_text, or_left, or_right, slice_get_within, text_cmp, text_itself, each_from_members, AllByRecursion, Less, in_base, is_base_name, tag_path, TagName, Declaration, Info, Fetch, Manifest, Payload, Tag, under, Alg, Bag, IsBag, TreeState, Keeps, NewElement, File, MayLeave, Adds, EachCut, LeavesOnly, create, make_folder, new_tag_files, file, files_of, has_file, has_folder, data_folder, new_folder, is_in_the_way, MoveIn, Rename, Step, new_file, steps, steps_for, tops, change, after_steps, CanTakeAll, HasTaken, HasAllFiles, OutlastsCuts, LastsForGood, AllAsk}
+use Rattle.bag_make.proofs.Common.{arith, ◌≡◌, ◌≢◌, ◌++◌, ◌∷◌, ◌-◌, ◌⊎◌, inl, inr, ℕ, true, false, cond, List, [], Some}
+use Rattle.bag_make.proofs.Common.{is_some, IsTrue, get_or, map, refl, sym, ap, ◌∙◌, subst, append-nil, bytes_eq}
+use Rattle.bag_make.proofs.Common.{bytes_eq-Decides, eq_by_cmp, false≢true, false_from_ne_true, first-under}
+use Rattle.bag_make.proofs.Common.{first_component, fold-append, get-insert, get_or_from_slice_get, list_any}
+use Rattle.bag_make.proofs.Common.{nat_list_cmp_total, one_text, or_left, or_right, slice_get_within, text_cmp}
+use Rattle.bag_make.proofs.Common.{text_itself, each_from_members, AllByRecursion, Less, in_base, is_base_name}
+use Rattle.bag_make.proofs.Common.{tag_path, TagName, Declaration, Info, Fetch, Manifest, Payload, Tag, under, Alg, Bag}
+use Rattle.bag_make.proofs.Common.{IsBag, TreeState, Keeps, NewElement, File, MayLeave, Adds, EachCut, LeavesOnly}
+use Rattle.bag_make.proofs.Common.{create, make_folder, new_tag_files, file, files_of, has_file, has_folder}
+use Rattle.bag_make.proofs.Common.{data_folder, new_folder, is_in_the_way, MoveIn, Rename, Step, new_file, steps}
+use Rattle.bag_make.proofs.Common.{steps_for, tops, change, after_steps, CanTakeAll, HasTaken, HasAllFiles}
+use Rattle.bag_make.proofs.Common.{OutlastsCuts, LastsForGood, AllAsk}
 use Rattle.std.proofs.Common.{is_eq}
 use Rattle.std.specs.List.Sorted.{IsStrictlySortedBy}
 use Rattle.bag_tree.proofs.Parents.{base_not_under}
@@ -10,7 +21,8 @@ use Rattle.bag_make.specs.Steps.{HasStopped}
 use Rattle.bag_make.specs.declared.step.Refusal.{Refusal}
 use Rattle.bag_make.proofs.Asking.{SomeAsk, adds_refused, all_is_some}
 use Rattle.bag_make.proofs.Held.{tag_member}
-use Rattle.bag_make.proofs.Outlasting.{AreDistinct, AreFree, AreTagFiles, CanBeMadeBy, all_made, at_the_end, data_placed, each_moment, named_by}
+use Rattle.bag_make.proofs.Outlasting.{AreDistinct, AreFree, AreTagFiles, CanBeMadeBy, all_made, at_the_end}
+use Rattle.bag_make.proofs.Outlasting.{data_placed, each_moment, named_by}
 use Rattle.bag_make.proofs.Phases.{IsTagName, itself_whole, none_there}
 use Rattle.bag_make.proofs.StepsMake.{each_is_moved, names_are_tops, names_in_order, steps_make}
 
@@ -26,14 +38,17 @@ nothing_asked bag old new same = record {
   since = [];
   trail = same ∙ sym (append-nil old);
   each = λ first durable before after parts left may.
-      let trail_is : old ++ before ≡ old = ap (λ (xs : List DeviceEvent). old ++ xs) (none_before before after parts) ∙ append-nil old in
-      let left_is : left ≡ bag = durable left (subst (λ (xs : List DeviceEvent). MayLeave xs first left) trail_is may) in
+      let trail_is : old ++ before ≡ old =
+      ap (λ (xs : List DeviceEvent). old ++ xs) (none_before before after parts) ∙ append-nil old in
+      let left_is : left ≡ bag =
+      durable left (subst (λ (xs : List DeviceEvent). MayLeave xs first left) trail_is may) in
       subst (HasAllFiles bag) (sym left_is) (itself_whole bag);
 }
 
 module _ (bag : Bag) (names : List (List ℕ)) (old new : List DeviceEvent) where
   -- at each moment, whether a step was refused or not
-  outlasts : (tags : List File) → CanBeMadeBy bag names tags → Adds (SomeAsk (steps_for names tags)) old new → EachCut old new bag (HasAllFiles bag)
+  outlasts : (tags : List File) → CanBeMadeBy bag names tags → Adds (SomeAsk (steps_for names tags)) old new
+      → EachCut old new bag (HasAllFiles bag)
   outlasts tags can some = record {
     since = some.now;
     trail = some.trail;
@@ -44,19 +59,24 @@ module _ (bag : Bag) (names : List (List ℕ)) (old new : List DeviceEvent) wher
   }
 
   -- and after all steps
-  lasts : (e : File) (more : List File) → CanBeMadeBy bag names (e ∷ more) → AreFree (e ∷ more) (named_by bag names) → Adds (AllAsk (steps_for names (e ∷ more))) old new
+  lasts : (e : File) (more : List File) → CanBeMadeBy bag names (e ∷ more) → AreFree (e ∷ more) (named_by bag names)
+      → Adds (AllAsk (steps_for names (e ∷ more))) old new
       → LeavesOnly old new bag (after_steps (steps_for names (e ∷ more)) bag)
   lasts e more can are_free asked first durable left may =
-      let between = left_between old asked.now first left (subst (λ (xs : List DeviceEvent). MayLeave xs first left) asked.trail may) in
+      let between =
+      left_between old asked.now first left
+      (subst (λ (xs : List DeviceEvent). MayLeave xs first left) asked.trail may) in
       at_the_end bag names e more can old asked.now asked.is left
       (subst (λ d. MayLeave asked.now d left) (durable between.0 between.1) between.2)
       ∙ all_made (e ∷ more) (named_by bag names) are_free
-      ∙ sym (fold-append (λ b step. change step b) (make_folder new_folder bag) (map MoveIn names) (Rename ∷ map new_file (e ∷ more)))
+      ∙ sym (fold-append (λ b step. change step b) (make_folder new_folder bag) (map MoveIn names)
+      (Rename ∷ map new_file (e ∷ more)))
 
 -- ---- a bag can be made by its steps
 
 -- the names that are moved are distinct
-other_names : (name : List ℕ) (names : List (List ℕ)) → AllByRecursion (λ other. text_cmp name other ≡ Less) names → list_any (bytes_eq name) names ≡ false
+other_names : (name : List ℕ) (names : List (List ℕ)) → AllByRecursion (λ other. text_cmp name other ≡ Less) names
+    → list_any (bytes_eq name) names ≡ false
 other_names name [] less = refl
 other_names name (other ∷ names) less =
     let apart : bytes_eq name other ≡ false = false_from_ne_true _ (λ same.
@@ -71,11 +91,31 @@ are_distinct (name ∷ names) sorted = (other_names name names sorted.0, are_dis
 
 -- no tag file has the name of one of the two folders
 tag_starts : (tag : TagName) → (tag_path tag ≢ new_folder) × (tag_path tag ≢ data_folder)
-tag_starts (Manifest Payload alg) = (λ same. absurd (omega (arith, ap (λ t. get_or t 0 0) same)), λ same. absurd (omega (arith, ap (λ t. get_or t 0 0) same)))
-tag_starts (Manifest Tag alg) = (λ same. absurd (omega (arith, ap (λ t. get_or t 0 0) same)), λ same. absurd (omega (arith, ap (λ t. get_or t 0 0) same)))
-tag_starts Declaration = (λ same. absurd (omega (arith, ap (λ t. get_or t 0 0) same)), λ same. absurd (omega (arith, ap (λ t. get_or t 0 0) same)))
-tag_starts Info = (λ same. absurd (omega (arith, ap (λ t. get_or t 0 0) same)), λ same. absurd (omega (arith, ap (λ t. get_or t 0 0) same)))
-tag_starts Fetch = (λ same. absurd (omega (arith, ap (λ t. get_or t 0 0) same)), λ same. absurd (omega (arith, ap (λ t. get_or t 0 0) same)))
+tag_starts (Manifest Payload alg) = (
+  λ same. absurd (omega (arith, ap (λ t. get_or t 0 0) same)),
+  λ same.
+      absurd (omega (arith, ap (λ t. get_or t 0 0) same)),
+)
+tag_starts (Manifest Tag alg) = (
+  λ same. absurd (omega (arith, ap (λ t. get_or t 0 0) same)),
+  λ same.
+      absurd (omega (arith, ap (λ t. get_or t 0 0) same)),
+)
+tag_starts Declaration = (
+  λ same. absurd (omega (arith, ap (λ t. get_or t 0 0) same)),
+  λ same.
+      absurd (omega (arith, ap (λ t. get_or t 0 0) same)),
+)
+tag_starts Info = (
+  λ same. absurd (omega (arith, ap (λ t. get_or t 0 0) same)),
+  λ same.
+      absurd (omega (arith, ap (λ t. get_or t 0 0) same)),
+)
+tag_starts Fetch = (
+  λ same. absurd (omega (arith, ap (λ t. get_or t 0 0) same)),
+  λ same.
+      absurd (omega (arith, ap (λ t. get_or t 0 0) same)),
+)
 
 is_tag_name : (tag : TagName) → IsTagName (tag_path tag)
 is_tag_name tag = let starts = tag_starts tag in (in_base tag, starts.0, starts.1)
@@ -108,17 +148,22 @@ abbrev Stands : Bag → Type 0
 Stands b = (q c : List ℕ) → file b q ≡ Some c → (is_base_name q ≡ true) ⊎ ((p : List ℕ) × (q ≡ under data_folder p))
 
 with_one : (e : File) (b : Bag) → is_base_name e.0 ≡ true → Stands b → Stands (create e.0 e.1 b)
-with_one e b is stands q c at = elim (eq_by_cmp text_cmp q e.0) as (λ t. eq_by_cmp text_cmp q e.0 ≡ t → cond t (Some e.1) (file b q) ≡ Some c → (is_base_name q ≡ true) ⊎ ((p : List ℕ) × (q ≡ under data_folder p))) [
-  | true ↦ λ same _. inl (ap is_base_name (one_text q e.0 same) ∙ is)
-  | false ↦ λ _ old. stands q c old
-] refl (sym (get-insert nat_list_cmp_total b.files e.0 e.1 q) ∙ at)
+with_one e b is stands q c at =
+    elim (eq_by_cmp text_cmp q e.0) as
+    (λ t. eq_by_cmp text_cmp q e.0 ≡ t → cond t (Some e.1) (file b q) ≡ Some c
+    → (is_base_name q ≡ true) ⊎ ((p : List ℕ) × (q ≡ under data_folder p))) [
+      | true ↦ λ same _. inl (ap is_base_name (one_text q e.0 same) ∙ is)
+      | false ↦ λ _ old. stands q c old
+    ] refl (sym (get-insert nat_list_cmp_total b.files e.0 e.1 q) ∙ at)
 
 nothing_at : (name : List ℕ) (b : Bag) → IsTagName name → Stands b → has_file b name ≡ false → has_within b name ≡ false
 nothing_at name b is stands absent = none_there b name (λ q c at within. elim within [
   | inl itself ↦ false≢true (sym absent ∙ ap (has_file b) (sym itself) ∙ ap is_some at)
   | inr below ↦ elim (stands q c at) [
     | inl base ↦ base_not_under q name below.0 base below.1
-    | inr data_ ↦ is.2 (sym (first-under name below.0 is.0) ∙ ap first_component (sym below.1 ∙ data_.1) ∙ first-under data_folder data_.0 refl)
+    | inr data_ ↦ is.2
+        (sym (first-under name below.0 is.0) ∙ ap first_component (sym below.1 ∙ data_.1)
+        ∙ first-under data_folder data_.0 refl)
   ]
 ])
 
@@ -126,20 +171,27 @@ are_free : (es : List File) (b : Bag) → AreTagFiles es → Stands b → CanTak
 are_free [] b names_are stands can = tt
 are_free (e ∷ es) b names_are stands can =
     let absent : has_file b e.0 ≡ false = false_from_ne_true _ (λ there. can.0 (or_left _ (has_folder b e.0) there)) in
-    let no_folder : has_folder b e.0 ≡ false = false_from_ne_true _ (λ there. can.0 (or_right (has_file b e.0) _ there)) in
-    (nothing_at e.0 b names_are.0 stands absent, no_folder, are_free es (create e.0 e.1 b) names_are.1 (with_one e b names_are.0.0 stands) can.1)
+    let no_folder : has_folder b e.0 ≡ false =
+    false_from_ne_true _ (λ there. can.0 (or_right (has_file b e.0) _ there)) in (
+      nothing_at e.0 b names_are.0 stands absent,
+      no_folder,
+      are_free es (create e.0 e.1 b) names_are.1 (with_one e b names_are.0.0 stands) can.1,
+    )
 
 -- what can be taken after these steps
 can_later : (xs ys : List Step) (b : Bag) → CanTakeAll (xs ++ ys) b → CanTakeAll ys (after_steps xs b)
 can_later [] ys b can = can
 can_later (x ∷ xs) ys b can = can_later xs ys (change x b) can.1
 
-free_names : (bag : Bag) (algs : List Alg) (info : List NewElement) → (can : CanBeMadeBy bag (names bag algs info) (tags bag algs info)) → CanTakeAll (steps bag algs info) bag
+free_names : (bag : Bag) (algs : List Alg) (info : List NewElement)
+    → (can : CanBeMadeBy bag (names bag algs info) (tags bag algs info)) → CanTakeAll (steps bag algs info) bag
     → AreFree (tags bag algs info) (named_by bag (names bag algs info))
 free_names bag algs info can possible =
     let placed = data_placed bag can.free (names bag algs info) can.tops can.distinct can.all in
-    are_free (tags bag algs info) (named_by bag (names bag algs info)) can.tag_names (λ q c at. let old = placed.from q c at in inr (old.0, old.1))
-    (can_later (map MoveIn (names bag algs info)) (Rename ∷ map new_file (tags bag algs info)) (make_folder new_folder bag) possible.1).1
+    are_free (tags bag algs info) (named_by bag (names bag algs info)) can.tag_names (λ q c at.
+    let old = placed.from q c at in inr (old.0, old.1))
+    (can_later (map MoveIn (names bag algs info)) (Rename ∷ map new_file (tags bag algs info))
+    (make_folder new_folder bag) possible.1).1
 
 -- ---- the making
 
@@ -147,13 +199,15 @@ free_names bag algs info can possible =
 pub outlasts_before : (old new : TreeState) → Keeps old new → OutlastsCuts old new
 outlasts_before old new keeps honest noted = nothing_asked old.bag old.trail new.trail keeps.trail
 
-module _ (algs : List Alg) (info : List NewElement) (old mid new : TreeState) (planned : List Step) (is_bag : IsBag old.bag) (keeps : Keeps old mid)
+module _ (algs : List Alg) (info : List NewElement) (old mid new : TreeState) (planned : List Step)
+    (is_bag : IsBag old.bag) (keeps : Keeps old mid)
     (are : IsTrue old.honest → (planned ≡ steps old.bag algs info) × (is_in_the_way old.bag ≡ false)) where
   noted_mid : IsTrue old.noted → IsTrue mid.noted
   noted_mid noted = subst IsTrue (sym keeps.noted) noted
 
   -- at each moment, where the device was asked for what the planned steps ask up to one that was refused
-  outlasts_asked : IsTrue old.honest → Adds (SomeAsk planned) mid.trail new.trail → EachCut old.trail new.trail old.bag (HasAllFiles old.bag)
+  outlasts_asked : IsTrue old.honest → Adds (SomeAsk planned) mid.trail new.trail
+      → EachCut old.trail new.trail old.bag (HasAllFiles old.bag)
   outlasts_asked honest some =
       let plan = are honest in
       outlasts old.bag (names old.bag algs info) old.trail new.trail (tags old.bag algs info)
@@ -165,7 +219,8 @@ module _ (algs : List Alg) (info : List NewElement) (old mid new : TreeState) (p
   pub outlasts_all : HasTaken planned mid new → OutlastsCuts old new
   outlasts_all taken honest noted =
       let asked = taken.asked (noted_mid noted) in
-      outlasts_asked honest (record { now = asked.now; trail = asked.trail; is = all_is_some planned mid.trail asked.now asked.is })
+      outlasts_asked honest
+      (record { now = asked.now; trail = asked.trail; is = all_is_some planned mid.trail asked.now asked.is })
 
   -- or one was refused
   pub outlasts_some : (refusal : Refusal) → HasStopped planned mid new refusal → OutlastsCuts old new
@@ -173,8 +228,10 @@ module _ (algs : List Alg) (info : List NewElement) (old mid new : TreeState) (p
       let k = refusal.step - 1 in
       let noted_before : IsTrue stopped.before.noted = subst IsTrue (sym stopped.taken.noted) (noted_mid noted) in
       outlasts_asked honest
-      (adds_refused planned k stopped.step mid.trail stopped.before.trail new.trail (slice_get_within planned k stopped.step stopped.place)
-      (sym (get_or_from_slice_get planned k stopped.step stopped.step stopped.place)) (stopped.taken.asked (noted_mid noted)) (stopped.asked noted_before))
+      (adds_refused planned k stopped.step mid.trail stopped.before.trail new.trail
+      (slice_get_within planned k stopped.step stopped.place)
+      (sym (get_or_from_slice_get planned k stopped.step stopped.step stopped.place))
+      (stopped.taken.asked (noted_mid noted)) (stopped.asked noted_before))
 
   -- after all steps the bag that was made is durable
   pub lasts_for_good : HasTaken planned mid new → LastsForGood algs info old new
@@ -182,7 +239,8 @@ module _ (algs : List Alg) (info : List NewElement) (old mid new : TreeState) (p
       let plan = are honest in
       let can : CanTakeAll (steps old.bag algs info) old.bag =
       subst (CanTakeAll (steps old.bag algs info)) keeps.bag
-      (subst (λ (s : List Step). CanTakeAll s mid.bag) plan.0 (taken.possible (subst IsTrue (sym keeps.honest) honest))) in
+      (subst (λ (s : List Step). CanTakeAll s mid.bag) plan.0 (taken.possible (subst IsTrue (sym keeps.honest) honest)))
+      in
       let made = can_be_made old.bag algs info is_bag plan.1 in
       let absent : has_folder old.bag new_folder ≡ false =
       false_from_ne_true _ (λ there. can.0 (or_right (has_file old.bag new_folder) _ there)) in

@@ -1,5 +1,13 @@
 -- All steps make the bag.
-use Rattle.bag_make.proofs.Common.{arith, ◌≡◌, ℕ, inl, inr, Bool, true, false, not, ◌&&◌, ◌||◌, cond, List, [], ◌∷◌, ◌++◌, Some, map, Contains, refl, ap, sym, ◌∙◌, subst, AllByRecursion, nat_list_cmp_total, contains-insert, contains-remove, same_set, list_any, list_any-append, eq_by_cmp, bytes_eq, false_from_ne_true, fold-append, first_component, under, text_cmp, Alg, contains_either, contains_front, each_from_members, Bag, HasFile, IsBag, file, files_of, has_folder, exact_texts, one_text, NewElement, make_folder, move_in, rename_folder, create, File, data_folder, new_payload, new_tag_files, made, StepsMake, is_in_the_way, steps, tops, new_folder, after_steps, MoveIn, Create}
+use Rattle.bag_make.proofs.Common.{arith, ◌≡◌, ℕ, inl, inr, Bool, true, false, not, ◌&&◌, ◌||◌, cond, List, [], ◌∷◌}
+use Rattle.bag_make.proofs.Common.{◌++◌, Some, map, Contains, refl, ap, sym, ◌∙◌, subst, AllByRecursion}
+use Rattle.bag_make.proofs.Common.{nat_list_cmp_total, contains-insert, contains-remove, same_set, list_any}
+use Rattle.bag_make.proofs.Common.{list_any-append, eq_by_cmp, bytes_eq, false_from_ne_true, fold-append}
+use Rattle.bag_make.proofs.Common.{first_component, under, text_cmp, Alg, contains_either, contains_front}
+use Rattle.bag_make.proofs.Common.{each_from_members, Bag, HasFile, IsBag, file, files_of, has_folder, exact_texts}
+use Rattle.bag_make.proofs.Common.{one_text, NewElement, make_folder, move_in, rename_folder, create, File, data_folder}
+use Rattle.bag_make.proofs.Common.{new_payload, new_tag_files, made, StepsMake, is_in_the_way, steps, tops, new_folder}
+use Rattle.bag_make.proofs.Common.{after_steps, MoveIn, Create}
 use Rattle.std.specs.FinMap as fin
 use Rattle.std.specs.FinSet as set
 use Rattle.std.specs.Cmp.Lexicographic.{nat_list_eq_equiv, texts_ties}
@@ -14,17 +22,22 @@ use Rattle.bag_make.proofs.PutFiles.{put_at, from_put, to_put, same_files}
 
 -- the folders that are left
 moved_folders : (names : List (List ℕ)) (b : Bag) (q : List ℕ)
-    → set.contains (after_steps (map MoveIn names) b).folders q ≡ (not (list_any (eq_by_cmp text_cmp q) names) && set.contains b.folders q)
+    → set.contains (after_steps (map MoveIn names) b).folders q
+    ≡ (not (list_any (eq_by_cmp text_cmp q) names) && set.contains b.folders q)
 moved_folders [] b q = refl
-moved_folders (top ∷ names) b q = grind (arith, moved_folders names (move_in top new_folder b) q, contains-remove nat_list_cmp_total b.folders top q)
+moved_folders (top ∷ names) b q =
+    grind (arith, moved_folders names (move_in top new_folder b) q, contains-remove nat_list_cmp_total b.folders top q)
 
 -- the tag files that are made
-created : (es : List File) (b : Bag) → after_steps (map (λ (e : File). Create e.0 e.1) es) b ≡ record { files = put_at (λ p. p) b.files es; folders = b.folders }
+created : (es : List File) (b : Bag)
+    → after_steps (map (λ (e : File). Create e.0 e.1) es) b
+    ≡ record { files = put_at (λ p. p) b.files es; folders = b.folders }
 created [] b = refl
 created (e ∷ es) b = created es (create e.0 e.1 b)
 
 -- a folder is left where it was there and none of its files, or is data
-agree : (new payload first also has : Bool) → (new ≡ true → payload ≡ false) → (new ≡ true → has ≡ false) → (payload ≡ false → also ≡ false)
+agree : (new payload first also has : Bool) → (new ≡ true → payload ≡ false) → (new ≡ true → has ≡ false)
+    → (payload ≡ false → also ≡ false)
     → (not new && (payload || (not (first || also) && (new || has)))) ≡ (payload || (has && not first))
 agree new payload first also has apart absent none = grind arith
 
@@ -37,10 +50,13 @@ module _ (bag : Bag) where
   names_of = tops (files_of bag) (has_folder bag data_folder)
 
   name_is_top : IsBag bag → is_in_the_way bag ≡ false → (t : List ℕ) → Contains names_of t → IsTop t
-  name_is_top is free t has = elim (contains_either (firsts bag) data_of t (((listed_in_order (firsts bag ++ data_of)).members t).0 has)) [
-    | inl a ↦ (let at = in_first bag t a in subst IsTop at.2 (first_top at.0 (is.paths at.0 at.1).0 (false_from_ne_true _ (none_within bag free at.0 at.1))))
-    | inr b ↦ data_top (has_folder bag data_folder) t b
-  ]
+  name_is_top is free t has =
+      elim (contains_either (firsts bag) data_of t (((listed_in_order (firsts bag ++ data_of)).members t).0 has)) [
+        | inl a ↦ (let at = in_first bag t a
+            in subst IsTop at.2
+            (first_top at.0 (is.paths at.0 at.1).0 (false_from_ne_true _ (none_within bag free at.0 at.1))))
+        | inr b ↦ data_top (has_folder bag data_folder) t b
+      ]
 
   pub names_in_order : IsStrictlySortedBy text_cmp names_of
   names_in_order = (listed_in_order (firsts bag ++ data_of)).ascending
@@ -56,7 +72,8 @@ module _ (bag : Bag) where
       (((listed_in_order (firsts bag ++ data_of)).members (first_component p)).1
       (contains_front (firsts bag) data_of (first_component p) (first_in bag p has)))
 
-module _ (bag : Bag) (algs : List Alg) (info : List NewElement) (is : IsBag bag) (free : is_in_the_way bag ≡ false) (absent : has_folder bag new_folder ≡ false) where
+module _ (bag : Bag) (algs : List Alg) (info : List NewElement) (is : IsBag bag) (free : is_in_the_way bag ≡ false)
+    (absent : has_folder bag new_folder ≡ false) where
   abbrev tags : List File
   tags = new_tag_files (files_of bag) algs info
 
@@ -91,7 +108,8 @@ module _ (bag : Bag) (algs : List Alg) (info : List NewElement) (is : IsBag bag)
   tag_there : (q c : List ℕ) → Contains tags (q, c) → file (made bag algs info) q ≡ Some c
   tag_there q c has = (these_files bag algs info q c).1 (inr (tag_member bag algs info q c has))
 
-  one_there : (q c : List ℕ) → file (made bag algs info) q ≡ Some c → (p d : List ℕ) → Contains tags (p, d) → q ≡ p → d ≡ c
+  one_there : (q c : List ℕ) → file (made bag algs info) q ≡ Some c → (p d : List ℕ) → Contains tags (p, d) → q ≡ p
+      → d ≡ c
   one_there q c at p d has same = grind (arith, tag_there p d has)
 
   to_made : (q c : List ℕ) → fin.get ended.files q ≡ Some c → file (made bag algs info) q ≡ Some c
@@ -103,27 +121,36 @@ module _ (bag : Bag) (algs : List Alg) (info : List NewElement) (is : IsBag bag)
   from_made : (q c : List ℕ) → file (made bag algs info) q ≡ Some c → fin.get ended.files q ≡ Some c
   from_made q c at =
       to_put (λ p. p) tags named.files q c
-      (elim (contains_either (new_payload (files_of bag)) tags (q, c) (found q c (new_payload (files_of bag) ++ tags) (sym (held bag algs info q) ∙ at))) [
-        | inl a ↦ (let old = payload_member bag algs info q c a in inr (ap (fin.get named.files) old.1 ∙ payload.to old.0 c (held_at bag.files old.0 c old.2)))
+      (elim (contains_either (new_payload (files_of bag)) tags (q, c)
+      (found q c (new_payload (files_of bag) ++ tags) (sym (held bag algs info q) ∙ at))) [
+        | inl a ↦ (let old = payload_member bag algs info q c a
+            in inr (ap (fin.get named.files) old.1 ∙ payload.to old.0 c (held_at bag.files old.0 c old.2)))
         | inr b ↦ inl (q, refl, b)
       ]) (one_there q c at)
 
   -- the names that are moved are those of the files, and data
-  names_test : (q : List ℕ) → list_any (eq_by_cmp text_cmp q) names ≡ (list_any (bytes_eq q) (firsts bag) || list_any (eq_by_cmp text_cmp q) data_there)
+  names_test : (q : List ℕ)
+      → list_any (eq_by_cmp text_cmp q) names
+      ≡ (list_any (bytes_eq q) (firsts bag) || list_any (eq_by_cmp text_cmp q) data_there)
   names_test q = grind (arith, texts_ties, same_any, firsts, list_any-append)
 
-  no_data : (b : Bool) (q : List ℕ) → eq_by_cmp text_cmp q data_folder ≡ false → list_any (eq_by_cmp text_cmp q) (cond b (data_folder ∷ []) []) ≡ false
+  no_data : (b : Bool) (q : List ℕ) → eq_by_cmp text_cmp q data_folder ≡ false
+      → list_any (eq_by_cmp text_cmp q) (cond b (data_folder ∷ []) []) ≡ false
   no_data true q other = rw other refl
   no_data false q other = refl
 
   same_folders : ended.folders ≡ (made bag algs info).folders
   same_folders = same_set nat_list_cmp_total exact_texts ended.folders (made bag algs info).folders (λ q.
       contains-remove nat_list_cmp_total (set.insert filled.folders data_folder) new_folder q
-      ∙ ap (λ b. not (eq_by_cmp text_cmp q new_folder) && b) (contains-insert nat_list_cmp_total filled.folders data_folder q
+      ∙ ap (λ b. not (eq_by_cmp text_cmp q new_folder) && b)
+      (contains-insert nat_list_cmp_total filled.folders data_folder q
       ∙ ap (λ b. eq_by_cmp text_cmp q data_folder || b)
-      (moved_folders names begun q ∙ (λ i. not (names_test q i) && contains-insert nat_list_cmp_total bag.folders new_folder q i)))
-      ∙ agree (eq_by_cmp text_cmp q new_folder) (eq_by_cmp text_cmp q data_folder) (list_any (bytes_eq q) (firsts bag)) _ (has_folder bag q)
-      (λ new. ap (λ p. eq_by_cmp text_cmp p data_folder) (one_text q new_folder new)) (λ new. ap (has_folder bag) (one_text q new_folder new) ∙ absent)
+      (moved_folders names begun q
+      ∙ (λ i. not (names_test q i) && contains-insert nat_list_cmp_total bag.folders new_folder q i)))
+      ∙ agree (eq_by_cmp text_cmp q new_folder) (eq_by_cmp text_cmp q data_folder) (list_any (bytes_eq q) (firsts bag))
+      _ (has_folder bag q)
+      (λ new. ap (λ p. eq_by_cmp text_cmp p data_folder) (one_text q new_folder new)) (λ new.
+      ap (has_folder bag) (one_text q new_folder new) ∙ absent)
       (no_data (has_folder bag data_folder) q)
       ∙ sym (left_test bag algs info q))
 

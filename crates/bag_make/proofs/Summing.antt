@@ -1,23 +1,43 @@
 -- Summing files one after another.
-use Rattle.bag_make.proofs.Common.{◌≡◌, ◌≢◌, ◌<◌, ◌≤◌, ◌+◌, ◌++◌, ◌∷◌, inl, inr, ℕ, List, [], length, take, get_or, Some, All, Contains, sym, ap, ◌∙◌, subst, arith, append_assoc, append-nil, slice_get, map-append, take_all, take-map, All-nil, All-cons, All-append, All-contains, slice_get_read, slice_get-map, slice_get_within, under, Alg, contains_first, file, RefusesNothing, TreeState, CameFromFile, IsEntryOf, Keeps, OpensAtMost, Refused, FileEntry, Stop, TreeFault, IsOutOfMemory, IsRefusalOf, MayRefuseFacts, paths_of, take_one_more, keeps_itself, keeps_on, later_refusal, came_from, refused_file, told_memory, File, data_folder, new_payload, StopsSumming, HasItsSums, AreSummed, IsSummedEntry, AreSummedFiles, OpensFirstOf, entry_of, SummedFile}
+use Rattle.bag_make.proofs.Common.{◌≡◌, ◌≢◌, ◌<◌, ◌≤◌, ◌+◌, ◌++◌, ◌∷◌, inl, inr, ℕ, List, [], length, take, get_or}
+use Rattle.bag_make.proofs.Common.{Some, All, Contains, sym, ap, ◌∙◌, subst, arith, append_assoc, append-nil, slice_get}
+use Rattle.bag_make.proofs.Common.{map-append, take_all, take-map, All-nil, All-cons, All-append, All-contains}
+use Rattle.bag_make.proofs.Common.{slice_get_read, slice_get-map, slice_get_within, under, Alg, contains_first, file}
+use Rattle.bag_make.proofs.Common.{NothingFailed, TreeState, CameFromFile, IsEntryOf, Keeps, OpensAtMost, Refused}
+use Rattle.bag_make.proofs.Common.{FileEntry, Stop, TreeFault, IsOutOfMemory, IsRefusalOf, MayRefuseFacts, paths_of}
+use Rattle.bag_make.proofs.Common.{take_one_more, keeps_itself, keeps_on, later_refusal, came_from, refused_file}
+use Rattle.bag_make.proofs.Common.{told_memory, File, data_folder, new_payload, StopsSumming, HasItsSums, AreSummed}
+use Rattle.bag_make.proofs.Common.{IsSummedEntry, AreSummedFiles, OpensFirstOf, entry_of_file, SummedFile}
 use Rattle.bag_tree.specs.Whole.{IsRefusedAt, MayRefuseWhole}
 use Rattle.bag_tree.specs.declared.tree_fault.TreeFault.TheVariants.{Changed}
 use Rattle.bag_tree.proofs.Calm.{memory_then, nothing_asked, nothing_then}
 
--- want of memory stops it
-pub stop_of_memory : (files : List FileEntry) (old new : TreeState) (stop : Stop) → IsOutOfMemory stop → RefusesNothing old new → StopsSumming files old new stop
-stop_of_memory files old new stop m calm = record { cause = λ are. rw m.0 tt; answered = rw m.0 tt; path = inl m; wanting = λ _. inr calm }
+-- out of memory stops it
+pub stop_of_memory : (files : List FileEntry) (old new : TreeState) (stop : Stop) → IsOutOfMemory stop
+    → NothingFailed old new → StopsSumming files old new stop
+stop_of_memory files old new stop m no_failure =
+    record { cause = λ are. rw m.0 tt; answered = rw m.0 tt; path = inl m; wanting = λ _. inr no_failure }
 
 one_is : (P : FileEntry → Type 0) (entry : FileEntry) → All P (entry ∷ []) → P entry
 one_is P entry all = All-contains P (entry ∷ []) entry all (contains_first entry [])
 
 -- and so does the refusal of a file
-pub stop_of_refusal : (entry : FileEntry) (old new : TreeState) (cause : TreeFault) (stop : Stop) → MayRefuseWhole old new entry cause → (cause ≢ Changed → new.last ≡ Refused cause)
-    → IsRefusedAt old.openings entry.path new → IsRefusalOf cause entry.path stop → StopsSumming (entry ∷ []) old new stop
+pub stop_of_refusal : (entry : FileEntry) (old new : TreeState) (cause : TreeFault) (stop : Stop)
+    → MayRefuseWhole old new entry cause → (cause ≢ Changed → new.last ≡ Refused cause)
+    → IsRefusedAt old.openings entry.path new → IsRefusalOf cause entry.path stop
+    → StopsSumming (entry ∷ []) old new stop
 stop_of_refusal entry old new cause stop refused answered opened (inl (not, same, at)) = record {
-  cause = λ are. subst (MayRefuseFacts old new) (sym same) (refused_file old new entry cause (λ honest. one_is (IsEntryOf old.bag) entry (are honest)) refused);
+  cause =
+      λ are. subst (MayRefuseFacts old new) (sym same)
+      (refused_file old new entry cause (λ honest. one_is (IsEntryOf old.bag) entry (are honest)) refused);
   answered = subst (CameFromFile new) (sym same) (came_from old new entry cause refused);
-  path = inr (0, ap Some (sym at), subst (λ all. IsRefusedAt all stop.path new) (sym (append-nil old.openings)) (subst (λ path. IsRefusedAt old.openings path new) (sym at) opened));
+  path =
+      inr (
+        0,
+        ap Some (sym at),
+        subst (λ all. IsRefusedAt all stop.path new) (sym (append-nil old.openings))
+            (subst (λ path. IsRefusedAt old.openings path new) (sym at) opened),
+      );
   wanting = λ m. absurd (not (sym same ∙ m));
 }
 stop_of_refusal entry old new cause stop refused answered opened (inr (is, m)) = grind (arith, told_memory)
@@ -25,28 +45,34 @@ stop_of_refusal entry old new cause stop refused answered opened (inr (is, m)) =
 abbrev moved : File → File
 moved e = (under data_folder e.0, e.1)
 
-summed_more : (algs : List Alg) (files : List File) (summed : List SummedFile) (e : File) (one : SummedFile) → AreSummed algs files summed → HasItsSums algs e one
+summed_more : (algs : List Alg) (files : List File) (summed : List SummedFile) (e : File) (one : SummedFile)
+    → AreSummed algs files summed → HasItsSums algs e one
     → AreSummed algs (files ++ e ∷ []) (summed ++ one ∷ [])
 summed_more algs [] [] e one h s = (s, tt)
 summed_more algs (x ∷ files) (y ∷ summed) e one h s = (h.0, summed_more algs files summed e one h.1 s)
 summed_more algs _ _ e one h s = absurd h
 
 -- the digests of the first of these files
-pub sums_more : (algs : List Alg) (files : List File) (i : ℕ) (e : File) (summed : List SummedFile) (one : SummedFile) → i < length files → e ≡ get_or files i e
-    → AreSummed algs (take i files) summed → HasItsSums algs e one → AreSummed algs (take (i + 1) files) (summed ++ one ∷ [])
-sums_more algs files i e summed one lt is h s = grind (arith, take_one_more files i e lt is, summed_more algs (take i files) summed e one h s)
+pub sums_more : (algs : List Alg) (files : List File) (i : ℕ) (e : File) (summed : List SummedFile) (one : SummedFile)
+    → i < length files → e ≡ get_or files i e
+    → AreSummed algs (take i files) summed → HasItsSums algs e one
+    → AreSummed algs (take (i + 1) files) (summed ++ one ∷ [])
+sums_more algs files i e summed one lt is h s =
+    grind (arith, take_one_more files i e lt is, summed_more algs (take i files) summed e one h s)
 
 -- the first of the listed files were summed
-pub record SumsFirst (files : List FileEntry) (count : ℕ) (algs : List Alg) (old new : TreeState) (sums : List SummedFile) : Type 0 where
+pub record SumsFirst (files : List FileEntry) (count : ℕ) (algs : List Alg) (old new : TreeState)
+    (sums : List SummedFile) : Type 0 where
   pub keeps : Keeps old new
-  pub calm : RefusesNothing old new
+  pub no_failure : NothingFailed old new
   pub opened : new.openings ≡ old.openings ++ paths_of (take count files)
   pub summed : AreSummedFiles old (take count files) algs sums
 
 pub sums_none : (files : List FileEntry) (algs : List Alg) (old : TreeState) → SumsFirst files 0 algs old old []
 sums_none files algs old = grind (arith, keeps_itself, nothing_asked, append-nil)
 
-module _ (files : List FileEntry) (i : ℕ) (entry : FileEntry) (algs : List Alg) (old mid new : TreeState) (summed : List SummedFile)
+module _ (files : List FileEntry) (i : ℕ) (entry : FileEntry) (algs : List Alg) (old mid new : TreeState)
+    (summed : List SummedFile)
     (lt : i < length files) (is : entry ≡ get_or files i entry) (before : SumsFirst files i algs old mid summed) where
   next : take (i + 1) files ≡ take i files ++ entry ∷ []
   next = take_one_more files i entry lt is
@@ -54,26 +80,33 @@ module _ (files : List FileEntry) (i : ℕ) (entry : FileEntry) (algs : List Alg
   listed : Contains files entry
   listed = (i, lt, sym is)
 
-  added : (one : SummedFile) → IsSummedEntry mid entry algs one → AreSummedFiles old (take (i + 1) files) algs (summed ++ one ∷ [])
+  added : (one : SummedFile) → IsSummedEntry mid entry algs one
+      → AreSummedFiles old (take (i + 1) files) algs (summed ++ one ∷ [])
   added one e =
       let so_far = before.summed in
       let last : File = (entry.path, e.content) in record {
         files = so_far.files ++ last ∷ [];
-        listed = map-append entry_of so_far.files (last ∷ []) ∙ (λ j. so_far.listed j ++ record { path = entry.path; size = e.size j } ∷ []) ∙ sym next;
+        listed =
+            map-append entry_of_file so_far.files (last ∷ [])
+            ∙ (λ j. so_far.listed j ++ record { path = entry.path; size = e.size j } ∷ []) ∙ sym next;
         are = subst (λ xs. AreSummed algs xs (summed ++ one ∷ [])) (sym (map-append moved so_far.files (last ∷ [])))
             (summed_more algs (new_payload so_far.files) summed (moved last) one so_far.are (e.path, e.sums));
         honest = λ h. All-append (λ (x : File). file old.bag x.0 ≡ Some x.1) so_far.files (last ∷ []) (so_far.honest h)
-            (All-cons (λ (x : File). file old.bag x.0 ≡ Some x.1) last [] (ap (λ bag. file bag entry.path) (sym before.keeps.bag) ∙ e.honest (before.keeps.honest ∙ h))
+            (All-cons (λ (x : File). file old.bag x.0 ≡ Some x.1) last []
+            (ap (λ bag. file bag entry.path) (sym before.keeps.bag) ∙ e.honest (before.keeps.honest ∙ h))
             (All-nil (λ (x : File). file old.bag x.0 ≡ Some x.1)));
       }
 
-  opened_more : new.openings ≡ mid.openings ++ entry.path ∷ [] → new.openings ≡ old.openings ++ paths_of (take (i + 1) files)
+  opened_more : new.openings ≡ mid.openings ++ entry.path ∷ []
+      → new.openings ≡ old.openings ++ paths_of (take (i + 1) files)
   opened_more once = grind (arith, append_assoc, next, map-append)
 
   -- one more was summed
-  pub sums_one_more : (after : List SummedFile) (one : SummedFile) → after ≡ summed ++ one ∷ [] → Keeps mid new → RefusesNothing mid new
-      → new.openings ≡ mid.openings ++ entry.path ∷ [] → IsSummedEntry mid entry algs one → SumsFirst files (i + 1) algs old new after
-  sums_one_more after one e k calm once s = grind (arith, keeps_on, nothing_then, opened_more, added)
+  pub sums_one_more : (after : List SummedFile) (one : SummedFile) → after ≡ summed ++ one ∷ [] → Keeps mid new
+      → NothingFailed mid new
+      → new.openings ≡ mid.openings ++ entry.path ∷ [] → IsSummedEntry mid entry algs one
+      → SumsFirst files (i + 1) algs old new after
+  sums_one_more after one e k no_failure once s = grind (arith, keeps_on, nothing_then, opened_more, added)
 
   first_paths : (count : ℕ) → paths_of (take count files) ≡ take count (paths_of files)
   first_paths count = sym (take-map (λ (e : FileEntry). e.path) count files)
@@ -84,15 +117,32 @@ module _ (files : List FileEntry) (i : ℕ) (entry : FileEntry) (algs : List Alg
   opens_first (inr once) = grind (arith, opened_more, first_paths)
 
   pub stops_at : (stop : Stop) → StopsSumming (entry ∷ []) mid new stop → StopsSumming files old new stop
-  stops_at stop h = grind (arith, later_refusal, memory_then, listed, slice_get_within, slice_get, append-nil, first_paths, slice_get-map, slice_get_read)
+  stops_at stop h =
+      grind (
+        arith,
+        later_refusal,
+        memory_then,
+        listed,
+        slice_get_within,
+        slice_get,
+        append-nil,
+        first_paths,
+        slice_get-map,
+        slice_get_read,
+      )
 
 -- all were gone through
-module _ (files : List FileEntry) (count : ℕ) (algs : List Alg) (old new : TreeState) (summed : List SummedFile) (le : length files ≤ count) (all : SumsFirst files count algs old new summed) where
+module _ (files : List FileEntry) (count : ℕ) (algs : List Alg) (old new : TreeState) (summed : List SummedFile)
+    (le : length files ≤ count) (all : SumsFirst files count algs old new summed) where
   pub opens_all : new.openings ≡ old.openings ++ paths_of files
   opens_all = all.opened ∙ ap (λ xs. old.openings ++ paths_of xs) (take_all count files le)
 
   pub opens_all_first : OpensFirstOf (paths_of files) old new
-  opens_all_first = (length (paths_of files), opens_all ∙ ap (λ xs. old.openings ++ xs) (sym (take_all (length (paths_of files)) (paths_of files) (omega arith))))
+  opens_all_first = (
+    length (paths_of files),
+    opens_all
+        ∙ ap (λ xs. old.openings ++ xs) (sym (take_all (length (paths_of files)) (paths_of files) (omega arith))),
+  )
 
   pub sums_all : AreSummedFiles old files algs summed
   sums_all = subst (λ xs. AreSummedFiles old xs algs summed) (take_all count files le) all.summed

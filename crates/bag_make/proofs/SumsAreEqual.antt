@@ -1,10 +1,12 @@
 -- Stage 7: the files of a made bag have the digests that its manifests give.
-use Rattle.bag_make.proofs.Common.{◌≡◌, List, Some, sym, ap, ◌∙◌, Alg, Code, PayloadSumDiffers, Kind, Payload, Bag, digest, Fault, Differs, NewElement, ManifestIsReadAgain, made}
+use Rattle.bag_make.proofs.Common.{◌≡◌, List, Some, sym, ap, ◌∙◌, Alg, Code, PayloadSumDiffers, Kind, Payload, Bag}
+use Rattle.bag_make.proofs.Common.{digest, Fault, Differs, NewElement, ManifestIsReadAgain, made}
 use Rattle.bag_stages.specs.ValidityStage.{ValidityHolds, IsOfValidity}
 use Rattle.bag_make.proofs.Entries.{AreWritable, entry_listed}
 use Rattle.bag_make.proofs.FilesAreNamed.{listed_at}
 
-module _ (bag : Bag) (algs : List Alg) (info : List NewElement) (read : ManifestIsReadAgain) (writable : AreWritable bag algs info) (f : Fault) where
+module _ (bag : Bag) (algs : List Alg) (info : List NewElement) (read : ManifestIsReadAgain)
+    (writable : AreWritable bag algs info) (f : Fault) where
   none_differs : (kind : Kind) → Differs (made bag algs info) f kind → ⊥
   none_differs kind (alg, entry, content, is, held, other, at) =
       let l = (entry_listed bag algs info read writable kind alg entry is).1 in

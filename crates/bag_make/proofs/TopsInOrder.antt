@@ -1,5 +1,8 @@
 -- The names that are moved are listed in order, each once.
-use Rattle.bag_make.proofs.Common.{arith, ◌≡◌, ℕ, true, List, [], ◌∷◌, map, Contains, refl, ap, sym, ◌∙◌, is_some, nat_list_cmp_total, is_sorted, entries_sorted, contains_key-keys, get-from_entries, below_all, is_some-find, AllByRecursion, list_any, eq_by_cmp, Less, Equal, Greater, and_parts, text_cmp, any_from, from_any, one_text, text_itself, in_order}
+use Rattle.bag_make.proofs.Common.{arith, ◌≡◌, ℕ, true, List, [], ◌∷◌, map, Contains, refl, ap, sym, ◌∙◌, is_some}
+use Rattle.bag_make.proofs.Common.{nat_list_cmp_total, is_sorted, entries_sorted, contains_key-keys, get-from_entries}
+use Rattle.bag_make.proofs.Common.{below_all, is_some-find, AllByRecursion, list_any, eq_by_cmp, Less, Equal, Greater}
+use Rattle.bag_make.proofs.Common.{and_parts, text_cmp, any_from, from_any, one_text, text_itself, in_order}
 use Rattle.std.proofs.Common.{is_lt}
 use Rattle.std.specs.FinMap as fin
 use Rattle.std.specs.List.Sorted.{IsStrictlySortedBy}
@@ -19,12 +22,18 @@ module _ {X : Type 0} where
   all_less : (k : List ℕ) (es : List (List ℕ × X)) → below_all text_cmp k es ≡ true
       → AllByRecursion (λ y. text_cmp k y ≡ Less) (map (λ (e : List ℕ × X). e.0) es)
   all_less k [] h = tt
-  all_less k (e ∷ es) h = let two = and_parts (is_lt (text_cmp k e.0)) (below_all text_cmp k es) h in (is_less (text_cmp k e.0) two.0, all_less k es two.1)
+  all_less k (e ∷ es) h =
+      let two =
+      and_parts (is_lt (text_cmp k e.0)) (below_all text_cmp k es) h
+      in (is_less (text_cmp k e.0) two.0, all_less k es two.1)
 
-  pub ascends : (es : List (List ℕ × X)) → is_sorted text_cmp es ≡ true → IsStrictlySortedBy text_cmp (map (λ (e : List ℕ × X). e.0) es)
+  pub ascends : (es : List (List ℕ × X)) → is_sorted text_cmp es ≡ true
+      → IsStrictlySortedBy text_cmp (map (λ (e : List ℕ × X). e.0) es)
   unfolding IsStrictlySortedBy
   ascends [] h = tt
-  ascends (e ∷ es) h = let two = and_parts (below_all text_cmp e.0 es) (is_sorted text_cmp es) h in (all_less e.0 es two.0, ascends es two.1)
+  ascends (e ∷ es) h =
+      let two =
+      and_parts (below_all text_cmp e.0 es) (is_sorted text_cmp es) h in (all_less e.0 es two.0, ascends es two.1)
 
 abbrev Entry : Type 0
 Entry = List ℕ × Unit {0}
@@ -39,16 +48,27 @@ unmarked : (texts : List (List ℕ)) → map (λ (e : Entry). e.0) (marked texts
 unmarked texts = map-map (λ (e : Entry). e.0) (λ t. (t, tt)) texts ∙ map-id texts
 
 -- the same texts are there
-pub same_any : (texts : List (List ℕ)) (t : List ℕ) → list_any (eq_by_cmp text_cmp t) (in_order texts) ≡ list_any (eq_by_cmp text_cmp t) texts
+pub same_any : (texts : List (List ℕ)) (t : List ℕ)
+    → list_any (eq_by_cmp text_cmp t) (in_order texts) ≡ list_any (eq_by_cmp text_cmp t) texts
 same_any texts t =
-    sym (contains_key-keys (names texts) t) ∙ ap is_some (get-from_entries nat_list_cmp_total (marked texts) t) ∙ is_some-find text_cmp t (marked texts)
+    sym (contains_key-keys (names texts) t) ∙ ap is_some (get-from_entries nat_list_cmp_total (marked texts) t)
+    ∙ is_some-find text_cmp t (marked texts)
     ∙ ap (list_any (eq_by_cmp text_cmp t)) (unmarked texts)
 
-moves_over : (xs ys : List (List ℕ)) (t : List ℕ) → Contains xs t → list_any (eq_by_cmp text_cmp t) xs ≡ list_any (eq_by_cmp text_cmp t) ys → Contains ys t
-moves_over xs ys t has same = grind (arith, any_from (eq_by_cmp text_cmp t) xs t has (text_itself t), from_any, text_itself, one_text)
+moves_over : (xs ys : List (List ℕ)) (t : List ℕ) → Contains xs t
+    → list_any (eq_by_cmp text_cmp t) xs ≡ list_any (eq_by_cmp text_cmp t) ys → Contains ys t
+moves_over xs ys t has same =
+    grind (arith, any_from (eq_by_cmp text_cmp t) xs t has (text_itself t), from_any, text_itself, one_text)
 
 pub listed_in_order : (texts : List (List ℕ)) → IsListOf text_cmp (Contains texts) (in_order texts)
 listed_in_order texts = record {
-  ascending = ascends (fin.entries (names texts)) (t_true (is_sorted text_cmp (fin.entries (names texts))) (entries_sorted (names texts)));
-  members = λ t. (λ has. moves_over (in_order texts) texts t has (same_any texts t), λ has. moves_over texts (in_order texts) t has (sym (same_any texts t)));
+  ascending =
+      ascends (fin.entries (names texts))
+      (t_true (is_sorted text_cmp (fin.entries (names texts))) (entries_sorted (names texts)));
+  members =
+      λ t. (
+        λ has. moves_over (in_order texts) texts t has (same_any texts t),
+        λ has.
+            moves_over texts (in_order texts) t has (sym (same_any texts t)),
+      );
 }

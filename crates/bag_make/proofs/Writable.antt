@@ -1,5 +1,11 @@
 -- The manifests of a made bag can be written.
-use Rattle.bag_make.proofs.Common.{◌≡◌, ℕ, Bool, true, false, not, List, [], ◌∷◌, map, is_some, refl, ap, sym, subst, codes, bytes_eq, IsUtf8, texts_ties, eq_by_cmp, AllByRecursion, list_any, or_from, not_from_true, All-from_recursion, IsUtf8-append, IsUtf8-from_is_utf8, is_utf8-from_IsUtf8, under, is_path, text_cmp, IsText, Alg, Md5, each_from_members, tag_path, Kind, Payload, Tag, Manifest, Bag, files_of, digest, NewElement, NewEntry, is_bad_path, is_bad_entry, is_bad_digest, may_name, begins_with_mark, paths, File, data_folder, new_payload, entries_of, manifest, AreInPathOrder, CanMake}
+use Rattle.bag_make.proofs.Common.{◌≡◌, ℕ, Bool, true, false, not, List, [], ◌∷◌, map, is_some, refl, ap, sym, subst}
+use Rattle.bag_make.proofs.Common.{codes, bytes_eq, IsUtf8, texts_ties, eq_by_cmp, AllByRecursion, list_any, or_from}
+use Rattle.bag_make.proofs.Common.{not_from_true, All-from_recursion, IsUtf8-append, IsUtf8-from_is_utf8}
+use Rattle.bag_make.proofs.Common.{is_utf8-from_IsUtf8, under, is_path, text_cmp, IsText, Alg, Md5, each_from_members}
+use Rattle.bag_make.proofs.Common.{tag_path, Kind, Payload, Tag, Manifest, Bag, files_of, digest, NewElement, NewEntry}
+use Rattle.bag_make.proofs.Common.{is_bad_path, is_bad_entry, is_bad_digest, may_name, begins_with_mark, paths, File}
+use Rattle.bag_make.proofs.Common.{data_folder, new_payload, entries_of, manifest, AreInPathOrder, CanMake}
 use Rattle.std.specs.Char.{encode_utf8}
 use Rattle.std.specs.List.{IsDistinct}
 use Rattle.std.specs.Str.{is_utf8, chars}
@@ -18,20 +24,24 @@ CanName kind path = IsText path × (is_bad_path kind path ≡ false)
 name_payload : (p : List ℕ) → is_path p ≡ true → IsUtf8 p → CanName Payload (under data_folder p)
 unfolding is_utf8 chars encode_utf8
 name_payload p is text = (
-  is_utf8-from_IsUtf8 (under data_folder p) (IsUtf8-append (codes "data/") p (IsUtf8-from_is_utf8 (codes "data/") refl) text),
-  or_from (not (may_name Payload (under data_folder p))) (begins_with_mark (under data_folder p)) (not_from_true _ (in_payload p is)) refl,
+  is_utf8-from_IsUtf8 (under data_folder p)
+      (IsUtf8-append (codes "data/") p (IsUtf8-from_is_utf8 (codes "data/") refl) text),
+  or_from (not (may_name Payload (under data_folder p))) (begins_with_mark (under data_folder p))
+      (not_from_true _ (in_payload p is)) refl,
 )
 
 -- the manifests that a tag manifest names
 manifests_named : (text : Alg → List ℕ) (algs : List Alg)
-    → AllByRecursion (λ (e : File). CanName Tag e.0) (map {B = File} (λ alg. (tag_path (Manifest Payload alg), text alg)) algs)
+    → AllByRecursion (λ (e : File). CanName Tag e.0)
+    (map {B = File} (λ alg. (tag_path (Manifest Payload alg), text alg)) algs)
 unfolding is_utf8 chars encode_utf8
 manifests_named text [] = tt
 manifests_named text (Md5 ∷ algs) = ((refl, refl), manifests_named text algs)
 manifests_named text (_ ∷ algs) = ((refl, refl), manifests_named text algs)
 
 good_entries : (kind : Kind) (alg : Alg) (es : List File) → AllByRecursion (λ (e : File). CanName kind e.0) es
-    → AllByRecursion (λ (entry : NewEntry). IsText entry.1) (entries_of alg es) × (list_any (is_bad_entry kind alg) (entries_of alg es) ≡ false)
+    → AllByRecursion (λ (entry : NewEntry). IsText entry.1) (entries_of alg es)
+    × (list_any (is_bad_entry kind alg) (entries_of alg es) ≡ false)
 good_entries kind alg [] all = (tt, refl)
 good_entries kind alg (e ∷ es) all =
     let more = good_entries kind alg es all.1 in (
@@ -43,8 +53,10 @@ good_entries kind alg (e ∷ es) all =
 -- in path order no path stands twice
 each_once : (alg : Alg) (es : List File) → AreInPathOrder es → IsDistinct bytes_eq (paths (entries_of alg es))
 each_once alg es up =
-    let named : IsDistinct (eq_by_cmp text_cmp) (paths (entries_of alg es)) = rw map-map (IsDistinct-from_sorted text_cmp (map (λ (e : File). e.0) es) up) in
-    subst (λ (eq : List ℕ → List ℕ → Bool). IsDistinct eq (paths (entries_of alg es))) (λ i p q. sym (texts_ties p q) i) named
+    let named : IsDistinct (eq_by_cmp text_cmp) (paths (entries_of alg es)) =
+    rw map-map (IsDistinct-from_sorted text_cmp (map (λ (e : File). e.0) es) up) in
+    subst (λ (eq : List ℕ → List ℕ → Bool). IsDistinct eq (paths (entries_of alg es))) (λ i p q. sym (texts_ties p q) i)
+    named
 
 module _ (bag : Bag) (algs : List Alg) (info : List NewElement) (can : CanMake bag algs info) where
   can_name : (kind : Kind) → AllByRecursion (λ (e : File). CanName kind e.0) (listed bag algs info kind)

@@ -13,11 +13,13 @@ use Rattle.bag_tree.specs.Bag.{Bag, IsBag, HasFile, file, files_of, has_folder}
 use Rattle.bag_stages.specs.Payload.{payload}
 use Rattle.bag_tags.specs.Declaration.{declaration_text}
 use Rattle.bag_tags.specs.Element.{NewElement, info_text}
-use Rattle.bag_make.specs.Made.{File, data_folder, new_payload, new_elements, manifest, named_tag_files, made}
+use Rattle.bag_make.specs.Made.{File, data_folder, new_payload, new_elements, manifest}
+use Rattle.bag_make.specs.Made.{named_tag_files, made}
 
 -- a file of the folder, under data/ (2.1.2)
 abbrev pub IsMoved : Bag → List ℕ → List ℕ → Type 0
-IsMoved bag path content = (old : List ℕ) × (path ≡ under data_folder old) × (file bag old ≡ Some content)
+IsMoved bag path content =
+    (old : List ℕ) × (path ≡ under data_folder old) × (file bag old ≡ Some content)
 
 module _ (bag : Bag) (algs : List Alg) (info : List NewElement) where
   -- the text of a tag file that is written (2.1.1, 2.1.3, 2.2.1 and 2.2.2); fetch.txt isn't
@@ -25,8 +27,10 @@ module _ (bag : Bag) (algs : List Alg) (info : List NewElement) where
   IsNewText Declaration text = text ≡ declaration_text
   IsNewText Info text = text ≡ info_text (new_elements (files_of bag) algs info)
   IsNewText Fetch text = ⊥
-  IsNewText (Manifest Payload alg) text = Contains algs alg × (text ≡ manifest alg (new_payload (files_of bag)))
-  IsNewText (Manifest Tag alg) text = Contains algs alg × (text ≡ manifest alg (named_tag_files (files_of bag) algs info))
+  IsNewText (Manifest Payload alg) text =
+      Contains algs alg × (text ≡ manifest alg (new_payload (files_of bag)))
+  IsNewText (Manifest Tag alg) text =
+      Contains algs alg × (text ≡ manifest alg (named_tag_files (files_of bag) algs info))
 
   abbrev pub IsNew : List ℕ → List ℕ → Type 0
   IsNew path text = (name : TagName) × (path ≡ tag_path name) × IsNewText name text
@@ -43,7 +47,9 @@ MadeHasTheseFiles =
 
 -- a folder in which no file was
 abbrev pub HasNoFile : Bag → List ℕ → Type 0
-HasNoFile bag name = (has_folder bag name ≡ true) × ((path : List ℕ) → HasFile bag path → first_component path ≢ name)
+HasNoFile bag name =
+    (has_folder bag name ≡ true)
+    × ((path : List ℕ) → HasFile bag path → first_component path ≢ name)
 
 -- the law: these folders stand in its base folder, and no others
 abbrev pub MadeHasTheseFolders : Type 0
@@ -51,10 +57,12 @@ MadeHasTheseFolders =
     (bag : Bag) (algs : List Alg) (info : List NewElement) (name : List ℕ)
     → (has_folder (made bag algs info) name ≡ true) ↔ ((name ≡ data_folder) ⊎ HasNoFile bag name)
 
--- the law: its payload is the folder's files, in their order, so that Payload-Oxum and the manifests are those of the new bag
+-- the law: its payload is the folder's files, in their order, so that Payload-Oxum and the
+-- manifests are those of the new bag
 abbrev pub PayloadIsTheFolder : Type 0
 PayloadIsTheFolder =
-    (bag : Bag) (algs : List Alg) (info : List NewElement) → IsBag bag → payload (made bag algs info) ≡ new_payload (files_of bag)
+    (bag : Bag) (algs : List Alg) (info : List NewElement) → IsBag bag
+    → payload (made bag algs info) ≡ new_payload (files_of bag)
 
 -- files in the order of their paths, none twice
 abbrev pub AreInPathOrder : List File → Type 0
@@ -64,4 +72,5 @@ AreInPathOrder files = IsStrictlySortedBy text_cmp (map (λ e. e.0) files)
 abbrev pub ManifestsAscend : Type 0
 ManifestsAscend =
     (bag : Bag) (algs : List Alg) (info : List NewElement) → IsStrictlySortedBy rank_cmp algs
-    → AreInPathOrder (new_payload (files_of bag)) × AreInPathOrder (named_tag_files (files_of bag) algs info)
+    → AreInPathOrder (new_payload (files_of bag))
+    × AreInPathOrder (named_tag_files (files_of bag) algs info)

@@ -49,7 +49,8 @@ module _ (files : List File) (algs : List Alg) (info : List NewElement) where
 
   -- a payload manifest for each algorithm names the whole payload (2.1.3)
   abbrev pub payload_manifests : List File
-  payload_manifests = map (λ alg. (tag_path (Manifest Payload alg), manifest alg (new_payload files))) algs
+  payload_manifests =
+      map (λ alg. (tag_path (Manifest Payload alg), manifest alg (new_payload files))) algs
 
   -- what a tag manifest names, in path order: the other tag files, but no tag manifest (2.2.1)
   abbrev pub named_tag_files : List File
@@ -62,12 +63,15 @@ module _ (files : List File) (algs : List Alg) (info : List NewElement) where
   abbrev pub new_tag_files : List File
   new_tag_files = declaration_file ∷ info_file ∷ payload_manifests ++ tag_manifests
 
--- The bag that is made by these algorithms, with these elements. The base folders that hold no file stay, and data is there.
+-- The bag that is made by these algorithms, with these elements. The base folders that hold no file
+-- stay, and data is there.
 unfoldable pub made : Bag → List Alg → List NewElement → Bag
 made bag algs info =
     let files = files_of bag in
     let firsts = map (λ e. first_component e.0) files in
     record {
       files = fin.from_entries (new_payload files ++ new_tag_files files algs info);
-      folders = set.insert (set.retain bag.folders (λ name. not (list_any (bytes_eq name) firsts))) data_folder;
+      folders =
+          set.insert (set.retain bag.folders (λ name. not (list_any (bytes_eq name) firsts)))
+          data_folder;
     }

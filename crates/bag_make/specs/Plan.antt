@@ -17,15 +17,20 @@ use Rattle.bag_make.specs.declared.step.Step.TheVariants.{MakeFolder, MoveIn, Re
 
 -- texts in the order of their bytes, each once
 abbrev pub in_order : List (List ℕ) → List (List ℕ)
-in_order texts = fin.keys (fin.from_entries {X = Unit {0}} {R = text_cmp} (map {B = List ℕ × Unit {0}} (λ t. (t, tt)) texts))
+in_order texts =
+    fin.keys (fin.from_entries {X = Unit {0}} {R = text_cmp}
+    (map {B = List ℕ × Unit {0}} (λ t. (t, tt)) texts))
 
 -- what is moved: the first component of each path, and data where that folder is there, in order
 abbrev pub tops : List File → Bool → List (List ℕ)
-tops files has_data = in_order (map (λ e. first_component e.0) files ++ (if has_data then data_folder ∷ [] else []))
+tops files has_data =
+    in_order (map (λ e. first_component e.0) files ++ (if has_data then data_folder ∷ [] else []))
 
 -- what a listing says is moved
 abbrev pub listed_tops : Listing → List (List ℕ)
-listed_tops listing = in_order (map (λ entry. first_component entry.path) listing.files ++ (if listing.has_data then data_folder ∷ [] else []))
+listed_tops listing =
+    in_order (map (λ entry. first_component entry.path) listing.files
+    ++ (if listing.has_data then data_folder ∷ [] else []))
 
 -- a listed file stands in the way of the folder that is made
 abbrev pub has_new : Listing → Bool

@@ -10,11 +10,14 @@ use Rattle.bag_make.specs.Stops.{MayStopMaking}
 use Rattle.bag_make.specs.declared.fault.MakeFault.{MakeFault}
 use Rattle.bag_make.specs.declared.fault.MakeFault.TheVariants.{InTheWay, ReadStopped, Memory}
 
--- of an honest tree the first files of the bag were opened, in path order and each once, and no other
+-- of an honest tree the first files of the bag were opened, in path order and each once, and no
+-- other
 abbrev pub OpensFolder : TreeState → TreeState → Type 0
-OpensFolder old new = IsTrue old.honest → (count : ℕ) × (new.openings ≡ old.openings ++ take count (map (λ e. e.0) (files_of old.bag)))
+OpensFolder old new = IsTrue old.honest
+    → (count : ℕ) × (new.openings ≡ old.openings ++ take count (map (λ e. e.0) (files_of old.bag)))
 
--- The files were listed and no file was opened. The device didn't fail, and of an honest tree only files and folders stand there.
+-- The files were listed and no file was opened. The device didn't fail, and of an honest tree only
+-- files and folders stand there.
 pub record HasOnlyListed (old new : TreeState) : Type 0 where
   pub keeps : Keeps old new
   pub failures : new.failures ≡ old.failures
@@ -22,26 +25,28 @@ pub record HasOnlyListed (old new : TreeState) : Type 0 where
   pub openings : new.openings ≡ old.openings
   pub last : new.last ≡ Given
 
--- Nothing was refused: the device didn't fail, of an honest tree only files and folders stand there, and the last answer is no
--- refusal.
+-- Nothing was refused: the device didn't fail, of an honest tree only files and folders stand
+-- there, and the last answer is no refusal.
 pub record HasRefusedNothing (old new : TreeState) : Type 0 where
   pub failures : new.failures ≡ old.failures
   pub plain : IsTrue old.honest → IsTrue old.plain
   pub last : refusal_of new.last ≡ None
 
--- the tree refused for want of memory; or it refused nothing, and there was no memory for what was read
+-- the tree refused when out of memory; or it refused nothing, and there was no memory for what was
+-- read
 abbrev pub IsWantOfMemory : TreeState → TreeState → Type 0
 IsWantOfMemory old new = (refusal_of new.last ≡ Some cause_of.Memory) ⊎ HasRefusedNothing old new
 
 -- why nothing is planned
 abbrev pub MayRefuseReading : TreeState → TreeState → MakeFault → Type 0
-MayRefuseReading old new InTheWay = HasOnlyListed old new × (IsTrue old.honest → is_in_the_way old.bag ≡ true)
+MayRefuseReading old new InTheWay =
+    HasOnlyListed old new × (IsTrue old.honest → is_in_the_way old.bag ≡ true)
 MayRefuseReading old new (ReadStopped stop) = MayStopMaking old new stop
 MayRefuseReading old new Memory = IsWantOfMemory old new
 MayRefuseReading old new fault = ⊥
 
 -- the refusal that a stop is
-abbrev pub IsStopped : Stop → MakeFault → Type 0
-IsStopped stop Memory = stop.cause ≡ cause_of.Memory
-IsStopped stop (ReadStopped other) = (other ≡ stop) × ¬ (stop.cause ≡ cause_of.Memory)
-IsStopped stop fault = ⊥
+abbrev pub IsRefusalOfStop : Stop → MakeFault → Type 0
+IsRefusalOfStop stop Memory = stop.cause ≡ cause_of.Memory
+IsRefusalOfStop stop (ReadStopped other) = (other ≡ stop) × ¬ (stop.cause ≡ cause_of.Memory)
+IsRefusalOfStop stop fault = ⊥

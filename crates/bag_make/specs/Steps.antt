@@ -1,14 +1,17 @@
 -- The steps in which a bag is made, and what they leave.
-use Rattle.std.specs.Prelude.{ℕ, ◌≡◌, ◌≢◌, ◌⊎◌, ◌≤◌, ◌-◌, ◌++◌, true, IsTrue, List, [], ◌∷◌, Some, Result, MatchResult, codes, fold, take, slice_get}
+use Rattle.std.specs.Prelude.{ℕ, ◌≡◌, ◌≢◌, ◌⊎◌, ◌≤◌, ◌-◌, ◌++◌, true, IsTrue, List, [], ◌∷◌, Some}
+use Rattle.std.specs.Prelude.{Result, MatchResult, codes, fold, take, slice_get}
 use Rattle.bag_text.specs.Path.{is_base_name, under}
-use Rattle.bag_tree.specs.Asked.{Adds, Asking, AsksFile, AsksFolder, AsksMove, AsksRename, AsksSyncs, MayBegin}
+use Rattle.bag_tree.specs.Asked.{Adds, Asking, AsksFile, AsksFolder, AsksMove, AsksRename}
+use Rattle.bag_tree.specs.Asked.{AsksSyncs, MayBegin}
 use Rattle.bag_tree.specs.Bag.{Bag}
 use Rattle.bag_tree.specs.Tree.{TreeState}
 use Rattle.bag_tree.specs.declared.event.DeviceEvent.{DeviceEvent}
 use Rattle.bag_tree.specs.declared.answer.Answer.TheVariants.{Refused}
 use Rattle.bag_tree.specs.declared.tree_fault.TreeFault.{TreeFault}
-use Rattle.bag_tree.specs.Changes.{HasChanged, HasBegun, IsSame, MayRefuseChange}
-use Rattle.bag_tree.specs.Steps.{make_folder, move_in, rename_folder, create, is_taken, has_within, lacks_folder, lacks_source}
+use Rattle.bag_tree.specs.Changes.{AppliesStep, LeavesPartialFile, IsUnchanged, MayRefuseChange}
+use Rattle.bag_tree.specs.Steps.{make_folder, move_in, rename_folder, create, is_taken, has_within}
+use Rattle.bag_tree.specs.Steps.{lacks_folder, lacks_source}
 use Rattle.bag_make.specs.Made.{data_folder}
 use Rattle.bag_make.specs.declared.step.Step.{Step}
 use Rattle.bag_make.specs.declared.step.Step.TheVariants.{MakeFolder, MoveIn, Rename, Create}
@@ -39,7 +42,8 @@ IsStep (Create name bytes) = IsTrue (is_base_name name)
 -- the step can be taken on a bag: what it moves is there, and nothing stands where it puts it
 abbrev pub CanTake : Step → Bag → Type 0
 CanTake MakeFolder bag = ¬ (is_taken bag new_folder ≡ true)
-CanTake (MoveIn top) bag = ¬ (lacks_source bag top new_folder ≡ true) × ¬ (has_within bag (under new_folder top) ≡ true)
+CanTake (MoveIn top) bag =
+    ¬ (lacks_source bag top new_folder ≡ true) × ¬ (has_within bag (under new_folder top) ≡ true)
 CanTake Rename bag = ¬ (lacks_folder bag new_folder ≡ true) × ¬ (is_taken bag data_folder ≡ true)
 CanTake (Create name bytes) bag = ¬ (is_taken bag name ≡ true)
 
@@ -57,12 +61,12 @@ more (Create name bytes) = 1
 
 -- the step was taken
 abbrev pub HasDone : Step → TreeState → TreeState → Type 0
-HasDone step old new = HasChanged (change step) (more step) old new
+HasDone step old new = AppliesStep (change step) (more step) old new
 
 -- a step that is refused changes nothing, but that a file may be begun
 abbrev pub HasLeft : Step → TreeState → TreeState → Type 0
-HasLeft (Create name bytes) old new = IsSame old new ⊎ HasBegun name bytes old new
-HasLeft step old new = IsSame old new
+HasLeft (Create name bytes) old new = IsUnchanged old new ⊎ LeavesPartialFile name bytes old new
+HasLeft step old new = IsUnchanged old new
 
 -- what a step asks of the device
 abbrev pub StepAsks : Step → Asking
@@ -93,18 +97,22 @@ HasAsked step old new result =
 -- a step may answer this refusal: of an honest tree NotFound and Exists only where they are so
 abbrev pub MayRefuseStep : Step → TreeState → TreeState → TreeFault → Type 0
 MayRefuseStep MakeFolder old new = MayRefuseChange ⊥ (is_taken old.bag new_folder ≡ true) old new
-MayRefuseStep (MoveIn top) old new = MayRefuseChange (lacks_source old.bag top new_folder ≡ true) (has_within old.bag (under new_folder top) ≡ true) old new
-MayRefuseStep Rename old new = MayRefuseChange (lacks_folder old.bag new_folder ≡ true) (is_taken old.bag data_folder ≡ true) old new
+MayRefuseStep (MoveIn top) old new =
+    MayRefuseChange (lacks_source old.bag top new_folder ≡ true)
+    (has_within old.bag (under new_folder top) ≡ true) old new
+MayRefuseStep Rename old new =
+    MayRefuseChange (lacks_folder old.bag new_folder ≡ true) (is_taken old.bag data_folder ≡ true)
+    old new
 MayRefuseStep (Create name bytes) old new = MayRefuseChange ⊥ (is_taken old.bag name ≡ true) old new
 
--- These steps were taken. The bag of an honest tree is then the steps' bag, each step could be taken,
--- the device didn't fail, it was asked for what the steps ask, and no file was opened.
+-- These steps were taken. The bag of an honest tree is then the steps' bag, each step could be
+-- taken, the device didn't fail, it was asked for what the steps ask, and no file was opened.
 pub record HasTaken (steps : List Step) (old new : TreeState) : Type 0 where
   pub bag : IsTrue old.honest → new.bag ≡ after_steps steps old.bag
   pub possible : IsTrue old.honest → CanTakeAll steps old.bag
   pub plain : IsTrue old.honest → IsTrue old.plain → IsTrue new.plain
   pub honest : new.honest ≡ old.honest
-  pub calm : new.failures ≡ old.failures
+  pub no_failure : new.failures ≡ old.failures
   pub openings : new.openings ≡ old.openings
   pub noted : new.noted ≡ old.noted
   pub asked : IsTrue old.noted → Adds (AllAsk steps) old.trail new.trail

@@ -1,5 +1,6 @@
 -- Files with their digests.
-use Rattle.std.specs.Prelude.{ℕ, ◌≡◌, ◌++◌, IsTrue, List, [], ◌∷◌, Option, Some, None, All, length, map, take}
+use Rattle.std.specs.Prelude.{ℕ, ◌≡◌, ◌++◌, IsTrue, List, [], ◌∷◌, Option, Some, None, All, length}
+use Rattle.std.specs.Prelude.{map, take}
 use Rattle.bag_text.specs.Path.{under}
 use Rattle.bag_text.specs.declared.alg.Alg.{Alg}
 use Rattle.bag_tree.specs.Bag.{file}
@@ -21,21 +22,25 @@ AreSummed algs (e ∷ files) (one ∷ summed) = HasItsSums algs e one × AreSumm
 AreSummed algs files summed = ⊥
 
 -- how a file is listed
-abbrev pub entry_of : File → FileEntry
-entry_of e = record { path = e.0; size = length e.1 }
+abbrev pub entry_of_file : File → FileEntry
+entry_of_file e = record { path = e.0; size = length e.1 }
 
--- A file that is listed so, under data/, with its digests. Of an honest tree it is a file of the bag.
-pub record IsSummedEntry (state : TreeState) (entry : FileEntry) (algs : List Alg) (one : SummedFile) : Type 0 where
+-- A file that is listed so, under data/, with its digests. Of an honest tree it is a file of the
+-- bag.
+pub record IsSummedEntry (state : TreeState) (entry : FileEntry) (algs : List Alg)
+    (one : SummedFile) : Type 0 where
   pub content : List ℕ
   pub size : length content ≡ entry.size
   pub path : one.path ≡ under data_folder entry.path
   pub sums : AreSumsOf algs content one.sums
   pub honest : IsTrue state.honest → file state.bag entry.path ≡ Some content
 
--- The files that are listed so, under data/, each with its digests. Of an honest tree they are files of the bag.
-pub record AreSummedFiles (state : TreeState) (entries : List FileEntry) (algs : List Alg) (summed : List SummedFile) : Type 0 where
+-- The files that are listed so, under data/, each with its digests. Of an honest tree they are
+-- files of the bag.
+pub record AreSummedFiles (state : TreeState) (entries : List FileEntry) (algs : List Alg)
+    (summed : List SummedFile) : Type 0 where
   pub files : List File
-  pub listed : map entry_of files ≡ entries
+  pub listed : map entry_of_file files ≡ entries
   pub are : AreSummed algs (new_payload files) summed
   pub honest : IsTrue state.honest → All (λ e. file state.bag e.0 ≡ Some e.1) files
 

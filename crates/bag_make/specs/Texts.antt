@@ -22,12 +22,16 @@ size_of files = record { octets = sum_by (λ entry. entry.size) files; streams =
 
 -- bag-info.txt of a bag whose payload these files are
 abbrev pub info_of : List FileEntry → List NewElement → File
-info_of listed info = (tag_path Info, info_text (info ++ (oxum_label, oxum_text (size_of listed)) ∷ []))
+info_of listed info =
+    (tag_path Info, info_text (info ++ (oxum_label, oxum_text (size_of listed)) ∷ []))
 
 -- the manifests of a kind that give these digests
 abbrev pub manifests_of : Kind → List Alg → List SummedFile → List File
-manifests_of kind algs files = map (λ alg. (tag_path (Manifest kind alg), manifest_text (map (summed_entry alg) files))) algs
+manifests_of kind algs files =
+    map (λ alg. (tag_path (Manifest kind alg), manifest_text (map (summed_entry alg) files))) algs
 
 -- the tag files that tag manifests name, in path order
 abbrev pub named_of : List FileEntry → List SummedFile → List Alg → List NewElement → List File
-named_of listed payload algs info = info_of listed info ∷ (tag_path Declaration, declaration_text) ∷ manifests_of Payload algs payload
+named_of listed payload algs info =
+    info_of listed info ∷ (tag_path Declaration, declaration_text)
+    ∷ manifests_of Payload algs payload

@@ -1,5 +1,6 @@
 -- The law of the bag that is made.
-use Rattle.std.specs.Prelude.{◌^◌, ◌<◌, ◌≡◌, ◌≢◌, Bool, false, ◌||◌, List, [], None, All, length, sum_by}
+use Rattle.std.specs.Prelude.{◌^◌, ◌<◌, ◌≡◌, ◌≢◌, Bool, false, ◌||◌, List, [], None, All, length}
+use Rattle.std.specs.Prelude.{sum_by}
 use Rattle.std.specs.List.{list_any}
 use Rattle.std.specs.List.Sorted.{IsStrictlySortedBy}
 use Rattle.bag_text.specs.Alg.{rank_cmp}
@@ -17,7 +18,8 @@ use Rattle.bag_make.specs.Made.{made}
 abbrev pub is_refused : NewElement → Bool
 is_refused element = is_bad_element element || same_label element.0 oxum_label
 
--- what a bag is made of: files that can be counted, a set of algorithms that isn't empty, and elements that can be written
+-- what a bag is made of: files that can be counted, a set of algorithms that isn't empty, and
+-- elements that can be written
 pub record CanMake (bag : Bag) (algs : List Alg) (info : List NewElement) : Type 0 where
   pub is_bag : IsBag bag
   pub some_alg : algs ≢ []

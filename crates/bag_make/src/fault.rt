@@ -3,7 +3,7 @@ use bag_text::said;
 use bag_tree::{Stop, TreeFault};
 use thiserror::Error;
 
-/// Why no bag is made. Up to `Memory` the tree's bag is as it was.
+/// Why no bag is made. Each refusal but `StepRefused` leaves the tree's bag as it was.
 #[derive(Debug, Drop, Error)]
 pub enum MakeFault {
     /// No algorithm is given.
@@ -15,7 +15,7 @@ pub enum MakeFault {
     /// An element that can't be written, or that is computed.
     #[error("{why}", why = said::BAD_VALUE)]
     BadValue,
-    /// The tree refused to list its files, or to read one. The cause isn't want of memory.
+    /// The tree refused to list its files, or to read one. The cause isn't out of memory.
     #[error("{read}{0}", read = said::READ)]
     ReadStopped(Stop),
     /// Memory ran out.

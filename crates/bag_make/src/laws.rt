@@ -1,10 +1,12 @@
 //! Laws of the definitions, each the contract of a function that does nothing.
 ghost use Rattle.bag_make.specs.Plan.{StepsMake};
-ghost use Rattle.bag_make.specs.Contents.{MadeHasTheseFiles, MadeHasTheseFolders, ManifestsAscend, PayloadIsTheFolder};
+ghost use Rattle.bag_make.specs.Contents.{MadeHasTheseFiles, MadeHasTheseFolders, ManifestsAscend};
+ghost use Rattle.bag_make.specs.Contents.{PayloadIsTheFolder};
 ghost use Rattle.bag_make.specs.Stops.{TellsOneFile};
 ghost use Rattle.bag_make.specs.Valid.{MadeIsValid};
 
-/// All steps together make the bag, of each folder in which nothing has the name of the folder that is made for them.
+/// All steps together make the bag, of each folder in which nothing has the name of the folder that
+/// is made for them.
 pub fn all_steps_make_the_bag()
     ensures { StepsMake }
 {}
@@ -19,7 +21,8 @@ pub fn a_made_bag_has_these_folders()
     ensures { MadeHasTheseFolders }
 {}
 
-/// Its payload is the files of the folder, in the same order, so that what it says of them is said of its payload.
+/// Its payload is the files of the folder, in the same order, so that what it says of them is said
+/// of its payload.
 pub fn the_payload_is_the_folder()
     ensures { PayloadIsTheFolder }
 {}
@@ -29,14 +32,16 @@ pub fn manifests_ascend()
     ensures { ManifestsAscend }
 {}
 
-/// A bag that is made has no fault (RFC 8493, 3): checked in full, but for names that differ by normal form alone, its report
-/// is empty. So it is for the files of every folder, every set of algorithms that isn't empty, and all elements that can be
-/// written and aren't `Payload-Oxum`, as long as the number of the files and their bytes together stay below 2^64.
+/// A bag that is made has no fault (RFC 8493, 3): checked in full, but for names that differ by
+/// normal form alone, its report is empty. So it is for the files of every folder, every set of
+/// algorithms that isn't empty, and all elements that can be written and aren't `Payload-Oxum`, as
+/// long as the number of the files and their bytes together stay below 2^64.
 pub fn a_made_bag_has_no_fault()
     ensures { MadeIsValid }
 {}
 
-/// The refusal of a file that was to be read is told of one path alone: no other file can be named for it.
+/// The refusal of a file that was to be read is reported of one path alone: no other file can be
+/// named for it.
 pub fn a_refusal_tells_one_file()
     ensures { TellsOneFile }
 {}

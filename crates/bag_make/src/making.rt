@@ -1,5 +1,6 @@
 //! Making a bag in place.
-ghost use Rattle.std.specs.Prelude.{◌≡◌, ◌≢◌, ◌⊎◌, ◌≤◌, ◌++◌, [], true, false, not, All, IsTrue, IfOk, IfErr, OnOk, List, map};
+ghost use Rattle.std.specs.Prelude.{◌≡◌, ◌≢◌, ◌⊎◌, ◌≤◌, ◌++◌, [], true, false, not, All, IsTrue};
+ghost use Rattle.std.specs.Prelude.{IfOk, IfErr, OnOk, List, map};
 ghost use Rattle.std.specs.List.{list_any};
 ghost use Rattle.std.specs.List.Sorted.{IsStrictlySortedBy};
 ghost use Rattle.bag_text.specs.Alg.{rank_cmp};
@@ -8,13 +9,13 @@ ghost use Rattle.bag_tree.specs.Listing.{IsListingOf, IsOrdered};
 ghost use Rattle.bag_tree.specs.Tree.{Keeps};
 ghost use Rattle.bag_make.specs.Made.{File, new_payload};
 ghost use Rattle.bag_make.specs.Valid.{is_refused};
-ghost use Rattle.bag_make.specs.Make.{CanTell, HasMade, HasNoFault, Leaves, MayRefuseMaking};
+ghost use Rattle.bag_make.specs.Make.{HasKnownSize, HasMade, HasNoFault, Leaves, MayRefuseMaking};
 ghost use Rattle.bag_make.specs.Plan as spec;
 ghost use Rattle.bag_make.specs.Plan.{has_new};
 ghost use Rattle.bag_make.specs.PowerCut.{LastsForGood, OutlastsCuts};
-ghost use Rattle.bag_make.specs.Reading.{IsStopped, MayRefuseReading, OpensFolder};
+ghost use Rattle.bag_make.specs.Reading.{IsRefusalOfStop, MayRefuseReading, OpensFolder};
 ghost use Rattle.bag_make.specs.Steps.{IsStep};
-ghost use Rattle.bag_make.specs.Summed.{AreSummed, entry_of};
+ghost use Rattle.bag_make.specs.Summed.{AreSummed, entry_of_file};
 
 use crate::MakeFault;
 use crate::obstacle::is_in_the_way;
@@ -27,13 +28,15 @@ use bag_text::{AlgSet, Text};
 use bag_tree::{Listing, Stop, Tree, TreeFault, WriteTree};
 use std::alloc::{AllocError, Global};
 
-/// Makes a bag of the files of a folder, in place (RFC 8493, 2): they go under `data/`, and the tag files are written beside
-/// it, with manifests of all the algorithms and `bag-info.txt` with these elements and, last, `Payload-Oxum`.
+/// Makes a bag of the files of a folder, in place (RFC 8493, 2): they go under `data/`, and the tag
+/// files are written beside it, with manifests of all the algorithms and `bag-info.txt` with these
+/// elements and, last, `Payload-Oxum`.
 ///
-/// Each file is opened once for all algorithms, and read through one buffer of 65,536 bytes; all texts are composed before the
-/// first step that changes the tree. The steps are: the folder `.bagit-new` is made; each entry of the base folder that has a
-/// file is moved into it, and `data` where that folder is there, in the order of their bytes; it is renamed to `data`;
-/// `bagit.txt`, `bag-info.txt`, the manifests and the tag manifests are written.
+/// Each file is opened once for all algorithms, and read through one buffer of 65,536 bytes; all
+/// texts are composed before the first step that changes the tree. The steps are: the folder
+/// `.bagit-new` is made; each entry of the base folder that has a file is moved into it, and `data`
+/// where that folder is there, in the order of their bytes; it is renamed to `data`; `bagit.txt`,
+/// `bag-info.txt`, the manifests and the tag manifests are written.
 ///
 /// On a device that notes what it does, and on which what was synced is durable, a power cut at any
 /// moment leaves each file of the folder whole: at its path, or at that path in `.bagit-new` or in
@@ -49,10 +52,15 @@ pub fn make<T: WriteTree>(
     ensures failures { (T.state tree).failures ≤ (T.state result.0).failures }
     ensures untouched { (algs ≡ []) ⊎ (list_any is_refused info.now ≡ true) → result.0 ≡ tree }
     ensures made { OnOk result.1 (HasMade algs info.now (T.state tree) (T.state result.0)) }
-    ensures valid { OnOk result.1 (IsTrue (T.state tree).honest → CanTell (T.state tree).bag → HasNoFault (T.state result.0).bag) }
+    ensures valid { OnOk result.1
+        (IsTrue (T.state tree).honest → HasKnownSize (T.state tree).bag
+        → HasNoFault (T.state result.0).bag) }
     ensures opens { OpensFolder (T.state tree) (T.state result.0) }
-    ensures refused { IfErr result.1 (MayRefuseMaking algs info.now (T.state tree) (T.state result.0)) }
-    ensures leaves { IfErr result.1 (λ fault. IsTrue (T.state tree).honest → Leaves algs info.now (T.state tree).bag (T.state result.0).bag fault) }
+    ensures refused { IfErr result.1
+        (MayRefuseMaking algs info.now (T.state tree) (T.state result.0)) }
+    ensures leaves { IfErr result.1 (λ fault.
+        IsTrue (T.state tree).honest
+        → Leaves algs info.now (T.state tree).bag (T.state result.0).bag fault) }
     ensures noted { (T.state result.0).noted ≡ (T.state tree).noted }
     ensures any_moment { OutlastsCuts (T.state tree) (T.state result.0) }
     ensures lasting { OnOk result.1 (LastsForGood algs info.now (T.state tree) (T.state result.0)) }
@@ -74,10 +82,12 @@ fn make_in<T: WriteTree>(
     ensures untouched { (algs ≡ []) ⊎ (list_any is_refused info.now ≡ true) → tree.new ≡ tree.old }
     ensures made { OnOk result (HasMade algs info.now (T.state tree.old) (T.state tree.new)) }
     ensures opens { OpensFolder (T.state tree.old) (T.state tree.new) }
-    ensures refused { IfErr result (MayRefuseMaking algs info.now (T.state tree.old) (T.state tree.new)) }
+    ensures refused { IfErr result
+        (MayRefuseMaking algs info.now (T.state tree.old) (T.state tree.new)) }
     ensures noted { (T.state tree.new).noted ≡ (T.state tree.old).noted }
     ensures any_moment { OutlastsCuts (T.state tree.old) (T.state tree.new) }
-    ensures lasting { OnOk result (LastsForGood algs info.now (T.state tree.old) (T.state tree.new)) }
+    ensures lasting { OnOk result
+        (LastsForGood algs info.now (T.state tree.old) (T.state tree.new)) }
 {
     check_request(algs, info)?;
     let steps = read_and_plan(alloc, tree, algs, info)?;
@@ -95,13 +105,18 @@ fn read_and_plan<T: Tree>(
     info: &[(Text, Text)],
 ) -> Result<Vec<Step>, MakeFault>
     ensures keeps { Keeps (T.state tree.old) (T.state tree.new) }
-    ensures calm { OnOk result ((T.state tree.new).failures ≡ (T.state tree.old).failures) }
-    ensures plain { OnOk result (IsTrue (T.state tree.old).honest → IsTrue (T.state tree.old).plain) }
+    ensures no_failure { OnOk result ((T.state tree.new).failures ≡ (T.state tree.old).failures) }
+    ensures plain { OnOk result
+        (IsTrue (T.state tree.old).honest → IsTrue (T.state tree.old).plain) }
     ensures ascend { OnOk result (IsStrictlySortedBy rank_cmp algs) }
     ensures fit { IfOk result (λ steps. All IsStep steps.items) }
     ensures planned { IfOk result (λ steps. IsTrue (T.state tree.old).honest
-        → (steps.items ≡ spec.steps (T.state tree.old).bag algs info.now) × (spec.is_in_the_way (T.state tree.old).bag ≡ false)) }
-    ensures opened { OnOk result (IsTrue (T.state tree.old).honest → (T.state tree.new).openings ≡ (T.state tree.old).openings ++ map (λ e. e.0) (files_of (T.state tree.old).bag)) }
+        → (steps.items ≡ spec.steps (T.state tree.old).bag algs info.now)
+        × (spec.is_in_the_way (T.state tree.old).bag ≡ false)) }
+    ensures opened { OnOk result
+        (IsTrue (T.state tree.old).honest
+        → (T.state tree.new).openings
+        ≡ (T.state tree.old).openings ++ map (λ e. e.0) (files_of (T.state tree.old).bag)) }
     ensures opens { OpensFolder (T.state tree.old) (T.state tree.new) }
     ensures refused { IfErr result (MayRefuseReading (T.state tree.old) (T.state tree.new)) }
 {
@@ -122,9 +137,9 @@ fn read_and_plan<T: Tree>(
     }
 }
 
-/// The refusal that a stop is. Want of memory is one of its own, the tree's too.
+/// The refusal that a stop is. Out of memory is one of its own, the tree's too.
 fn stopped(stop: Stop) -> MakeFault
-    ensures { IsStopped stop result }
+    ensures { IsRefusalOfStop stop result }
 {
     if stop.cause == TreeFault::Memory {
         MakeFault::Memory
@@ -142,10 +157,15 @@ fn steps_of(
     info: &[(Text, Text)],
 ) -> Result<Vec<Step>, AllocError>
     ensures ascend { IsStrictlySortedBy rank_cmp algs }
-    ensures fit { IfOk result (λ steps. (files : List File) → map entry_of files ≡ listing.now.files → AreSummed algs (new_payload files) payload.now
-        → IsOrdered listing.now.files → IsTrue (not (has_new listing.now)) → All IsStep steps.items) }
-    ensures of_bag { IfOk result (λ steps. (bag : Bag) → IsOrdered listing.now.files → IsListingOf bag listing.now
-        → AreSummed algs (new_payload (files_of bag)) payload.now → steps.items ≡ spec.steps bag algs info.now) }
+    ensures fit { IfOk result (λ steps.
+        (files : List File) → map entry_of_file files ≡ listing.now.files
+        → AreSummed algs (new_payload files) payload.now
+        → IsOrdered listing.now.files → IsTrue (not (has_new listing.now))
+        → All IsStep steps.items) }
+    ensures of_bag { IfOk result (λ steps.
+        (bag : Bag) → IsOrdered listing.now.files → IsListingOf bag listing.now
+        → AreSummed algs (new_payload (files_of bag)) payload.now
+        → steps.items ≡ spec.steps bag algs info.now) }
 {
     let tag_files = tag_files(alloc, listing.files.as_slice(), payload, algs, info)?;
     plan(alloc, listing, tag_files)

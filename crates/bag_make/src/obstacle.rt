@@ -13,10 +13,12 @@ use bag_tree::{FileEntry, Listing};
 /// What the paths of files in that folder begin with.
 const NEW_PREFIX: &[u8] = b".bagit-new/";
 
-/// Whether a listed file has the name of the folder that holds the files while they are moved, or stands in it.
+/// Whether a listed file has the name of the folder that holds the files while they are moved, or
+/// stands in it.
 pub fn is_in_the_way(listing: &Listing) -> bool
     ensures listed { result ≡ plan.has_new listing.now }
-    ensures of_bag { (bag : Bag) → IsOrdered listing.now.files → IsListingOf bag listing.now → result ≡ plan.is_in_the_way bag }
+    ensures of_bag { (bag : Bag) → IsOrdered listing.now.files → IsListingOf bag listing.now
+        → result ≡ plan.is_in_the_way bag }
 {
     has_new_path(listing.files.as_slice())
 }

@@ -4,7 +4,7 @@ ghost use Rattle.bag_text.specs.Path.{is_base_name};
 ghost use Rattle.bag_text.specs.declared.alg.Alg.{Alg as Named};
 ghost use Rattle.bag_tree.specs.Bag.{Bag, files_of};
 ghost use Rattle.bag_tree.specs.Listing.{IsListingOf, IsOrdered};
-ghost use Rattle.bag_tags.specs.Distinct.{texts_of};
+ghost use Rattle.bag_tags.specs.Distinct.{lent_texts};
 ghost use Rattle.bag_tags.specs.Element.{NewElement};
 ghost use Rattle.bag_make.specs.Made.{new_tag_files};
 ghost use Rattle.bag_make.specs.Plan as spec;
@@ -24,10 +24,16 @@ pub fn plan(
     listing: &Listing,
     tag_files: Vec<(Text, Items<u8>)>,
 ) -> Result<Vec<Step>, AllocError>
-    ensures steps { IfOk result (λ steps. steps.items ≡ spec.steps_for (spec.listed_tops listing.now) tag_files.items) }
-    ensures of_bag { IfOk result (λ steps. (bag : Bag) (algs : List Named) (info : List NewElement) → IsOrdered listing.now.files → IsListingOf bag listing.now
-        → tag_files.items ≡ new_tag_files (files_of bag) algs info → steps.items ≡ spec.steps bag algs info) }
-    ensures fit { IfOk result (λ steps. IsOrdered listing.now.files → IsTrue (not (has_new listing.now)) → All (λ e. IsTrue (is_base_name e.0)) tag_files.items
+    ensures steps { IfOk result (λ steps.
+        steps.items ≡ spec.steps_for (spec.listed_tops listing.now) tag_files.items) }
+    ensures of_bag { IfOk result (λ steps.
+        (bag : Bag) (algs : List Named) (info : List NewElement) → IsOrdered listing.now.files
+        → IsListingOf bag listing.now
+        → tag_files.items ≡ new_tag_files (files_of bag) algs info
+        → steps.items ≡ spec.steps bag algs info) }
+    ensures fit { IfOk result (λ steps.
+        IsOrdered listing.now.files → IsTrue (not (has_new listing.now))
+        → All (λ e. IsTrue (is_base_name e.0)) tag_files.items
         → All IsStep steps.items) }
 {
     let names = tops(alloc, listing)?;
@@ -38,7 +44,8 @@ pub fn plan(
 
 /// The steps that move these names.
 fn moves(alloc: Global, tops: &[&str]) -> Result<Vec<Step>, AllocError>
-    ensures { IfOk result (λ steps. steps.items ≡ MakeFolder ∷ map MoveIn (texts_of tops.now) ++ Rename ∷ []) }
+    ensures { IfOk result (λ steps.
+        steps.items ≡ MakeFolder ∷ map MoveIn (lent_texts tops.now) ++ Rename ∷ []) }
 {
     let mut steps = Vec::new(alloc);
     steps.push(Step::MakeFolder)?;

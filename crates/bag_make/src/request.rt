@@ -12,8 +12,8 @@ use bag_text::{AlgSet, Text, same_label};
 /// The label of the element that is computed (RFC 8493, 2.2.2).
 pub(crate) const OXUM_LABEL: &str = "Payload-Oxum";
 
-/// Refuses a bag without an algorithm, and elements that can't be written or are `Payload-Oxum`, whatever its case. Takes no
-/// memory.
+/// Refuses a bag without an algorithm, and elements that can't be written or are `Payload-Oxum`,
+/// whatever its case. Takes no memory.
 pub fn check_request(algs: AlgSet, info: &[(Text, Text)]) -> Result<(), MakeFault>
     ensures good { OnOk result ((algs ≢ []) × (list_any is_refused_by info.now ≡ false)) }
     ensures texts { OnOk result (All AreTexts info.now) }

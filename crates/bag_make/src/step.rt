@@ -1,7 +1,8 @@
 //! The steps in which a bag is made.
 ghost use Rattle.std.specs.Prelude.{◌≡◌, ◌⊎◌, OnOk, OnErr, IfErr, IsTrue, All};
 ghost use Rattle.bag_tree.specs.declared.answer.Answer.TheVariants.{Refused};
-ghost use Rattle.bag_make.specs.Steps.{CanTake, IsStep, HasAsked, HasDone, HasLeft, MayRefuseStep, HasTaken, HasStopped};
+ghost use Rattle.bag_make.specs.Steps.{CanTake, IsStep, HasAsked, HasDone, HasLeft, MayRefuseStep};
+ghost use Rattle.bag_make.specs.Steps.{HasTaken, HasStopped};
 
 use bag_text::{Items, Text};
 use bag_tree::{TreeFault, WriteTree};
@@ -54,8 +55,9 @@ pub fn take_steps<T: WriteTree>(tree: &mut T, steps: &[Step]) -> Result<(), Refu
 fn take_step<T: WriteTree>(tree: &mut T, step: &Step) -> Result<(), TreeFault>
     requires { IsStep step.now }
     ensures done { OnOk result (HasDone step.now (T.state tree.old) (T.state tree.new)) }
-    ensures possible { OnOk result (IsTrue (T.state tree.old).honest → CanTake step.now (T.state tree.old).bag) }
-    ensures calm { OnOk result ((T.state tree.new).failures ≡ (T.state tree.old).failures) }
+    ensures possible { OnOk result
+        (IsTrue (T.state tree.old).honest → CanTake step.now (T.state tree.old).bag) }
+    ensures no_failure { OnOk result ((T.state tree.new).failures ≡ (T.state tree.old).failures) }
     ensures left { OnErr result (HasLeft step.now (T.state tree.old) (T.state tree.new)) }
     ensures refused { IfErr result (MayRefuseStep step.now (T.state tree.old) (T.state tree.new)) }
     ensures answered { IfErr result (λ cause. (T.state tree.new).last ≡ Refused cause) }

@@ -1,7 +1,7 @@
 //! The digests that manifests are to give.
 ghost use Rattle.std.specs.Prelude.{◌≡◌, ◌<◌, ◌++◌, ◌∷◌, [], length, IfOk, IfErr, OnOk, OnErr};
 ghost use Rattle.bag_text.specs.Path.{under};
-ghost use Rattle.bag_tree.specs.Calm.{RefusesNothing};
+ghost use Rattle.bag_tree.specs.NothingFailed.{NothingFailed};
 ghost use Rattle.bag_tree.specs.Tree.{Keeps, OpensAtMost};
 ghost use Rattle.bag_tree.specs.Digest.{AreSumsOf};
 ghost use Rattle.bag_facts.specs.Wanted.{paths_of};
@@ -29,8 +29,8 @@ pub struct SummedFile {
     pub sums: Sums,
 }
 
-/// The digests of listed files in their order, with their paths in the payload. Each file is opened once for all algorithms,
-/// and read through one buffer.
+/// The digests of listed files in their order, with their paths in the payload. Each file is opened
+/// once for all algorithms, and read through one buffer.
 pub fn sum_files<T: Tree>(
     alloc: Global,
     tree: &mut T,
@@ -38,10 +38,12 @@ pub fn sum_files<T: Tree>(
     algs: AlgSet,
 ) -> Result<Vec<SummedFile>, Stop>
     ensures keeps { Keeps (T.state tree.old) (T.state tree.new) }
-    ensures calm { OnOk result (RefusesNothing (T.state tree.old) (T.state tree.new)) }
+    ensures no_failure { OnOk result (NothingFailed (T.state tree.old) (T.state tree.new)) }
     ensures opens { OpensFirstOf (paths_of files.now) (T.state tree.old) (T.state tree.new) }
-    ensures opened { OnOk result ((T.state tree.new).openings ≡ (T.state tree.old).openings ++ paths_of files.now) }
-    ensures summed { IfOk result (λ summed. AreSummedFiles (T.state tree.old) files.now algs summed.items) }
+    ensures opened { OnOk result
+        ((T.state tree.new).openings ≡ (T.state tree.old).openings ++ paths_of files.now) }
+    ensures summed { IfOk result (λ summed.
+        AreSummedFiles (T.state tree.old) files.now algs summed.items) }
     ensures stop { IfErr result (StopsSumming files.now (T.state tree.old) (T.state tree.new)) }
 {
     let Ok(mut buffer) = Vec::from_elem(alloc, 0, BUFFER_BYTES) else {
@@ -60,10 +62,12 @@ fn sum_each<T: Tree>(
 ) -> Result<Vec<SummedFile>, Stop>
     requires { 0 < length buffer.old }
     ensures keeps { Keeps (T.state tree.old) (T.state tree.new) }
-    ensures calm { OnOk result (RefusesNothing (T.state tree.old) (T.state tree.new)) }
+    ensures no_failure { OnOk result (NothingFailed (T.state tree.old) (T.state tree.new)) }
     ensures opens { OpensFirstOf (paths_of files.now) (T.state tree.old) (T.state tree.new) }
-    ensures opened { OnOk result ((T.state tree.new).openings ≡ (T.state tree.old).openings ++ paths_of files.now) }
-    ensures summed { IfOk result (λ summed. AreSummedFiles (T.state tree.old) files.now algs summed.items) }
+    ensures opened { OnOk result
+        ((T.state tree.new).openings ≡ (T.state tree.old).openings ++ paths_of files.now) }
+    ensures summed { IfOk result (λ summed.
+        AreSummedFiles (T.state tree.old) files.now algs summed.items) }
     ensures stop { IfErr result (StopsSumming files.now (T.state tree.old) (T.state tree.new)) }
 {
     let mut summed = Vec::new(alloc);
@@ -84,13 +88,18 @@ fn append_summed<T: Tree>(
 ) -> Result<(), Stop>
     requires { 0 < length buffer.old }
     ensures keeps { Keeps (T.state tree.old) (T.state tree.new) }
-    ensures calm { OnOk result (RefusesNothing (T.state tree.old) (T.state tree.new)) }
-    ensures opened { OnOk result ((T.state tree.new).openings ≡ (T.state tree.old).openings ++ entry.now.path ∷ []) }
-    ensures opens { OnErr result (OpensAtMost (T.state tree.old) (T.state tree.new) entry.now.path) }
-    ensures summed { OnOk result ((one : Digested) × (summed.new.items ≡ summed.old.items ++ one ∷ []) × IsSummedEntry (T.state tree.old) entry.now algs one) }
-    ensures stop { IfErr result (StopsSumming (entry.now ∷ []) (T.state tree.old) (T.state tree.new)) }
+    ensures no_failure { OnOk result (NothingFailed (T.state tree.old) (T.state tree.new)) }
+    ensures opened { OnOk result
+        ((T.state tree.new).openings ≡ (T.state tree.old).openings ++ entry.now.path ∷ []) }
+    ensures opens { OnErr result
+        (OpensAtMost (T.state tree.old) (T.state tree.new) entry.now.path) }
+    ensures summed { OnOk result
+        ((one : Digested) × (summed.new.items ≡ summed.old.items ++ one ∷ [])
+        × IsSummedEntry (T.state tree.old) entry.now algs one) }
+    ensures stop { IfErr result
+        (StopsSumming (entry.now ∷ []) (T.state tree.old) (T.state tree.new)) }
 {
-    // Copied before the file is read, so that its refusal isn't told as want of memory.
+    // Copied before the file is read, so that its refusal isn't reported as out of memory.
     let Ok(path) = entry.path.copy(alloc) else {
         return Err(Stop::without_path(alloc, TreeFault::Memory));
     };
@@ -111,7 +120,9 @@ fn push_summed(
     path: &str,
     sums: Sums,
 ) -> Result<(), AllocError>
-    ensures { OnOk result (summed.new.items ≡ summed.old.items ++ record { path = under data_folder path.now; sums = sums } ∷ []) }
+    ensures { OnOk result
+        (summed.new.items
+        ≡ summed.old.items ++ record { path = under data_folder path.now; sums = sums } ∷ []) }
 {
     let path = Text::from_string(format!(in alloc; "{DATA_PREFIX}{path}")?);
     summed.push(SummedFile { path, sums })?;

@@ -9,7 +9,7 @@ ghost use Rattle.bag_tags.specs.Declaration.{declaration_text};
 ghost use Rattle.bag_tags.specs.Entry as entry;
 ghost use Rattle.bag_make.specs.Made as bag;
 ghost use Rattle.bag_make.specs.Made.{File, new_payload};
-ghost use Rattle.bag_make.specs.Summed.{AreSummed, entry_of, summed_entry};
+ghost use Rattle.bag_make.specs.Summed.{AreSummed, entry_of_file, summed_entry};
 ghost use Rattle.bag_make.specs.Texts.{info_of, manifests_of, named_of, size_of};
 
 use crate::request::OXUM_LABEL;
@@ -20,7 +20,8 @@ use bag_text::{Alg, AlgSet, Items, Text};
 use bag_tree::FileEntry;
 use std::alloc::{AllocError, Global};
 
-/// The tag files of the bag whose payload these listed files are, with these digests, in the order in which they are written.
+/// The tag files of the bag whose payload these listed files are, with these digests, in the order
+/// in which they are written.
 pub fn tag_files(
     alloc: Global,
     listed: &[FileEntry],
@@ -29,7 +30,9 @@ pub fn tag_files(
     info: &[(Text, Text)],
 ) -> Result<Vec<(Text, Items<u8>)>, AllocError>
     ensures ascend { IsStrictlySortedBy rank_cmp algs }
-    ensures files { IfOk result (λ made. (files : List File) → map entry_of files ≡ listed.now → AreSummed algs (new_payload files) payload.now
+    ensures files { IfOk result (λ made.
+        (files : List File) → map entry_of_file files ≡ listed.now
+        → AreSummed algs (new_payload files) payload.now
         → made.items ≡ bag.new_tag_files files algs info.now) }
 {
     let members = algs.members(alloc)?;
@@ -137,7 +140,8 @@ fn manifests(
 
 /// The manifest of an algorithm that names these files (RFC 8493, 2.1.3 and 2.2.1).
 fn manifest(alloc: Global, alg: Alg, files: &[SummedFile]) -> Result<Items<u8>, AllocError>
-    ensures { IfOk result (λ bytes. bytes ≡ entry.manifest_text (map (summed_entry alg) files.now)) }
+    ensures { IfOk result (λ bytes.
+        bytes ≡ entry.manifest_text (map (summed_entry alg) files.now)) }
 {
     let mut text = String::new(alloc);
     for file in files {
@@ -153,7 +157,10 @@ fn push_file(
     alg: Alg,
     file: &SummedFile,
 ) -> Result<(), AllocError>
-    ensures { OnOk result (string_bytes text.new ≡ string_bytes text.old ++ entry.entry_line (summed_entry alg file.now) ++ line_feed ∷ []) }
+    ensures { OnOk result
+        (string_bytes text.new
+        ≡ string_bytes text.old ++ entry.entry_line (summed_entry alg file.now)
+        ++ line_feed ∷ []) }
 {
     match file.sums.hex(alloc, alg) {
         Ok(digest) => push_entry(alloc, text, digest.as_str(), file.path.as_str()),

@@ -1,17 +1,17 @@
 //! What is moved.
 ghost use Rattle.std.specs.Prelude.{◌≡◌, IfOk, map};
 ghost use Rattle.bag_text.specs.Path as spec;
-ghost use Rattle.bag_tags.specs.Distinct.{texts_of};
+ghost use Rattle.bag_tags.specs.Distinct.{lent_texts};
 ghost use Rattle.bag_make.specs.Plan as plan;
 
 use crate::step::DATA_FOLDER;
 use bag_tree::{FileEntry, Listing};
 use std::alloc::{AllocError, Global};
 
-/// The names of the base folder that are moved: the first component of each path, and `data` where that folder is there, in
-/// the order of their bytes, each once.
+/// The names of the base folder that are moved: the first component of each path, and `data` where
+/// that folder is there, in the order of their bytes, each once.
 pub fn tops(alloc: Global, listing: &Listing) -> Result<Vec<&str>, AllocError>
-    ensures { IfOk result (λ names. texts_of names.items ≡ plan.listed_tops listing.now) }
+    ensures { IfOk result (λ names. lent_texts names.items ≡ plan.listed_tops listing.now) }
 {
     let mut names = first_components(alloc, listing.files.as_slice())?;
     if listing.has_data {
@@ -21,7 +21,8 @@ pub fn tops(alloc: Global, listing: &Listing) -> Result<Vec<&str>, AllocError>
 }
 
 fn first_components(alloc: Global, files: &[FileEntry]) -> Result<Vec<&str>, AllocError>
-    ensures { IfOk result (λ names. texts_of names.items ≡ map (λ entry. spec.first_component entry.path) files.now) }
+    ensures { IfOk result (λ names.
+        lent_texts names.items ≡ map (λ entry. spec.first_component entry.path) files.now) }
 {
     let mut names = Vec::with_capacity(alloc, files.len())?;
     for entry in files {
@@ -41,7 +42,8 @@ fn first_component(path: &str) -> &str
 
 /// The names in the order of their bytes, each once.
 fn in_order(mut names: Vec<&str>) -> Result<Vec<&str>, AllocError>
-    ensures { IfOk result (λ sorted. texts_of sorted.items ≡ plan.in_order (texts_of names.entry.items)) }
+    ensures { IfOk result (λ sorted.
+        lent_texts sorted.items ≡ plan.in_order (lent_texts names.entry.items)) }
 {
     names.sort()?;
     names.dedup();

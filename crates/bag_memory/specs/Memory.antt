@@ -41,8 +41,8 @@ with_folder bag name = record { files = bag.files; folders = set.insert bag.fold
 -- A tree in memory is honest and never fails, and has the files and the folders of its bag and
 -- nothing else. Its reads of the open file have given `given` bytes, and its last call answered
 -- `last`. It has no device.
-abbrev pub state_after : Bag → List (List ℕ) → Option (List ℕ) → ℕ → Answer → TreeState
-state_after bag openings rest given last = record {
+abbrev pub memory_state_after : Bag → List (List ℕ) → Option (List ℕ) → ℕ → Answer → TreeState
+memory_state_after bag openings rest given last = record {
   bag = bag;
   plain = true;
   honest = true;
@@ -59,7 +59,7 @@ state_after bag openings rest given last = record {
 -- a tree in memory where nothing was read of the open file, and the last call gave what was asked
 -- for
 abbrev pub memory_state : Bag → List (List ℕ) → Option (List ℕ) → TreeState
-memory_state bag openings rest = state_after bag openings rest 0 Given
+memory_state bag openings rest = memory_state_after bag openings rest 0 Given
 
 -- the state with a file put in place of what was at the path: then no file is open
 abbrev pub state_with_file : TreeState → List ℕ → List ℕ → TreeState
@@ -68,7 +68,7 @@ state_with_file state path bytes = memory_state (with_file state.bag path bytes)
 -- the state with a folder of the base folder more: all else stays
 abbrev pub state_with_folder : TreeState → List ℕ → TreeState
 state_with_folder state name =
-    state_after (with_folder state.bag name) state.openings state.rest state.given state.last
+    memory_state_after (with_folder state.bag name) state.openings state.rest state.given state.last
 
 -- files by their paths
 abbrev pub file_map : List (List ℕ × List ℕ) → fin.FinMap text_cmp (List ℕ)
@@ -79,8 +79,8 @@ abbrev pub folder_set : List (List ℕ) → set.FinSet text_cmp
 folder_set names = set.from_list names
 
 -- the bag of files by their paths, and of the names of its folders
-abbrev pub bag_of : List (List ℕ × List ℕ) → List (List ℕ) → Bag
-bag_of files names = record { files = file_map files; folders = folder_set names }
+abbrev pub bag_of_files : List (List ℕ × List ℕ) → List (List ℕ) → Bag
+bag_of_files files names = record { files = file_map files; folders = folder_set names }
 
 -- the folders without one that was added
 abbrev pub without : set.FinSet text_cmp → Option (List ℕ) → set.FinSet text_cmp
@@ -92,11 +92,11 @@ abbrev pub listed : List (List ℕ × List ℕ) → List FileEntry
 listed files = map (λ e. record { path = e.0; size = length e.1 }) files
 
 -- what follows the part of the open file that was read
-abbrev pub rest_of : Bag → Option (List ℕ) → ℕ → Option (List ℕ)
-rest_of bag None at = None
-rest_of bag (Some path) at = option_map (drop at) (file bag path)
+abbrev pub unread_rest : Bag → Option (List ℕ) → ℕ → Option (List ℕ)
+unread_rest bag None at = None
+unread_rest bag (Some path) at = option_map (drop at) (file bag path)
 
--- a file isn't opened where there is none, or for want of memory
+-- a file isn't opened where there is none, or when out of memory
 abbrev pub IsOpeningFault : Option (List ℕ) → TreeFault → Type 0
 IsOpeningFault content NotFound = content ≡ None
 IsOpeningFault content Memory = Unit {0}

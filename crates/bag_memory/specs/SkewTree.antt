@@ -3,12 +3,12 @@ use Rattle.std.specs.Prelude.{Option}
 use Rattle.bag_tree.specs.Tree.{TreeState}
 use Rattle.bag_tree.specs.declared.answer.Answer.{Answer}
 use Rattle.bag_tree.specs.declared.listing.Listing.{Listing}
-use Rattle.bag_memory.specs.MemoryView.{state_of}
+use Rattle.bag_memory.specs.MemoryView.{state_of_memory}
 use Rattle.bag_memory.specs.declared.skew_tree.SkewTree.{SkewTree}
 
 -- what the tree in memory means
 abbrev pub memory_of : SkewTree → TreeState
-memory_of tree = state_of tree.tree
+memory_of tree = state_of_memory tree.tree
 
 -- what the next `list` answers
 abbrev pub listing_of : SkewTree → Option Listing

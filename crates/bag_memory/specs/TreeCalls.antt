@@ -1,9 +1,12 @@
--- What a call of a tree makes of what the tree means, and what it answers: of each call the clauses of `Tree`.
-use Rattle.std.specs.Prelude.{◌≡◌, ℕ, ◌≤◌, ◌+◌, None, IsTrue, List, [], ◌∷◌, ◌++◌, Result, OnOk, OnErr, IfOk, IfErr, MatchResult}
+-- What a call of a tree makes of what the tree means, and what it answers: of each call the clauses
+-- of `Tree`.
+use Rattle.std.specs.Prelude.{◌≡◌, ℕ, ◌≤◌, ◌+◌, None, IsTrue, List, [], ◌∷◌, ◌++◌, Result, OnOk}
+use Rattle.std.specs.Prelude.{OnErr, IfOk, IfErr, MatchResult}
 use Rattle.bag_text.specs.Path.{is_path}
 use Rattle.bag_tree.specs.Bag.{file}
 use Rattle.bag_tree.specs.Listing.{IsOrdered, IsListingOf}
-use Rattle.bag_tree.specs.Tree.{TreeState, Keeps, MayRefuse, HasOpen, IsOpen, ReadsNext, answer_of_read}
+use Rattle.bag_tree.specs.Tree.{TreeState, Keeps, MayRefuse, HasOpen, IsOpen, ReadsNext}
+use Rattle.bag_tree.specs.Tree.{answer_of_read}
 use Rattle.bag_tree.specs.declared.answer.Answer.TheVariants.{Given, Refused, Unlisted}
 use Rattle.bag_tree.specs.declared.tree_fault.TreeFault.{TreeFault}
 use Rattle.bag_tree.specs.declared.listing.Listing.{Listing}
@@ -11,7 +14,7 @@ use Rattle.bag_tree.specs.declared.listing.Listing.{Listing}
 -- what `list` does
 pub record ListCall (old new : TreeState) (answer : Result Listing TreeFault) : Type 0 where
   pub keeps : Keeps old new
-  pub calm : OnOk answer (new.failures ≡ old.failures)
+  pub no_failure : OnOk answer (new.failures ≡ old.failures)
   pub openings : new.openings ≡ old.openings
   pub rest : new.rest ≡ old.rest
   pub ordered : IfOk answer (λ listing. IsOrdered listing.files)
@@ -21,9 +24,10 @@ pub record ListCall (old new : TreeState) (answer : Result Listing TreeFault) : 
   pub refused : IfErr answer (MayRefuse ⊥ ⊥ old new)
 
 -- what `open_file` does
-pub record OpenCall (old new : TreeState) (path : List ℕ) (answer : Result (Unit {0}) TreeFault) : Type 0 where
+pub record OpenCall (old new : TreeState) (path : List ℕ)
+    (answer : Result (Unit {0}) TreeFault) : Type 0 where
   pub keeps : Keeps old new
-  pub calm : OnOk answer (new.failures ≡ old.failures)
+  pub no_failure : OnOk answer (new.failures ≡ old.failures)
   pub opened : OnOk answer (new.openings ≡ old.openings ++ path ∷ [])
   pub only_paths : OnOk answer (IsTrue (is_path path))
   pub file_open : OnOk answer (HasOpen new)
@@ -35,14 +39,16 @@ pub record OpenCall (old new : TreeState) (path : List ℕ) (answer : Result (Un
   pub refused : IfErr answer (MayRefuse (file old.bag path ≡ None) ⊥ old new)
 
 -- what `read` does with a buffer of this size
-pub record ReadCall (old new : TreeState) (room : ℕ) (buffer : List ℕ) (answer : Result ℕ TreeFault) : Type 0 where
+pub record ReadCall (old new : TreeState) (room : ℕ) (buffer : List ℕ)
+    (answer : Result ℕ TreeFault) : Type 0 where
   pub keeps : Keeps old new
-  pub calm : OnOk answer (new.failures ≡ old.failures)
+  pub no_failure : OnOk answer (new.failures ≡ old.failures)
   pub openings : new.openings ≡ old.openings
   pub file_open : OnOk answer (HasOpen old × HasOpen new)
   pub within : IfOk answer (λ n. n ≤ room)
   pub given : IfOk answer (λ n. new.given ≡ old.given + n)
-  pub last : MatchResult answer (λ n. new.last ≡ answer_of_read n) (λ fault. new.last ≡ Refused fault)
+  pub last : MatchResult answer (λ n. new.last ≡ answer_of_read n) (λ fault.
+      new.last ≡ Refused fault)
   pub honest : IfOk answer (λ n. IsTrue old.honest → ReadsNext old.rest new.rest n buffer)
   pub same : OnErr answer (new.rest ≡ old.rest)
   pub refused : IfErr answer (MayRefuse ⊥ (old.rest ≡ None) old new)

@@ -9,7 +9,7 @@ use bag_tree::{Answer, TreeFault};
 pub(crate) enum Due {
     /// None.
     Never,
-    /// The one behind this number of calls.
+    /// The one after this number of calls.
     After(u64),
     /// None any more.
     Past,

@@ -3,7 +3,7 @@ ghost use Rattle.std.specs.Prelude.{◌≡◌, ◌≢◌, true, false, IfErr, On
 ghost use Rattle.std.specs.FinMap as map;
 ghost use Rattle.std.specs.FinSet as set;
 ghost use Rattle.bag_text.specs.Path.{under};
-ghost use Rattle.bag_memory.specs.Memory.{bag_of, file_map, folder_set};
+ghost use Rattle.bag_memory.specs.Memory.{bag_of_files, file_map, folder_set};
 ghost use Rattle.bag_memory.specs.Changing.{IsChangeFault};
 ghost use Rattle.bag_tree.specs.Moved as moving;
 ghost use Rattle.bag_tree.specs.Steps as step;
@@ -18,7 +18,7 @@ use std::collections::{BTreeMap, BTreeSet};
 
 /// Whether there is a file or a folder of this name.
 fn is_taken(files: &BTreeMap<Text, Items<u8>>, folders: &BTreeSet<Text>, name: &Text) -> bool
-    ensures { result ≡ step.is_taken (bag_of files.now.entries folders.now.keys) name.now }
+    ensures { result ≡ step.is_taken (bag_of_files files.now.entries folders.now.keys) name.now }
 {
     has_file(files, name) || is_folder(folders, name)
 }
@@ -45,10 +45,10 @@ pub(crate) fn add_folder(
     ensures added { OnOk result
         (folder_set folders.new.keys ≡ set.insert (folder_set folders.old.keys) name.now) }
     ensures free { OnOk result
-        (step.is_taken (bag_of files.now.entries folders.old.keys) name.now ≡ false) }
+        (step.is_taken (bag_of_files files.now.entries folders.old.keys) name.now ≡ false) }
     ensures same { OnErr result (folder_set folders.new.keys ≡ folder_set folders.old.keys) }
     ensures refused { IfErr result (IsChangeFault ⊥
-        (step.is_taken (bag_of files.now.entries folders.old.keys) name.now ≡ true)) }
+        (step.is_taken (bag_of_files files.now.entries folders.old.keys) name.now ≡ true)) }
 {
     let key = Text::from_str(alloc, name)?;
     if is_taken(files, folders, &key) {
@@ -69,10 +69,10 @@ pub(crate) fn add_file(
     ensures added { OnOk result
         (file_map files.new.entries ≡ map.insert (file_map files.old.entries) name.now bytes.now) }
     ensures free { OnOk result
-        (step.is_taken (bag_of files.old.entries folders.now.keys) name.now ≡ false) }
+        (step.is_taken (bag_of_files files.old.entries folders.now.keys) name.now ≡ false) }
     ensures same { OnErr result (file_map files.new.entries ≡ file_map files.old.entries) }
     ensures refused { IfErr result (IsChangeFault ⊥
-        (step.is_taken (bag_of files.old.entries folders.now.keys) name.now ≡ true)) }
+        (step.is_taken (bag_of_files files.old.entries folders.now.keys) name.now ≡ true)) }
 {
     let key = Text::from_str(alloc, name)?;
     if is_taken(files, folders, &key) {
@@ -96,16 +96,20 @@ pub(crate) fn move_below(
     ensures folders { OnOk result
         (folder_set folders.new.keys ≡ set.remove (folder_set folders.old.keys) top.now) }
     ensures there { OnOk result
-        (step.lacks_source (bag_of files.old.entries folders.old.keys) top.now folder.now ≡ false) }
+        (step.lacks_source (bag_of_files files.old.entries folders.old.keys) top.now folder.now
+        ≡ false) }
     ensures free { OnOk result
-        (step.has_within (bag_of files.old.entries folders.old.keys) (under folder.now top.now)
+        (step.has_within (bag_of_files files.old.entries folders.old.keys)
+        (under folder.now top.now)
         ≡ false) }
     ensures same_files { OnErr result (file_map files.new.entries ≡ file_map files.old.entries) }
     ensures same_folders { OnErr result
         (folder_set folders.new.keys ≡ folder_set folders.old.keys) }
     ensures refused { IfErr result (IsChangeFault
-        (step.lacks_source (bag_of files.old.entries folders.old.keys) top.now folder.now ≡ true)
-        (step.has_within (bag_of files.old.entries folders.old.keys) (under folder.now top.now)
+        (step.lacks_source (bag_of_files files.old.entries folders.old.keys) top.now folder.now
+        ≡ true)
+        (step.has_within (bag_of_files files.old.entries folders.old.keys)
+        (under folder.now top.now)
         ≡ true)) }
 {
     let name = Text::from_str(alloc, top)?;
@@ -134,15 +138,15 @@ pub(crate) fn rename_folder(
     ensures folders { OnOk result (folder_set folders.new.keys
         ≡ set.remove (set.insert (folder_set folders.old.keys) to.now) from.now) }
     ensures there { OnOk result
-        (step.lacks_folder (bag_of files.old.entries folders.old.keys) from.now ≡ false) }
+        (step.lacks_folder (bag_of_files files.old.entries folders.old.keys) from.now ≡ false) }
     ensures free { OnOk result
-        (step.is_taken (bag_of files.old.entries folders.old.keys) to.now ≡ false) }
+        (step.is_taken (bag_of_files files.old.entries folders.old.keys) to.now ≡ false) }
     ensures same_files { OnErr result (file_map files.new.entries ≡ file_map files.old.entries) }
     ensures same_folders { OnErr result
         (folder_set folders.new.keys ≡ folder_set folders.old.keys) }
     ensures refused { IfErr result (IsChangeFault
-        (step.lacks_folder (bag_of files.old.entries folders.old.keys) from.now ≡ true)
-        (step.is_taken (bag_of files.old.entries folders.old.keys) to.now ≡ true)) }
+        (step.lacks_folder (bag_of_files files.old.entries folders.old.keys) from.now ≡ true)
+        (step.is_taken (bag_of_files files.old.entries folders.old.keys) to.now ≡ true)) }
 {
     let old_name = Text::from_str(alloc, from)?;
     let new_name = Text::from_str(alloc, to)?;

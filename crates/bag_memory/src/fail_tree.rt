@@ -119,7 +119,8 @@ impl<T: WriteTree + Drop> WriteTree for FailTree<T> {
     ghost use Rattle.bag_text.specs.Path.{is_base_name};
     ghost use Rattle.bag_memory.specs.FailTree.{IfNotKth, RefusesKth};
     ghost use Rattle.bag_memory.specs.Refusals.{after_call};
-    ghost use Rattle.bag_tree.specs.Changes.{Creates, LeavesSameOrBegun, MakesFolder, MovesIn};
+    ghost use Rattle.bag_tree.specs.Changes.{Creates, LeavesUnchangedOrPartial, MakesFolder};
+    ghost use Rattle.bag_tree.specs.Changes.{MovesIn};
     ghost use Rattle.bag_tree.specs.Changes.{RenamesFolder};
 
     fn make_folder(&mut self, name: &str) -> Result<(), TreeFault>
@@ -170,7 +171,7 @@ impl<T: WriteTree + Drop> WriteTree for FailTree<T> {
         ensures kth { RefusesKth self.old self.new result }
         ensures others { IfNotKth self.old (Creates name.now bytes.now
             (T.state (below_of self.old)) (T.state (below_of self.new)) result) }
-        ensures begun { OnErr result (LeavesSameOrBegun name.now bytes.now
+        ensures begun { OnErr result (LeavesUnchangedOrPartial name.now bytes.now
             (failing (T.state (below_of self.old)) (calls_of self.old))
             (failing (T.state (below_of self.new)) (calls_of self.new))) }
     {

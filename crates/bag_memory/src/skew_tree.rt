@@ -3,7 +3,7 @@ ghost use Rattle.std.specs.Prelude.{◌≡◌};
 ghost use Rattle.std.specs.Option.{ForSome};
 ghost use Rattle.std.proofs.Props.{props};
 ghost use Rattle.bag_tree.specs.Listing.{IsOrdered};
-ghost use Rattle.bag_memory.specs.MemoryView.{state_of};
+ghost use Rattle.bag_memory.specs.MemoryView.{state_of_memory};
 ghost use Rattle.bag_memory.specs.Skewed.{skewed};
 
 use crate::MemoryTree;
@@ -26,8 +26,8 @@ impl SkewTree {
     /// is none; each later one is `TooMany`.
     pub fn new(tree: MemoryTree, listing: Option<Listing>) -> SkewTree
         requires { ForSome listing (λ listing. IsOrdered listing.files) }
-        ensures state { ⟦<SkewTree as Tree>⟧.state result ≡ skewed (state_of tree) None }
-        ensures memory { memory_of result ≡ state_of tree }
+        ensures state { ⟦<SkewTree as Tree>⟧.state result ≡ skewed (state_of_memory tree) None }
+        ensures memory { memory_of result ≡ state_of_memory tree }
         ensures listing { listing_of result ≡ listing }
         ensures own { own_of result ≡ None }
     {
@@ -48,7 +48,7 @@ impl Tree for SkewTree {
     ghost use Rattle.bag_memory.specs.SkewTree.{memory_of, listing_of, own_of};
     ghost use Rattle.bag_memory.specs.TreeCalls.{OpenCall, ReadCall};
 
-    ghost state = { λ tree. skewed (state_of tree.tree) tree.own };
+    ghost state = { λ tree. skewed (state_of_memory tree.tree) tree.own };
 
     ghost is_bag = { λ tree. passing_is_bag (memory_bag tree.tree) tree.tree.passes };
 

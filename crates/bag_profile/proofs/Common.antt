@@ -1,6 +1,10 @@
 -- The names that this crate's proofs cite, passed on from one place. Declares nothing.
-pub use Rattle.std.proofs.Common.{Bool, Bor, Err, Global, List, None, Ok, Option, Result, Some, String, [], ap, append_assoc, arith, codes, cond, drop, eqb, false, get_or, inl, inr, length, lit<, refl, rules, string_bytes, subst, suc, sym, true, ℕ, ◌&&◌, ◌++◌, ◌-◌, ◌<◌, ◌∙◌, ◌∷◌, ◌≡◌, ◌≢◌, ◌≤◌, ◌⊎◌}
-pub use Rattle.std.proofs.lemmas.Bool.{and_from, and_parts, cases_lt, eq-eqb, eqb-true, false_from_ne_true, iff_false, ne_eqb, or_cases, or_left, or_right, true≢false}
+pub use Rattle.std.proofs.Common.{Bool, Bor, Err, Global, List, None, Ok, Option, Result, Some, String, [], ap}
+pub use Rattle.std.proofs.Common.{append_assoc, arith, codes, cond, drop, eqb, false, get_or, inl, inr, length, lit<}
+pub use Rattle.std.proofs.Common.{refl, rules, string_bytes, subst, suc, sym, true, ℕ, ◌&&◌, ◌++◌, ◌-◌, ◌<◌, ◌∙◌, ◌∷◌}
+pub use Rattle.std.proofs.Common.{◌≡◌, ◌≢◌, ◌≤◌, ◌⊎◌}
+pub use Rattle.std.proofs.lemmas.Bool.{and_from, and_parts, cases_lt, eq-eqb, eqb-true, false_from_ne_true, iff_false}
+pub use Rattle.std.proofs.lemmas.Bool.{ne_eqb, or_cases, or_left, or_right, true≢false}
 pub use Rattle.std.proofs.lemmas.Slice.Eq.{bytes_eq-Decides}
 pub use Rattle.std.specs.List.{AllByRecursion, onto_first, slice_split}
 pub use Rattle.std.specs.Option.{ForSome, MatchOption, is_some, option_and_then, option_map, option_or}
@@ -12,12 +16,14 @@ pub use Rattle.serde_json.specs.Data.{Data, Items, Members, item, member, no_ite
 pub use Rattle.serde_json.specs.Find.{as_array, as_bool, as_object, as_str, get}
 pub use Rattle.serde_json.specs.View.{items_view, members_view}
 pub use Rattle.bag_profile.specs.Answer.{at, needed, present, shaped, ◌>>=◌}
-pub use Rattle.bag_profile.specs.Label.{IsOrderly, allowed_values, flag, label_rules, labels, optional, rules_of}
+pub use Rattle.bag_profile.specs.Label.{AreLabelsOrderly, allowed_values, flag, label_rules, labels, optional}
+pub use Rattle.bag_profile.specs.Label.{label_rules_of}
 pub use Rattle.bag_profile.specs.NameLists.{name_lists_of, name_rules}
-pub use Rattle.bag_profile.specs.Pattern.{IsPieces, MatchesArePieces, begins, matches, matches_after_star, some_tail, star}
+pub use Rattle.bag_profile.specs.Pattern.{IsPieces, MatchesArePieces, begins, matches, matches_after_star, some_tail}
+pub use Rattle.bag_profile.specs.Pattern.{star}
 pub use Rattle.bag_profile.specs.Read.{as_record, of_object}
 pub use Rattle.bag_profile.specs.Terms.{serialization_named, terms_of}
-pub use Rattle.bag_profile.specs.TextSet.{IsAscending, TextSetsAreLists, text_set, texts, texts_of, with_texts}
+pub use Rattle.bag_profile.specs.TextSet.{IsAscending, TextSetsAreLists, text_set, texts, texts_if_all, with_texts}
 pub use Rattle.bag_profile.specs.Unchecked.{keys, unchecked_of}
 pub use Rattle.bag_profile.specs.declared.fault.ProfileFault.{ProfileFault}
 pub use Rattle.bag_profile.specs.declared.key.Key.{Key}

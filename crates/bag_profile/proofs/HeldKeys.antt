@@ -1,6 +1,10 @@
 -- What a profile holds at each of its keys.
 use Rattle.std.proofs.Common.{arith}
-use Rattle.bag_profile.proofs.Common.{◌≡◌, ◌⊎◌, inl, inr, ℕ, true, List, [], Option, Some, None, Result, Ok, Err, refl, sym, ap, subst, option_map, option_and_then, Data, Members, get, as_bool, as_str, as_object, ProfileFault, Key, LabelRule, ◌>>=◌, shaped, at, optional, label_rules, name_rules, name_lists_of, of_object, serialization_named, terms_of, texts, unchecked_of}
+use Rattle.bag_profile.proofs.Common.{◌≡◌, ◌⊎◌, inl, inr, ℕ, true, List, [], Option, Some, None, Result, Ok, Err, refl}
+use Rattle.bag_profile.proofs.Common.{sym, ap, subst, option_map, option_and_then, Data, Members, get, as_bool, as_str}
+use Rattle.bag_profile.proofs.Common.{as_object, ProfileFault, Key, LabelRule, ◌>>=◌, shaped, at, optional, label_rules}
+use Rattle.bag_profile.proofs.Common.{name_rules, name_lists_of, of_object, serialization_named, terms_of, texts}
+use Rattle.bag_profile.proofs.Common.{unchecked_of}
 use Rattle.std.proofs.lemmas.Option.{same_Some}
 use Rattle.bag_profile.specs.declared.key.Key.TheVariants as key
 use Rattle.bag_profile.specs.declared.name_lists.NameRules.{NameRules}
@@ -20,7 +24,8 @@ ok_same : {A : Type 0} (x y : A) → ◌≡◌ {A = Result A ProfileFault} (Ok x
 ok_same x y e = cc
 
 -- two steps come to an end where each does
-bind_ok : {A B : Type 0} (r : Result A ProfileFault) (f : A → Result B ProfileFault) (y : B) → (r >>= f) ≡ Ok y → (x : A) × (r ≡ Ok x) × (f x ≡ Ok y)
+bind_ok : {A B : Type 0} (r : Result A ProfileFault) (f : A → Result B ProfileFault) (y : B) → (r >>= f) ≡ Ok y
+    → (x : A) × (r ≡ Ok x) × (f x ≡ Ok y)
 bind_ok (Ok x) f y e = (x, refl, e)
 bind_ok (Err fault) f y e = cc
 
@@ -28,13 +33,16 @@ shaped_ok : {A : Type 0} (k : Key) (o : Option A) (x : A) → shaped k o ≡ Ok 
 shaped_ok k None x e = cc
 shaped_ok k (Some y) x e = ap Some (ok_same y x e)
 
-optional_is : {A : Type 0} (default : A) (reading : Data → Option A) (o : Option Data) (x : A) → optional default reading o ≡ Some x
+optional_is : {A : Type 0} (default : A) (reading : Data → Option A) (o : Option Data) (x : A)
+    → optional default reading o ≡ Some x
     → ((o ≡ None) × (x ≡ default)) ⊎ ((value : Data) × (o ≡ Some value) × (reading value ≡ Some x))
 optional_is default reading None x e = inl (refl, sym (same_Some default x e))
 optional_is default reading (Some value) x e = inr (value, refl, e)
 
-at_is : {A : Type 0} (k : Key) (default : A) (reading : Data → Option A) (d : Data) (x : A) → at k default reading d ≡ Ok x → IsAt (key_name k) default reading d x
-at_is k default reading d x e = optional_is default reading (get (key_name k) d) x (shaped_ok k (optional default reading (get (key_name k) d)) x e)
+at_is : {A : Type 0} (k : Key) (default : A) (reading : Data → Option A) (d : Data) (x : A)
+    → at k default reading d ≡ Ok x → IsAt (key_name k) default reading d x
+at_is k default reading d x e =
+    optional_is default reading (get (key_name k) d) x (shaped_ok k (optional default reading (get (key_name k) d)) x e)
 
 set_is : (k : Key) (d : Data) (names : Option (List (List ℕ))) → texts_at k d ≡ Ok names → IsSetAt (key_name k) d names
 unfolding texts_at
@@ -43,9 +51,11 @@ set_is k d names e = at_is k None (λ value. option_map Some (texts value)) d na
 -- ---- the six lists
 
 abbrev HoldPair : Key → Key → Data → NameRules → Type 0
-HoldPair required allowed d rules = IsSetAt (key_name required) d rules.required × IsSetAt (key_name allowed) d rules.allowed
+HoldPair required allowed d rules =
+    IsSetAt (key_name required) d rules.required × IsSetAt (key_name allowed) d rules.allowed
 
-pair_is : (required allowed : Key) (d : Data) (rules : NameRules) → name_rules required allowed d ≡ Ok rules → HoldPair required allowed d rules
+pair_is : (required allowed : Key) (d : Data) (rules : NameRules) → name_rules required allowed d ≡ Ok rules
+    → HoldPair required allowed d rules
 pair_is required allowed d rules e = grind (arith, bind_ok, ok_same, set_is)
 
 abbrev HoldLists : Data → NameLists → Type 0
@@ -91,15 +101,24 @@ terms_are d terms e =
 -- ---- the identifier
 
 identifier_is : (d : Data) (identifier : List ℕ) → identifier_of d ≡ Ok identifier
-    → (info value : Data) × (get (key_name key.ProfileInfo) d ≡ Some info) × (get (key_name key.ProfileIdentifier) info ≡ Some value) × (as_str value ≡ Some identifier)
+    → (info value : Data) × (get (key_name key.ProfileInfo) d ≡ Some info)
+    × (get (key_name key.ProfileIdentifier) info ≡ Some value) × (as_str value ≡ Some identifier)
 unfolding identifier_of
 identifier_is d identifier e = grind (arith, bind_ok, shaped_ok, same_Some)
 
 -- ---- the whole
 
-made : (d : Data) (members : Members) (identifier : List ℕ) (labels : List LabelRule) (lists : NameLists) (terms : Terms)
-    → (as_object d ≡ Some members) → identifier_of d ≡ Ok identifier → labels_of d ≡ Ok labels → name_lists_of d ≡ Ok lists → terms_of d ≡ Ok terms
-    → HoldsKeys d (record { identifier = identifier; labels = labels; names = lists; terms = terms; unchecked = unchecked_of members })
+made : (d : Data) (members : Members) (identifier : List ℕ) (labels : List LabelRule) (lists : NameLists)
+    (terms : Terms)
+    → (as_object d ≡ Some members) → identifier_of d ≡ Ok identifier → labels_of d ≡ Ok labels
+    → name_lists_of d ≡ Ok lists → terms_of d ≡ Ok terms
+    → HoldsKeys d (record {
+      identifier = identifier;
+      labels = labels;
+      names = lists;
+      terms = terms;
+      unchecked = unchecked_of members;
+    })
 unfolding key_name labels_of
 made d members identifier labels lists terms all i l n t =
     let six = lists_are d lists n in
@@ -119,13 +138,15 @@ made d members identifier labels lists terms all i l n t =
       others = (members, all, refl);
     }
 
-object_holds : (d : Data) (members : Members) (profile : Profile) → as_object d ≡ Some members → of_object d members ≡ Ok profile → HoldsKeys d profile
+object_holds : (d : Data) (members : Members) (profile : Profile) → as_object d ≡ Some members
+    → of_object d members ≡ Ok profile → HoldsKeys d profile
 object_holds d members profile all e =
     let one = bind_ok (identifier_of d) _ profile e in
     let two = bind_ok (labels_of d) _ profile one.2 in
     let three = bind_ok (name_lists_of d) _ profile two.2 in
     let four = bind_ok (terms_of d) _ profile three.2 in
-    subst (HoldsKeys d) (ok_same _ profile four.2) (made d members one.0 two.0 three.0 four.0 all one.1 two.1 three.1 four.1)
+    subst (HoldsKeys d) (ok_same _ profile four.2)
+    (made d members one.0 two.0 three.0 four.0 all one.1 two.1 three.1 four.1)
 
 pub hold_keys : ProfilesHoldTheirKeys
 unfolding profile_of

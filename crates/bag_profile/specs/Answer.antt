@@ -16,10 +16,10 @@ abbrev pub ◌>>=◌ : {A B : Type 0} → Result A ProfileFault → (A → Resul
 (Ok x) >>= f = f x
 (Err fault) >>= f = Err fault
 
--- the result is the answer, but for want of memory
-abbrev pub IsAnswer : {A : Type 0} → Result A ProfileFault → Result A ProfileFault → Type 0
-IsAnswer (Ok x) answer = answer ≡ Ok x
-IsAnswer (Err fault) answer = (fault ≡ Memory) ⊎ (answer ≡ Err fault)
+-- the result is the answer, but for out of memory
+abbrev pub IsAnswerOrMemory : {A : Type 0} → Result A ProfileFault → Result A ProfileFault → Type 0
+IsAnswerOrMemory (Ok x) answer = answer ≡ Ok x
+IsAnswerOrMemory (Err fault) answer = (fault ≡ Memory) ⊎ (answer ≡ Err fault)
 
 -- what a value is, or that its key has a wrong shape
 abbrev pub shaped : {A : Type 0} → Key → Option A → Result A ProfileFault

@@ -12,8 +12,8 @@ abbrev pub labels : List LabelRule → List (List ℕ)
 labels rules = map (λ rule. rule.label) rules
 
 -- the labels ascend, and so do the values of each
-abbrev pub IsOrderly : List LabelRule → Type 0
-IsOrderly rules =
+abbrev pub AreLabelsOrderly : List LabelRule → Type 0
+AreLabelsOrderly rules =
     IsAscending (labels rules) × AllByRecursion (λ rule. IsAscending rule.values) rules
 
 -- what a value that may be absent is
@@ -42,12 +42,12 @@ label_rule label d =
     (flag (codes "required") false d)
     else None
 
-abbrev pub rules_of : Members → Option (List LabelRule)
-rules_of no_members = Some []
-rules_of (member label x rest) =
-    option_and_then (λ rule. option_map (λ rules. rule ∷ rules) (rules_of rest))
+abbrev pub label_rules_of : Members → Option (List LabelRule)
+label_rules_of no_members = Some []
+label_rules_of (member label x rest) =
+    option_and_then (λ rule. option_map (λ rules. rule ∷ rules) (label_rules_of rest))
     (label_rule label x)
 
 -- the rules of labels, in the order of the labels
 unfoldable pub label_rules : Data → Option (List LabelRule)
-label_rules d = option_and_then rules_of (as_object d)
+label_rules d = option_and_then label_rules_of (as_object d)

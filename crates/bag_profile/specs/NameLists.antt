@@ -38,7 +38,7 @@ name_lists_of d = do
 abbrev pub IsAscendingPair : NameRules → Type 0
 IsAscendingPair rules = ForSome rules.required IsAscending × ForSome rules.allowed IsAscending
 
-abbrev pub AreAscending : NameLists → Type 0
-AreAscending lists =
+abbrev pub NamesAscend : NameLists → Type 0
+NamesAscend lists =
     IsAscendingPair lists.manifests × IsAscendingPair lists.tag_manifests
     × IsAscendingPair lists.tag_files

@@ -2,7 +2,7 @@
 use Rattle.std.specs.Prelude.{ℕ, List, Option}
 use Rattle.std.specs.Option.{ForSome}
 use Rattle.bag_profile.specs.Label as label
-use Rattle.bag_profile.specs.NameLists.{AreAscending}
+use Rattle.bag_profile.specs.NameLists.{NamesAscend}
 use Rattle.bag_profile.specs.TextSet.{IsAscending}
 use Rattle.bag_profile.specs.declared.label.LabelRule.{LabelRule}
 use Rattle.bag_profile.specs.declared.name_lists.NameLists.{NameLists}
@@ -37,5 +37,5 @@ names profile AcceptBagItVersion = profile.terms.versions
 -- all lists ascend
 abbrev pub IsOrderly : Profile → Type 0
 IsOrderly profile =
-    label.IsOrderly profile.labels × AreAscending profile.names
+    label.AreLabelsOrderly profile.labels × NamesAscend profile.names
     × ForSome profile.terms.versions IsAscending × IsAscending profile.unchecked

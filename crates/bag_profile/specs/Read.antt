@@ -17,7 +17,7 @@ use Rattle.bag_profile.specs.Profile.{Profile}
 use Rattle.bag_profile.specs.Terms.{terms_of}
 use Rattle.bag_profile.specs.Unchecked.{unchecked_of}
 
--- the fault is want of memory, or there is no JSON value
+-- the fault is out of memory, or there is no JSON value
 abbrev pub IsNoJson : ProfileFault → Option Data → Type 0
 IsNoJson fault value = (fault ≡ Memory) ⊎ ((fault ≡ NotJson) × (value ≡ None))
 

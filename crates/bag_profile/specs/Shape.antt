@@ -104,10 +104,11 @@ abbrev pub first_fault : Data → Option ProfileFault
 first_fault d = if is_object d then first_fault_of_object d else Some (WrongShape Whole)
 
 -- the fault, where there is one
-abbrev pub fault_of : {A : Type 0} → Result A ProfileFault → Option ProfileFault
-fault_of (Ok x) = None
-fault_of (Err fault) = Some fault
+abbrev pub fault_in_result : {A : Type 0} → Result A ProfileFault → Option ProfileFault
+fault_in_result (Ok x) = None
+fault_in_result (Err fault) = Some fault
 
--- the law: a value is a profile where all keys have their shapes, and else its first fault is told
-abbrev pub FirstFaultIsTold : Type 0
-FirstFaultIsTold = (d : Data) → fault_of (profile_of d) ≡ first_fault d
+-- the law: a value is a profile where all keys have their shapes, and else its first fault is
+-- reported
+abbrev pub FirstFaultIsReported : Type 0
+FirstFaultIsReported = (d : Data) → fault_in_result (profile_of d) ≡ first_fault d

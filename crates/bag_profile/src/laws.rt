@@ -1,7 +1,7 @@
 //! Laws of the definitions, each the contract of a function that does nothing.
 ghost use Rattle.bag_profile.specs.Held.{ProfilesHoldTheirKeys, RulesHoldTheirKeys};
 ghost use Rattle.bag_profile.specs.Pattern.{MatchesArePieces};
-ghost use Rattle.bag_profile.specs.Shape.{FirstFaultIsTold};
+ghost use Rattle.bag_profile.specs.Shape.{FirstFaultIsReported};
 ghost use Rattle.bag_profile.specs.TextSet.{TextSetsAreLists};
 
 /// A name matches a pattern where it is what stands between the stars, with some text at each star.
@@ -14,9 +14,9 @@ pub fn text_sets_are_lists()
     ensures { TextSetsAreLists }
 {}
 
-/// A value is a profile where all keys have their shapes, and else its first fault is told.
-pub fn first_fault_is_told()
-    ensures { FirstFaultIsTold }
+/// A value is a profile where all keys have their shapes, and else its first fault is reported.
+pub fn first_fault_is_reported()
+    ensures { FirstFaultIsReported }
 {}
 
 /// A value that is a profile is one that holds at each key what stands there, and else the key's

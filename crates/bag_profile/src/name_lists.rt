@@ -2,7 +2,7 @@
 ghost use Rattle.std.specs.Prelude.{◌≡◌, IfOk};
 ghost use Rattle.std.specs.Option.{ForSome};
 ghost use Rattle.serde_json.specs.View.{view};
-ghost use Rattle.bag_profile.specs.Answer.{IsAnswer};
+ghost use Rattle.bag_profile.specs.Answer.{IsAnswerOrMemory};
 ghost use Rattle.bag_profile.specs.NameLists as spec;
 ghost use Rattle.bag_profile.specs.TextSet.{IsAscending};
 
@@ -28,8 +28,8 @@ pub(crate) struct NameLists {
 }
 
 pub(crate) fn name_lists_of(alloc: Global, value: &Value) -> Result<NameLists, ProfileFault>
-    ensures lists { IsAnswer result (spec.name_lists_of (view value.now)) }
-    ensures ascending { IfOk result spec.AreAscending }
+    ensures lists { IsAnswerOrMemory result (spec.name_lists_of (view value.now)) }
+    ensures ascending { IfOk result spec.NamesAscend }
 {
     let manifests = name_rules(alloc, value, Key::ManifestsRequired, Key::ManifestsAllowed)?;
     let tag_manifests = name_rules(
@@ -53,7 +53,7 @@ fn name_rules(
     required: Key,
     allowed: Key,
 ) -> Result<NameRules, ProfileFault>
-    ensures rules { IsAnswer result (spec.name_rules required allowed (view value.now)) }
+    ensures rules { IsAnswerOrMemory result (spec.name_rules required allowed (view value.now)) }
     ensures ascending { IfOk result spec.IsAscendingPair }
 {
     let required = texts_at(alloc, value, required)?;
@@ -68,7 +68,7 @@ pub(crate) fn texts_at(
     value: &Value,
     key: Key,
 ) -> Result<Option<Items<Text>>, ProfileFault>
-    ensures texts { IsAnswer result (spec.texts_at key (view value.now)) }
+    ensures texts { IsAnswerOrMemory result (spec.texts_at key (view value.now)) }
     ensures ascending { IfOk result (λ texts. ForSome texts IsAscending) }
 {
     let Some(list) = value.get(key.name()) else {

@@ -56,7 +56,7 @@ impl Profile {
     /// that differ by case alone are two.
     pub fn labels(&self) -> &[LabelRule]
         ensures labels { result.now ≡ self.now.labels }
-        ensures ascending { label.IsOrderly result.now }
+        ensures ascending { label.AreLabelsOrderly result.now }
     {
         self.labels.as_slice()
     }

@@ -1,8 +1,8 @@
 //! Reads profiles.
 ghost use Rattle.std.specs.Prelude.{◌≡◌, IfOk, MatchResult};
 ghost use Rattle.serde_json.specs.View.{view, members_view};
-ghost use Rattle.bag_profile.specs.Answer.{IsAnswer};
-ghost use Rattle.bag_profile.specs.Label.{IsOrderly};
+ghost use Rattle.bag_profile.specs.Answer.{IsAnswerOrMemory};
+ghost use Rattle.bag_profile.specs.Label.{AreLabelsOrderly};
 ghost use Rattle.bag_profile.specs.Read as spec;
 
 use crate::label::label_rules;
@@ -18,13 +18,13 @@ impl Profile {
     /// Reads a profile: a JSON object (RFC 8259) in UTF-8 whose checked keys have their shapes
     /// (BagIt Profiles Specification, Implementation Details).
     ///
-    /// The first thing that is wrong is answered: no JSON, which a byte order mark, text behind the
+    /// The first thing that is wrong is answered: no JSON, which a byte order mark, text after the
     /// value and more than 127 nested lists and objects are too; no object; the identifier; then
     /// the first wrong key in the order of `Key`. Of a key that is there twice the last value
     /// counts. `null` is no absence.
     #[tactic(auto, unfolding(crate::specs::Read::profile_in))]
     pub fn read(alloc: Global, bytes: &[u8]) -> Result<Profile, ProfileFault>
-        ensures { IsAnswer result (spec.profile_in bytes.now) }
+        ensures { IsAnswerOrMemory result (spec.profile_in bytes.now) }
     {
         let value = json_of(alloc, bytes)?;
         profile_of(alloc, &value)
@@ -50,7 +50,7 @@ fn json_of(alloc: Global, bytes: &[u8]) -> Result<Value, ProfileFault>
 
 #[tactic(auto, unfolding(crate::specs::Read::profile_of))]
 fn profile_of(alloc: Global, value: &Value) -> Result<Profile, ProfileFault>
-    ensures { IsAnswer result (spec.profile_of (view value.now)) }
+    ensures { IsAnswerOrMemory result (spec.profile_of (view value.now)) }
 {
     match value.as_object() {
         Some(members) => of_object(alloc, value, members),
@@ -64,7 +64,8 @@ fn of_object(
     value: &Value,
     members: &Map<String, Value>,
 ) -> Result<Profile, ProfileFault>
-    ensures { IsAnswer result (spec.of_object (view value.now) (members_view members.now.entries)) }
+    ensures { IsAnswerOrMemory result
+        (spec.of_object (view value.now) (members_view members.now.entries)) }
 {
     let identifier = identifier_of(alloc, value)?;
     let labels = labels_of(alloc, value)?;
@@ -82,7 +83,7 @@ fn of_object(
 
 #[tactic(auto, unfolding(crate::specs::Read::identifier_of))]
 fn identifier_of(alloc: Global, value: &Value) -> Result<Text, ProfileFault>
-    ensures { IsAnswer result (spec.identifier_of (view value.now)) }
+    ensures { IsAnswerOrMemory result (spec.identifier_of (view value.now)) }
 {
     let Some(info) = value.get(Key::ProfileInfo.name()) else {
         return Err(ProfileFault::NoIdentifier);
@@ -102,8 +103,8 @@ fn identifier_of(alloc: Global, value: &Value) -> Result<Text, ProfileFault>
 
 #[tactic(auto, unfolding(crate::specs::Read::labels_of))]
 fn labels_of(alloc: Global, value: &Value) -> Result<Items<LabelRule>, ProfileFault>
-    ensures labels { IsAnswer result (spec.labels_of (view value.now)) }
-    ensures orderly { IfOk result IsOrderly }
+    ensures labels { IsAnswerOrMemory result (spec.labels_of (view value.now)) }
+    ensures orderly { IfOk result AreLabelsOrderly }
 {
     let Some(labels) = value.get(Key::BagInfo.name()) else {
         return Ok(Items::new(alloc));

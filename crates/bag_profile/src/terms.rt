@@ -2,7 +2,7 @@
 ghost use Rattle.std.specs.Prelude.{◌≡◌, IfOk};
 ghost use Rattle.std.specs.Option.{ForSome};
 ghost use Rattle.serde_json.specs.View.{view};
-ghost use Rattle.bag_profile.specs.Answer.{IsAnswer};
+ghost use Rattle.bag_profile.specs.Answer.{IsAnswerOrMemory};
 ghost use Rattle.bag_profile.specs.Terms as spec;
 ghost use Rattle.bag_profile.specs.TextSet.{IsAscending};
 
@@ -59,7 +59,7 @@ pub(crate) struct Terms {
 }
 
 pub(crate) fn terms_of(alloc: Global, value: &Value) -> Result<Terms, ProfileFault>
-    ensures terms { IsAnswer result (spec.terms_of (view value.now)) }
+    ensures terms { IsAnswerOrMemory result (spec.terms_of (view value.now)) }
     ensures ascending { IfOk result (λ terms. ForSome terms.versions IsAscending) }
 {
     let allow_fetch = allow_fetch_of(value)?;

@@ -1,5 +1,6 @@
 -- Texts of ASCII digits.
-use Rattle.bag_read.proofs.Common.{List, [], ap, arith, refl, true, ℕ, ◌&&◌, ◌∷◌, ◌≡◌, is_ascii_digit, list_all, all_ascii_digits, is_digits, AreDigits}
+use Rattle.bag_read.proofs.Common.{List, [], ap, arith, refl, true, ℕ, ◌&&◌, ◌∷◌, ◌≡◌, is_ascii_digit, list_all}
+use Rattle.bag_read.proofs.Common.{all_ascii_digits, is_digits, AreDigits}
 use Rattle.bag_read.proofs.LineParts.{not_true, not_empty, empty_test}
 use Rattle.bag_read.proofs.PickedOut.{both_true}
 

@@ -1,5 +1,8 @@
 -- The two lines of the declaration and their parts.
-use Rattle.bag_read.proofs.Common.{Bool, List, Some, [], arith, codes, nat_eq, not, refl, true, ℕ, ◌++◌, ◌==◌, ◌∷◌, ◌≡◌, nat_tests, is_ascii_digit, after_first, before_first, list_all, option_and_then, ◌↔◌, byte, is_digits, after_prefix, is_encoding, is_version, when, EncodingLinesReadAsTheirParts, VersionLinesReadAsTheirParts, AreDigits}
+use Rattle.bag_read.proofs.Common.{Bool, List, Some, [], arith, codes, nat_eq, not, refl, true, ℕ, ◌++◌, ◌==◌, ◌∷◌, ◌≡◌}
+use Rattle.bag_read.proofs.Common.{nat_tests, is_ascii_digit, after_first, before_first, list_all, option_and_then, ◌↔◌}
+use Rattle.bag_read.proofs.Common.{byte, is_digits, after_prefix, is_encoding, is_version, when}
+use Rattle.bag_read.proofs.Common.{EncodingLinesReadAsTheirParts, VersionLinesReadAsTheirParts, AreDigits}
 use Rattle.bag_read.proofs.AreDigits.{are_digits, digits_are}
 use Rattle.bag_read.proofs.FirstMark.{cut_before, before_is, behind_is}
 use Rattle.bag_read.proofs.Fronts.{drop_front}
@@ -23,16 +26,27 @@ IsVersion version = (major minor : List ℕ) × AreDigits major × AreDigits min
 version_is : (t : List ℕ) → is_version t ≡ true → IsVersion t
 version_is t e =
     let (first, second) = both_true (is_digits (before_first is_dot t)) (is_digits (after_first is_dot t)) e in
-    let minor = are_digits (after_first is_dot t) second in
-    (before_first is_dot t, after_first is_dot t, are_digits (before_first is_dot t) first, minor, cut_before (byte ".") t minor.0)
+    let minor = are_digits (after_first is_dot t) second in (
+      before_first is_dot t,
+      after_first is_dot t,
+      are_digits (before_first is_dot t) first,
+      minor,
+      cut_before (byte ".") t minor.0,
+    )
 
 is_version_of : (t : List ℕ) → IsVersion t → is_version t ≡ true
 is_version_of t (major, minor, a, b, e) =
     let none = digits_no_dot major a.1 in
-    rw (before_is (byte ".") major minor t none e, behind_is (byte ".") major minor t none e, digits_are major a, digits_are minor b) refl
+    rw (
+      before_is (byte ".") major minor t none e,
+      behind_is (byte ".") major minor t none e,
+      digits_are major a,
+      digits_are minor b,
+    ) refl
 
 module _ (test : List ℕ → Bool) (label line value : List ℕ) where
-  labelled : (option_and_then (when test) (after_prefix label line) ≡ Some value) ↔ ((line ≡ label ++ value) × (test value ≡ true))
+  labelled : (option_and_then (when test) (after_prefix label line) ≡ Some value)
+      ↔ ((line ≡ label ++ value) × (test value ≡ true))
   labelled = (λ e. grind (arith, after_prefix, after_is), λ h. grind (arith, nat_eq, prefix_test, drop_front))
 
 pub version_lines : VersionLinesReadAsTheirParts

@@ -1,8 +1,10 @@
 -- Line faults and their order.
-use Rattle.bag_read.proofs.Common.{List, arith, refl, sym, ℕ, ◌<◌, ◌≡◌, eq-or-lt_of_le, cases_lt, nat_cmp_is, nat_cmp, Equal, Less, Code, line_fault, line_fault_cmp, LineFault}
+use Rattle.bag_read.proofs.Common.{List, arith, refl, sym, ℕ, ◌<◌, ◌≡◌, eq-or-lt_of_le, cases_lt, nat_cmp_is, nat_cmp}
+use Rattle.bag_read.proofs.Common.{Equal, Less, Code, line_fault, line_fault_cmp, LineFault}
 
 -- a fault is its three parts
-pub is_fault : (f : LineFault) (line : ℕ) (code : Code) (detail : List ℕ) → f.line ≡ line → f.code ≡ code → f.detail ≡ detail → f ≡ line_fault line code detail
+pub is_fault : (f : LineFault) (line : ℕ) (code : Code) (detail : List ℕ) → f.line ≡ line → f.code ≡ code
+    → f.detail ≡ detail → f ≡ line_fault line code detail
 is_fault f line code detail l c d = λ i. record { line = l i; code = c i; detail = d i }
 
 pub less : (m n : ℕ) → m < n → nat_cmp m n ≡ Less

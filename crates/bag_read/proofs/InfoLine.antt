@@ -1,5 +1,6 @@
 -- Whether a text has a character of a kind, by how many stand before the first.
-use Rattle.bag_read.proofs.Common.{Bool, List, arith, false, length, true, ℕ, ◌<◌, ◌≡◌, list_any_at, list_any_none, fails_before_first, passes_at_first, list_any, position_or_len}
+use Rattle.bag_read.proofs.Common.{Bool, List, arith, false, length, true, ℕ, ◌<◌, ◌≡◌, list_any_at, list_any_none}
+use Rattle.bag_read.proofs.Common.{fails_before_first, passes_at_first, list_any, position_or_len}
 
 module _ (p : ℕ → Bool) where
   -- a text that has none

@@ -1,5 +1,9 @@
 -- The parts of a line: what stands before its blanks, and what follows them.
-use Rattle.bag_read.proofs.Common.{Bool, List, [], append_assoc, arith, bytes_eq, drop, false, length, nat_eq, not, refl, sym, take, true, ℕ, ◌++◌, ◌∙◌, ◌∷◌, ◌≡◌, ◌≢◌, ◌⊎◌, nat_tests, take-append-drop, length-prefix_len, bytes_eq-Decides, list_all, prefix_len, after_blanks, before_blank, is_blank, is_blank_line, without_prefix, BeginsUnblank, IsCut, IsFronted, IsWithout}
+use Rattle.bag_read.proofs.Common.{Bool, List, [], append_assoc, arith, bytes_eq, drop, false, length, nat_eq, not}
+use Rattle.bag_read.proofs.Common.{refl, sym, take, true, ℕ, ◌++◌, ◌∙◌, ◌∷◌, ◌≡◌, ◌≢◌, ◌⊎◌, nat_tests, take-append-drop}
+use Rattle.bag_read.proofs.Common.{length-prefix_len, bytes_eq-Decides, list_all, prefix_len, after_blanks}
+use Rattle.bag_read.proofs.Common.{before_blank, is_blank, is_blank_line, without_prefix, BeginsUnblank, IsCutAtBlanks}
+use Rattle.bag_read.proofs.Common.{IsFronted, IsWithout}
 use Rattle.bag_read.proofs.Fronts.{drop_front, take_front, stops, front_passes, rest_stops, front_len}
 use Rattle.bag_read.proofs.PickedOut.{both_true}
 use Rattle.bag_read.proofs.Texts.{prefix_test}
@@ -36,7 +40,8 @@ module _ (text : List ℕ) where
   tail_stops : stops unblank tail ≡ true
   tail_stops = rw (length-prefix_len unblank text) (rest_stops unblank text)
 
-  none_left : (t : List ℕ) → stops unblank t ≡ true → take (prefix_len is_blank t) t ≡ [] → drop (prefix_len is_blank t) t ≡ []
+  none_left : (t : List ℕ) → stops unblank t ≡ true → take (prefix_len is_blank t) t ≡ []
+      → drop (prefix_len is_blank t) t ≡ []
   none_left t e h = grind (arith, prefix_len, is_blank)
 
   begins_or_none : (t : List ℕ) → stops is_blank t ≡ true → (t ≡ []) ⊎ BeginsUnblank t
@@ -44,15 +49,23 @@ module _ (text : List ℕ) where
 
   pub is_fronted : IsFronted text part rest
   is_fronted =
-      grind (arith, text_is, front_passes unblank text, front_passes is_blank tail, none_left tail tail_stops, begins_or_none rest (rest_stops is_blank tail))
+      grind (
+        arith,
+        text_is,
+        front_passes unblank text,
+        front_passes is_blank tail,
+        none_left tail tail_stops,
+        begins_or_none rest (rest_stops is_blank tail),
+      )
 
-  pub is_cut : part ≢ [] → rest ≢ [] → IsCut text part rest
+  pub is_cut : part ≢ [] → rest ≢ [] → IsCutAtBlanks text part rest
   is_cut some follows = grind (arith, is_fronted)
 
 stops_blank : (t : List ℕ) → (t ≡ []) ⊎ BeginsUnblank t → stops is_blank t ≡ true
 stops_blank t at = grind arith
 
-behind_stops : (blanks rest : List ℕ) → list_all is_blank blanks ≡ true → (blanks ≡ [] → rest ≡ []) → stops unblank (blanks ++ rest) ≡ true
+behind_stops : (blanks rest : List ℕ) → list_all is_blank blanks ≡ true → (blanks ≡ [] → rest ≡ [])
+    → stops unblank (blanks ++ rest) ≡ true
 behind_stops [] rest e h = rw (h refl) refl
 behind_stops (c ∷ blanks) rest e h = rw (both_true (is_blank c) (list_all is_blank blanks) e).0 refl
 
@@ -68,7 +81,7 @@ module _ (text front rest : List ℕ) (at : IsFronted text front rest) where
   fronted_rest = grind (arith, fronted_part, text_behind, drop_front, front_len, stops_blank)
 
 -- and it is cut so in no other way
-module _ (text part rest : List ℕ) (cut : IsCut text part rest) where
+module _ (text part rest : List ℕ) (cut : IsCutAtBlanks text part rest) where
   fronted : IsFronted text part rest
   fronted = grind arith
 
@@ -83,7 +96,9 @@ module _ (text part rest : List ℕ) (cut : IsCut text part rest) where
   begins_so (c ∷ p) t some e = grind (arith, not_true, both_true, nat_tests)
 
   pub not_blank : is_blank_line text ≡ false
-  not_blank = rw (cut.text_is, append_assoc part cut.blanks rest) (begins_so part (cut.blanks ++ rest) cut.some_part cut.no_blank)
+  not_blank =
+      rw (cut.text_is, append_assoc part cut.blanks rest)
+      (begins_so part (cut.blanks ++ rest) cut.some_part cut.no_blank)
 
 pub begins_some : (t : List ℕ) → BeginsUnblank t → t ≢ []
 begins_some t (c, more, e, u) same = let clash : c ∷ more ≡ [] = sym e ∙ same in cc

@@ -1,5 +1,8 @@
 -- What a function picks out of a list, and whether some element passes a test.
-use Rattle.bag_read.proofs.Common.{Bool, List, None, Option, Some, [], ap, arith, inl, inr, refl, subst, sym, true, ◌∙◌, ◌∷◌, ◌≡◌, Any-from_list_any, list_any_at, AllByRecursion, cons_option, list_any, Contains, filter_map, Ordering, Less, contains_behind, contains_cases, contains_first, contains_nothing, each_from_members, member_has, IsStrictlySortedBy}
+use Rattle.bag_read.proofs.Common.{Bool, List, None, Option, Some, [], ap, arith, inl, inr, refl, subst, sym, true, ◌∙◌}
+use Rattle.bag_read.proofs.Common.{◌∷◌, ◌≡◌, Any-from_list_any, list_any_at, AllByRecursion, cons_option, list_any}
+use Rattle.bag_read.proofs.Common.{Contains, filter_map, Ordering, Less, contains_behind, contains_cases}
+use Rattle.bag_read.proofs.Common.{contains_first, contains_nothing, each_from_members, member_has, IsStrictlySortedBy}
 pub use Rattle.bag_read.proofs.Common.{and_parts as both_true}
 
 module _ {A : Type 0} (p : A → Bool) where
@@ -28,13 +31,18 @@ module _ {A B : Type 0} (f : A → Option B) where
   is_picked [] x y c e = absurd (contains_nothing x c)
   is_picked (z ∷ xs) x y c e =
       elim (contains_cases z xs x c) [
-        | inl same ↦ subst (λ o. Contains (cons_option o (filter_map f xs)) y) (sym (ap f same ∙ e)) (contains_first y (filter_map f xs))
+        | inl same ↦ subst (λ o. Contains (cons_option o (filter_map f xs)) y) (sym (ap f same ∙ e))
+            (contains_first y (filter_map f xs))
         | inr d ↦ kept_behind (f z) (filter_map f xs) y (is_picked xs x y d e)
       ]
 
-  module _ (cmp : A → A → Ordering) (order : B → B → Ordering) (keeps : (x y : A) (u v : B) → f x ≡ Some u → f y ≡ Some v → cmp x y ≡ Less → order u v ≡ Less) where
-    below_picked : (x : A) (u : B) (xs : List A) → f x ≡ Some u → AllByRecursion (λ y. cmp x y ≡ Less) xs → AllByRecursion (λ v. order u v ≡ Less) (filter_map f xs)
-    below_picked x u xs e less = each_from_members _ (filter_map f xs) (λ v c. let p = picked xs v c in keeps x p.0 u v e p.2 (member_has _ xs p.0 less p.1))
+  module _ (cmp : A → A → Ordering) (order : B → B → Ordering)
+      (keeps : (x y : A) (u v : B) → f x ≡ Some u → f y ≡ Some v → cmp x y ≡ Less → order u v ≡ Less) where
+    below_picked : (x : A) (u : B) (xs : List A) → f x ≡ Some u → AllByRecursion (λ y. cmp x y ≡ Less) xs
+        → AllByRecursion (λ v. order u v ≡ Less) (filter_map f xs)
+    below_picked x u xs e less =
+        each_from_members _ (filter_map f xs) (λ v c.
+        let p = picked xs v c in keeps x p.0 u v e p.2 (member_has _ xs p.0 less p.1))
 
     -- what is picked out of an ascending list ascends
     pub ascending_picked : (xs : List A) → IsStrictlySortedBy cmp xs → IsStrictlySortedBy order (filter_map f xs)

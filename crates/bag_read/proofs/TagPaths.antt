@@ -1,5 +1,8 @@
 -- The paths of tag files.
-use Rattle.bag_read.proofs.Common.{Bool, List, MatchOption, None, Option, Some, [], ap, append_assoc, arith, bytes_eq, codes, false, find, get_or, refl, sym, true, ℕ, ◌++◌, ◌∙◌, ◌∷◌, ◌≡◌, ◌≢◌, bytes_eq-Decides, list_all, slice_get, alg_named, algs, name, Alg, is_alg_text, manifest_name, prefix, Kind, Payload, Tag}
+use Rattle.bag_read.proofs.Common.{Bool, List, MatchOption, None, Option, Some, [], ap, append_assoc, arith, bytes_eq}
+use Rattle.bag_read.proofs.Common.{codes, false, find, get_or, refl, sym, true, ℕ, ◌++◌, ◌∙◌, ◌∷◌, ◌≡◌, ◌≢◌}
+use Rattle.bag_read.proofs.Common.{bytes_eq-Decides, list_all, slice_get, alg_named, algs, name, Alg, is_alg_text}
+use Rattle.bag_read.proofs.Common.{manifest_name, prefix, Kind, Payload, Tag}
 use Rattle.std.proofs.lemmas.List.Elements.{All-contains}
 use Rattle.std.proofs.lemmas.List.Sums.{AllPass-from_list_all}
 use Rattle.bag_text.proofs.AlgSets.{each_is_listed, name_is_read_again, names_tell_apart}
@@ -10,7 +13,8 @@ use Rattle.bag_read.proofs.ManifestName.{same_alg}
 
 -- what all of the list pass, each algorithm passes
 each_alg : (test : Alg → Bool) → list_all test algs ≡ true → (alg : Alg) → test alg ≡ true
-each_alg test all alg = All-contains (λ a. test a ≡ true) algs alg (AllPass-from_list_all test algs all) (each_is_listed alg)
+each_alg test all alg =
+    All-contains (λ a. test a ≡ true) algs alg (AllPass-from_list_all test algs all) (each_is_listed alg)
 
 pub name_named : (a : Alg) → alg_named (name a) ≡ Some a
 name_named = name_is_read_again
@@ -28,7 +32,8 @@ pub alg_named_is : (t : List ℕ) (a : Alg) → alg_named t ≡ Some a → t ≡
 alg_named_is t a h = sym ((bytes_eq-Decides (name a) t).0 (found_passes (λ alg. bytes_eq (name alg) t) algs a h))
 
 one_text : (kind : Kind) (a b : List ℕ) → manifest_name kind a ≡ manifest_name kind b → a ≡ b
-one_text kind a b e = same_alg kind (manifest_name kind a) (a ++ codes ".txt") a b (append_assoc (prefix kind) a (codes ".txt")) refl e
+one_text kind a b e =
+    same_alg kind (manifest_name kind a) (a ++ codes ".txt") a b (append_assoc (prefix kind) a (codes ".txt")) refl e
 
 -- two bytes tell the three files and the two kinds of manifests apart
 abbrev first : List ℕ → ℕ
@@ -48,16 +53,24 @@ pub in_base : TagFilesStandInTheBase
 in_base tag_file = grind (arith, each_alg)
 
 -- the manifest of a supported algorithm, at a path that has the form of a manifest's
-pub manifest_by : (kind : Kind) (path text : List ℕ) (alg : Alg) → path ≡ manifest_name kind text → Some alg ≡ alg_named text → tag_path (Manifest kind alg) ≡ path
+pub manifest_by : (kind : Kind) (path text : List ℕ) (alg : Alg) → path ≡ manifest_name kind text
+    → Some alg ≡ alg_named text → tag_path (Manifest kind alg) ≡ path
 manifest_by kind path text alg at e = sym (at ∙ ap (manifest_name kind) (alg_named_is text alg (sym e)))
 
-pub no_manifest_by : (kind : Kind) (path text : List ℕ) → path ≡ manifest_name kind text → None ≡ alg_named text → (alg : Alg) → tag_path (Manifest kind alg) ≢ path
+pub no_manifest_by : (kind : Kind) (path text : List ℕ) → path ≡ manifest_name kind text → None ≡ alg_named text
+    → (alg : Alg) → tag_path (Manifest kind alg) ≢ path
 no_manifest_by kind path text at e alg same = grind (arith, one_text, name_named)
 
 -- a path that is none of the three files, nor that of a payload manifest
-pub at_no_payload : (path : List ℕ) (r : Option TagName) → false ≡ bytes_eq path (codes "bagit.txt") → false ≡ bytes_eq path (codes "bag-info.txt") → false ≡ bytes_eq path (codes "fetch.txt")
-    → ((alg : Alg) → tag_path (Manifest Payload alg) ≢ path) → MatchOption r ((alg : Alg) → tag_path (Manifest Tag alg) ≢ path) (λ name. tag_path name ≡ path)
+pub at_no_payload : (path : List ℕ) (r : Option TagName) → false ≡ bytes_eq path (codes "bagit.txt")
+    → false ≡ bytes_eq path (codes "bag-info.txt") → false ≡ bytes_eq path (codes "fetch.txt")
+    → ((alg : Alg) → tag_path (Manifest Payload alg) ≢ path)
+    → MatchOption r ((alg : Alg) → tag_path (Manifest Tag alg) ≢ path) (λ name. tag_path name ≡ path)
     → MatchOption r ((name : TagName) → tag_path name ≢ path) (λ name. tag_path name ≡ path)
 at_no_payload path (Some name) d i f payload found = found
 at_no_payload path None d i f payload tag =
-    elim [ Manifest kind alg ↦ elim kind as (λ k. tag_path (Manifest k alg) ≢ path) [ Payload ↦ payload alg | Tag ↦ tag alg ] | _ ↦ λ e. grind (arith, bytes_eq-Decides) ]
+    elim [
+      | Manifest kind alg ↦ elim kind as (λ k. tag_path (Manifest k alg) ≢ path)
+          [ Payload ↦ payload alg | Tag ↦ tag alg ]
+      | _ ↦ λ e. grind (arith, bytes_eq-Decides)
+    ]

@@ -1,4 +1,5 @@
--- What the two lines of the declaration are made of (RFC 8493, 2.1.1), and the laws that their definitions keep.
+-- What the two lines of the declaration are made of (RFC 8493, 2.1.1), and the laws that their
+-- definitions keep.
 use Rattle.std.specs.Prelude.{ℕ, ◌≡◌, ◌≢◌, ◌⊎◌, ◌↔◌, ◌++◌, not, List, [], Some, codes, IsTrue}
 use Rattle.std.specs.List.{list_all}
 use Rattle.bag_text.specs.Lines.{lines_of_file, IsLine}
@@ -12,7 +13,8 @@ use Rattle.bag_read.specs.Declaration.{version_of, encoding_of, IsDeclarationFau
 abbrev pub IsVersionLine : List ℕ → List ℕ → Type 0
 IsVersionLine line version =
     (line ≡ codes "BagIt-Version: " ++ version)
-    × ((major minor : List ℕ) × AreDigits major × AreDigits minor × (version ≡ major ++ codes "." ++ minor))
+    × ((major minor : List ℕ) × AreDigits major × AreDigits minor
+    × (version ≡ major ++ codes "." ++ minor))
 
 -- the label, then one or more characters without a blank
 abbrev pub IsEncodingLine : List ℕ → List ℕ → Type 0
@@ -22,10 +24,12 @@ IsEncodingLine line encoding =
 
 -- the laws: a line declares a version, or an encoding, just where it is made so
 abbrev pub VersionLinesReadAsTheirParts : Type 0
-VersionLinesReadAsTheirParts = (line version : List ℕ) → (version_of line ≡ Some version) ↔ IsVersionLine line version
+VersionLinesReadAsTheirParts = (line version : List ℕ)
+    → (version_of line ≡ Some version) ↔ IsVersionLine line version
 
 abbrev pub EncodingLinesReadAsTheirParts : Type 0
-EncodingLinesReadAsTheirParts = (line encoding : List ℕ) → (encoding_of line ≡ Some encoding) ↔ IsEncodingLine line encoding
+EncodingLinesReadAsTheirParts = (line encoding : List ℕ)
+    → (encoding_of line ≡ Some encoding) ↔ IsEncodingLine line encoding
 
 -- the one reason why a line isn't made so
 abbrev pub IsFaulty : List ℕ → ℕ → Type 0
@@ -34,15 +38,18 @@ IsFaulty bytes number = IsDeclarationFault bytes (line_fault number DeclarationL
 -- line `number` declares just one text, and isn't faulty
 abbrev pub DeclaresOne : (List ℕ → List ℕ → Type 0) → List ℕ → ℕ → List ℕ → Type 0
 DeclaresOne Declares bytes number line =
-    (text : List ℕ) × Declares line text × ((other : List ℕ) → Declares line other → other ≡ text) × ¬ (IsFaulty bytes number)
+    (text : List ℕ) × Declares line text × ((other : List ℕ) → Declares line other → other ≡ text)
+    × ¬ (IsFaulty bytes number)
 
 -- it is faulty, and declares none
 abbrev pub DeclaresNone : (List ℕ → List ℕ → Type 0) → List ℕ → ℕ → List ℕ → Type 0
-DeclaresNone Declares bytes number line = IsFaulty bytes number × ((text : List ℕ) → ¬ (Declares line text))
+DeclaresNone Declares bytes number line =
+    IsFaulty bytes number × ((text : List ℕ) → ¬ (Declares line text))
 
 abbrev pub DeclaresOrIsFaulty : (List ℕ → List ℕ → Type 0) → ℕ → Type 0
 DeclaresOrIsFaulty Declares number =
-    (bytes line : List ℕ) → IsLine (lines_of_file bytes) number line → DeclaresOne Declares bytes number line ⊎ DeclaresNone Declares bytes number line
+    (bytes line : List ℕ) → IsLine (lines_of_file bytes) number line
+    → DeclaresOne Declares bytes number line ⊎ DeclaresNone Declares bytes number line
 
 -- the law: line 1 declares one version, or is faulty, and line 2 one encoding
 abbrev pub LinesDeclareOrAreFaulty : Type 0

@@ -1,5 +1,6 @@
 -- The list of files to fetch, fetch.txt (RFC 8493, 2.2.3).
-use Rattle.std.specs.Prelude.{ℕ, ◌≡◌, ◌||◌, Bool, false, not, List, [], Result, Ok, Err, bytes_eq, codes, if◌then◌else◌}
+use Rattle.std.specs.Prelude.{ℕ, ◌≡◌, ◌||◌, Bool, false, not, List, [], Result, Ok, Err, bytes_eq}
+use Rattle.std.specs.Prelude.{codes, if◌then◌else◌}
 use Rattle.bag_text.specs.Text.{IsNoText, before_blank, after_blanks, without_prefix, is_blank_line}
 use Rattle.bag_text.specs.Lines.{lines_of_file, IsLine}
 use Rattle.bag_text.specs.Number.{is_digits}
@@ -7,7 +8,8 @@ use Rattle.bag_text.specs.Path.{is_path, is_payload_path}
 use Rattle.bag_text.specs.Spelling.{unescaped}
 use Rattle.bag_text.specs.declared.rules.Rules.{Rules}
 use Rattle.bag_text.specs.declared.code.Code.{Code}
-use Rattle.bag_text.specs.declared.code.Code.TheVariants.{NotUtf8, FetchLine, FetchEscape, FetchUnsafePath, FetchOutsidePayload}
+use Rattle.bag_text.specs.declared.code.Code.TheVariants.{NotUtf8, FetchLine, FetchEscape}
+use Rattle.bag_text.specs.declared.code.Code.TheVariants.{FetchUnsafePath, FetchOutsidePayload}
 use Rattle.bag_read.specs.Reason.{Reason, ◌>>=◌, decoded_or}
 use Rattle.bag_read.specs.declared.line_fault.LineFault.{LineFault}
 use Rattle.bag_read.specs.declared.fetch.FetchEntry.{FetchEntry}
@@ -22,7 +24,7 @@ length_of line = before_blank (after_blanks line)
 abbrev pub written_of : List ℕ → List ℕ
 written_of line = after_blanks (after_blanks line)
 
--- a length in bytes, or a - where it isn't told
+-- a length in bytes, or a - where it isn't given
 abbrev pub is_length : List ℕ → Bool
 is_length t = bytes_eq t (codes "-") || is_digits t
 
@@ -58,28 +60,32 @@ abbrev pub entry : ℕ → List ℕ → List ℕ → List ℕ → FetchEntry
 entry n url size path = record { line = n; url = url; length = size; path = path }
 
 -- the entry of line n, or the first reason why it doesn't read
-abbrev pub entry_in : Rules → ℕ → List ℕ → Result FetchEntry Reason
-entry_in rules n line = do
+abbrev pub fetch_entry_in : Rules → ℕ → List ℕ → Result FetchEntry Reason
+fetch_entry_in rules n line = do
   path ← fetch_line rules line
   Ok (entry n (url_of line) (length_of line) path)
 
-abbrev pub Reads : Rules → List ℕ → List ℕ → List ℕ → List ℕ → Type 0
-Reads rules line url size path =
-    (is_blank_line line ≡ false) × (url ≡ url_of line) × (size ≡ length_of line) × (fetch_line rules line ≡ Ok path)
+abbrev pub ReadsFetch : Rules → List ℕ → List ℕ → List ℕ → List ℕ → Type 0
+ReadsFetch rules line url size path =
+    (is_blank_line line ≡ false) × (url ≡ url_of line) × (size ≡ length_of line)
+    × (fetch_line rules line ≡ Ok path)
 
-abbrev pub HasReason : Rules → List ℕ → Reason → Type 0
-HasReason rules line reason = (is_blank_line line ≡ false) × (fetch_line rules line ≡ Err reason)
+abbrev pub HasFetchReason : Rules → List ℕ → Reason → Type 0
+HasFetchReason rules line reason =
+    (is_blank_line line ≡ false) × (fetch_line rules line ≡ Err reason)
 
 -- a line that reads
 abbrev pub IsFetch : Rules → List (List ℕ) → FetchEntry → Type 0
-IsFetch rules all e = (line : List ℕ) × IsLine all e.line line × Reads rules line e.url e.length e.path
+IsFetch rules all e =
+    (line : List ℕ) × IsLine all e.line line × ReadsFetch rules line e.url e.length e.path
 
 -- what is wrong with the file: by cases on the fault's code
 abbrev pub FetchFault : Rules → Code → List ℕ → LineFault → Type 0
 FetchFault rules NotUtf8 bytes f = (f.line ≡ 0) × (f.detail ≡ []) × IsNoText bytes
 -- the reasons why a line doesn't read
 FetchFault rules reason bytes f =
-    (line : List ℕ) × IsLine (lines_of_file bytes) f.line line × HasReason rules line (reason, f.detail)
+    (line : List ℕ) × IsLine (lines_of_file bytes) f.line line
+    × HasFetchReason rules line (reason, f.detail)
 
 abbrev pub IsFetchFault : Rules → List ℕ → LineFault → Type 0
 IsFetchFault rules bytes f = FetchFault rules f.code bytes f

@@ -4,21 +4,21 @@ use Rattle.bag_text.specs.Path.{is_payload_path}
 use Rattle.bag_text.specs.Spelling.{Spells}
 use Rattle.bag_text.specs.Text.{is_blank_line}
 use Rattle.bag_text.specs.declared.rules.Rules.{Rules}
-use Rattle.bag_read.specs.LineParts.{AreDigits, IsCut, IsWithout}
+use Rattle.bag_read.specs.LineParts.{AreDigits, IsCutAtBlanks, IsWithout}
 use Rattle.bag_read.specs.Reason.{Reason}
-use Rattle.bag_read.specs.Fetch.{Reads, HasReason}
+use Rattle.bag_read.specs.Fetch.{ReadsFetch, HasFetchReason}
 
 -- one or more digits, or a - alone
 abbrev pub IsLength : List ℕ → Type 0
 IsLength t = (t ≡ codes "-") ⊎ AreDigits t
 
 -- the line is a URL, blanks, a length, blanks, and a spelling of the path of a payload file
-pub record ReadsAs (rules : Rules) (line url size path : List ℕ) : Type 0 where
+pub record IsFetchLine (rules : Rules) (line url size path : List ℕ) : Type 0 where
   pub behind : List ℕ
   pub written : List ℕ
   pub spelling : List ℕ
-  pub url_first : IsCut line url behind
-  pub length_next : IsCut behind size written
+  pub url_first : IsCutAtBlanks line url behind
+  pub length_next : IsCutAtBlanks behind size written
   pub length_told : IsLength size
   pub dot_slash : IsWithout (codes "./") written spelling
   pub spelled : Spells rules spelling path
@@ -26,20 +26,22 @@ pub record ReadsAs (rules : Rules) (line url size path : List ℕ) : Type 0 wher
 
 -- the law: a line reads just as it is made of these
 abbrev pub FetchLinesReadAsTheirParts : Type 0
-FetchLinesReadAsTheirParts = (rules : Rules) (line url size path : List ℕ) → Reads rules line url size path ↔ ReadsAs rules line url size path
+FetchLinesReadAsTheirParts = (rules : Rules) (line url size path : List ℕ)
+    → ReadsFetch rules line url size path ↔ IsFetchLine rules line url size path
 
-abbrev pub OnlyReads : Rules → List ℕ → Type 0
-OnlyReads rules line =
-    (url size path : List ℕ) × ReadsAs rules line url size path
-    × ((u s p : List ℕ) → ReadsAs rules line u s p → (u ≡ url) × (s ≡ size) × (p ≡ path))
-    × ((reason : Reason) → ¬ (HasReason rules line reason))
+abbrev pub OnlyReadsFetch : Rules → List ℕ → Type 0
+OnlyReadsFetch rules line =
+    (url size path : List ℕ) × IsFetchLine rules line url size path
+    × ((u s p : List ℕ) → IsFetchLine rules line u s p → (u ≡ url) × (s ≡ size) × (p ≡ path))
+    × ((reason : Reason) → ¬ (HasFetchReason rules line reason))
 
-abbrev pub HasOnlyReason : Rules → List ℕ → Type 0
-HasOnlyReason rules line =
-    (reason : Reason) × HasReason rules line reason
-    × ((other : Reason) → HasReason rules line other → other ≡ reason)
-    × ((url size path : List ℕ) → ¬ (ReadsAs rules line url size path))
+abbrev pub HasOnlyFetchReason : Rules → List ℕ → Type 0
+HasOnlyFetchReason rules line =
+    (reason : Reason) × HasFetchReason rules line reason
+    × ((other : Reason) → HasFetchReason rules line other → other ≡ reason)
+    × ((url size path : List ℕ) → ¬ (IsFetchLine rules line url size path))
 
 -- the law: a line that isn't blank reads in one way, or has one reason why it doesn't
 abbrev pub FetchLinesReadOrHaveOneReason : Type 0
-FetchLinesReadOrHaveOneReason = (rules : Rules) (line : List ℕ) → is_blank_line line ≡ false → OnlyReads rules line ⊎ HasOnlyReason rules line
+FetchLinesReadOrHaveOneReason = (rules : Rules) (line : List ℕ) → is_blank_line line ≡ false
+    → OnlyReadsFetch rules line ⊎ HasOnlyFetchReason rules line

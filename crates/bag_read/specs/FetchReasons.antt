@@ -1,45 +1,55 @@
--- The reasons why a line of fetch.txt doesn't read, each by itself (RFC 8493, 2.2.3), and the law of the first.
+-- The fetch_reasons why a line of fetch.txt doesn't read, each by itself (RFC 8493, 2.2.3), and the
+-- law of the first.
 use Rattle.std.specs.Prelude.{ℕ, ◌≡◌, false, List, [], ◌∷◌, codes}
 use Rattle.bag_text.specs.Path.{is_path, is_payload_path}
 use Rattle.bag_text.specs.Spelling.{Spells}
 use Rattle.bag_text.specs.declared.rules.Rules.{Rules}
 use Rattle.bag_text.specs.declared.code.Code.{Code}
-use Rattle.bag_text.specs.declared.code.Code.TheVariants.{FetchLine, FetchEscape, FetchUnsafePath, FetchOutsidePayload}
-use Rattle.bag_read.specs.Fetch.{HasReason}
+use Rattle.bag_text.specs.declared.code.Code.TheVariants.{FetchLine, FetchEscape, FetchUnsafePath}
+use Rattle.bag_text.specs.declared.code.Code.TheVariants.{FetchOutsidePayload}
+use Rattle.bag_read.specs.Fetch.{HasFetchReason}
 use Rattle.bag_read.specs.FetchLine.{IsLength}
-use Rattle.bag_read.specs.LineParts.{IsCut, IsWithout}
+use Rattle.bag_read.specs.LineParts.{IsCutAtBlanks, IsWithout}
 use Rattle.bag_read.specs.Reason.{Reason, IsFirst}
 
 -- a URL, blanks, a length, blanks, and the path as it is written
 abbrev pub HasParts : List ℕ → List ℕ → Type 0
-HasParts line written = (url behind size : List ℕ) × IsCut line url behind × IsCut behind size written × IsLength size
+HasParts line written =
+    (url behind size : List ℕ) × IsCutAtBlanks line url behind × IsCutAtBlanks behind size written
+    × IsLength size
 
 -- the path is spelled so
-abbrev pub IsSpelled : List ℕ → List ℕ → Type 0
-IsSpelled line spelling = (written : List ℕ) × HasParts line written × IsWithout (codes "./") written spelling
+abbrev pub IsFetchSpelled : List ℕ → List ℕ → Type 0
+IsFetchSpelled line spelling =
+    (written : List ℕ) × HasParts line written × IsWithout (codes "./") written spelling
 
 -- and this text is what is spelled
-abbrev pub IsWritten : Rules → List ℕ → List ℕ → Type 0
-IsWritten rules line text = (spelling : List ℕ) × IsSpelled line spelling × Spells rules spelling text
+abbrev pub IsFetchWritten : Rules → List ℕ → List ℕ → Type 0
+IsFetchWritten rules line text =
+    (spelling : List ℕ) × IsFetchSpelled line spelling × Spells rules spelling text
 
 -- a reason, with its detail, by cases on the code
-abbrev pub Holds : Code → Rules → List ℕ → List ℕ → Type 0
+abbrev pub FetchReasonHolds : Code → Rules → List ℕ → List ℕ → Type 0
 -- the line hasn't these parts
-Holds FetchLine rules line detail = (detail ≡ []) × ((written : List ℕ) → ¬ (HasParts line written))
+FetchReasonHolds FetchLine rules line detail =
+    (detail ≡ []) × ((written : List ℕ) → ¬ (HasParts line written))
 -- the spelling of the path has a bad escape
-Holds FetchEscape rules line detail = IsSpelled line detail × ((path : List ℕ) → ¬ (Spells rules detail path))
+FetchReasonHolds FetchEscape rules line detail =
+    IsFetchSpelled line detail × ((path : List ℕ) → ¬ (Spells rules detail path))
 -- what is spelled isn't a path
-Holds FetchUnsafePath rules line detail = IsWritten rules line detail × (is_path detail ≡ false)
+FetchReasonHolds FetchUnsafePath rules line detail =
+    IsFetchWritten rules line detail × (is_path detail ≡ false)
 -- it isn't the path of a payload file
-Holds FetchOutsidePayload rules line detail = IsWritten rules line detail × (is_payload_path detail ≡ false)
-Holds other rules line detail = ⊥
+FetchReasonHolds FetchOutsidePayload rules line detail =
+    IsFetchWritten rules line detail × (is_payload_path detail ≡ false)
+FetchReasonHolds other rules line detail = ⊥
 
 -- in the order in which they count
-abbrev pub reasons : List Code
-reasons = FetchLine ∷ FetchEscape ∷ FetchUnsafePath ∷ FetchOutsidePayload ∷ []
+abbrev pub fetch_reasons : List Code
+fetch_reasons = FetchLine ∷ FetchEscape ∷ FetchUnsafePath ∷ FetchOutsidePayload ∷ []
 
 -- the law: the reason of a line holds, and none of those before it does
-abbrev pub FirstFetchReasonIsTold : Type 0
-FirstFetchReasonIsTold =
-    (rules : Rules) (line : List ℕ) (reason : Reason) → HasReason rules line reason
-    → IsFirst (λ code detail. Holds code rules line detail) reasons reason
+abbrev pub FirstFetchReasonIsReported : Type 0
+FirstFetchReasonIsReported =
+    (rules : Rules) (line : List ℕ) (reason : Reason) → HasFetchReason rules line reason
+    → IsFirst (λ code detail. FetchReasonHolds code rules line detail) fetch_reasons reason

@@ -1,5 +1,7 @@
 -- The metadata of a bag, bag-info.txt (RFC 8493, 2.2.2).
-use Rattle.std.specs.Prelude.{ℕ, ◌-◌, ◌≡◌, ◌⊎◌, ◌==◌, ◌&&◌, Bool, true, false, not, List, [], ◌∷◌, Option, Some, None, bytes_eq, if◌then◌else◌, map, filter, take, drop, take_while}
+use Rattle.std.specs.Prelude.{ℕ, ◌-◌, ◌≡◌, ◌⊎◌, ◌==◌, ◌&&◌, Bool, true, false, not, List, [], ◌∷◌}
+use Rattle.std.specs.Prelude.{Option, Some, None, bytes_eq, if◌then◌else◌, map, filter, take, drop}
+use Rattle.std.specs.Prelude.{take_while}
 use Rattle.std.specs.Str.{byte}
 use Rattle.std.specs.List.{before_first, after_first, list_any, join_with_byte}
 use Rattle.bag_text.specs.Rules.{label_of, may_follow_colon}
@@ -31,11 +33,13 @@ abbrev pub split : Rules → List ℕ → Option (List ℕ × List ℕ)
 split rules line =
     let label = label_of rules (before_first is_colon line) in
     let rest = after_first is_colon line in
-    if list_any is_colon line && is_label label && may_follow_colon rules rest then Some (label, rest) else None
+    if list_any is_colon line && is_label label && may_follow_colon rules rest
+    then Some (label, rest) else None
 
 -- the continuations up to the next line that is neither blank nor a continuation
 abbrev pub leading_continuations : List (List ℕ) → List (List ℕ)
-leading_continuations lines = filter is_continuation (take_while (λ line. not (begins_element line)) lines)
+leading_continuations lines =
+    filter is_continuation (take_while (λ line. not (begins_element line)) lines)
 
 -- the continuations that belong to line k
 abbrev pub continuations : List (List ℕ) → ℕ → List (List ℕ)
@@ -60,14 +64,16 @@ DoesNotSplit rules line = (begins_element line ≡ true) × (split rules line �
 
 -- a continuation before which no line begins an element
 abbrev pub IsOrphan : List (List ℕ) → ℕ → List ℕ → Type 0
-IsOrphan all k line = (is_continuation line ≡ true) × (list_any begins_element (take (k - 1) all) ≡ false)
+IsOrphan all k line =
+    (is_continuation line ≡ true) × (list_any begins_element (take (k - 1) all) ≡ false)
 
 -- what is wrong with the file: by cases on the fault's code
 abbrev pub InfoFault : Rules → Code → List ℕ → LineFault → Type 0
 InfoFault rules NotUtf8 bytes f = (f.line ≡ 0) × (f.detail ≡ []) × IsNoText bytes
 InfoFault rules InfoLine bytes f =
     let all = lines_of_file bytes in
-    (line : List ℕ) × (f.detail ≡ []) × IsLine all f.line line × (DoesNotSplit rules line ⊎ IsOrphan all f.line line)
+    (line : List ℕ) × (f.detail ≡ []) × IsLine all f.line line
+    × (DoesNotSplit rules line ⊎ IsOrphan all f.line line)
 InfoFault rules other bytes f = ⊥
 
 abbrev pub IsInfoFault : Rules → List ℕ → LineFault → Type 0

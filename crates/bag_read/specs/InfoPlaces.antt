@@ -5,20 +5,22 @@ use Rattle.bag_text.specs.Text.{is_blank_line}
 use Rattle.bag_text.specs.Lines.{lines_of_file, IsLine}
 use Rattle.bag_text.specs.Order.{IsListOf}
 use Rattle.bag_text.specs.declared.rules.Rules.{Rules}
-use Rattle.bag_read.specs.Info.{is_continuation, begins_element, continuations, IsElement, IsInfoFault}
+use Rattle.bag_read.specs.Info.{is_continuation, begins_element, continuations, IsElement}
+use Rattle.bag_read.specs.Info.{IsInfoFault}
 use Rattle.bag_read.specs.declared.line_fault.LineFault.{LineFault}
 use Rattle.bag_read.specs.declared.info.Element.{Element}
 
 -- line j is the nearest line before line k that is neither blank nor a continuation
-abbrev pub IsAbove : List (List ℕ) → ℕ → ℕ → Type 0
-IsAbove all k j =
+abbrev pub IsLineAbove : List (List ℕ) → ℕ → ℕ → Type 0
+IsLineAbove all k j =
     (j < k)
     × ((line : List ℕ) × IsLine all j line × (begins_element line ≡ true))
     × ((i : ℕ) (line : List ℕ) → j < i → i < k → IsLine all i line → begins_element line ≡ false)
 
 -- line k is a continuation below line j
-abbrev pub GoesOn : List (List ℕ) → ℕ → ℕ → Type 0
-GoesOn all k j = ((line : List ℕ) × IsLine all k line × (is_continuation line ≡ true)) × IsAbove all k j
+abbrev pub Continues : List (List ℕ) → ℕ → ℕ → Type 0
+Continues all k j =
+    ((line : List ℕ) × IsLine all k line × (is_continuation line ≡ true)) × IsLineAbove all k j
 
 -- line k is the first line of an element
 abbrev pub IsFirstOf : Rules → List (List ℕ) → ℕ → Element → Type 0
@@ -26,7 +28,7 @@ IsFirstOf rules all k e = IsElement rules all e × (e.line ≡ k)
 
 -- line k goes on with an element
 abbrev pub IsPartOf : Rules → List (List ℕ) → ℕ → Element → Type 0
-IsPartOf rules all k e = IsElement rules all e × GoesOn all k e.line
+IsPartOf rules all k e = IsElement rules all e × Continues all k e.line
 
 -- line k is wrong
 abbrev pub IsFaultOf : Rules → List ℕ → ℕ → LineFault → Type 0
@@ -34,7 +36,7 @@ IsFaultOf rules bytes k f = IsInfoFault rules bytes f × (f.line ≡ k)
 
 -- line k is a continuation below a line that is wrong
 abbrev pub IsPassedOver : Rules → List ℕ → ℕ → LineFault → Type 0
-IsPassedOver rules bytes k f = IsInfoFault rules bytes f × GoesOn (lines_of_file bytes) k f.line
+IsPassedOver rules bytes k f = IsInfoFault rules bytes f × Continues (lines_of_file bytes) k f.line
 
 -- just one of four
 abbrev pub IsJustOne : Type 0 → Type 0 → Type 0 → Type 0 → Type 0
@@ -47,10 +49,12 @@ IsJustOne a b c d =
     × (b → d → ⊥)
     × (c → d → ⊥)
 
--- the law: a line that isn't blank is the first of an element, goes on with one, is wrong, or is passed over
+-- the law: a line that isn't blank is the first of an element, goes on with one, is wrong, or is
+-- passed over
 abbrev pub EachLineHasOnePlace : Type 0
 EachLineHasOnePlace =
-    (rules : Rules) (bytes : List ℕ) (k : ℕ) (line : List ℕ) → IsLine (lines_of_file bytes) k line → is_blank_line line ≡ false
+    (rules : Rules) (bytes : List ℕ) (k : ℕ) (line : List ℕ) → IsLine (lines_of_file bytes) k line
+    → is_blank_line line ≡ false
     → IsJustOne
     ((e : Element) × IsFirstOf rules (lines_of_file bytes) k e)
     ((e : Element) × IsPartOf rules (lines_of_file bytes) k e)
@@ -60,10 +64,15 @@ EachLineHasOnePlace =
 -- the law: a line is of one element at most
 abbrev pub EachLineIsOfOneElement : Type 0
 EachLineIsOfOneElement =
-    (rules : Rules) (all : List (List ℕ)) (k : ℕ) (d e : Element) → IsFirstOf rules all k d ⊎ IsPartOf rules all k d → IsFirstOf rules all k e ⊎ IsPartOf rules all k e → d ≡ e
+    (rules : Rules) (all : List (List ℕ)) (k : ℕ) (d e : Element)
+    → IsFirstOf rules all k d ⊎ IsPartOf rules all k d
+    → IsFirstOf rules all k e ⊎ IsPartOf rules all k e → d ≡ e
 
--- the law: of a line that begins an element, the lines that go on below it are its continuations, in their order
+-- the law: of a line that begins an element, the lines that go on below it are its continuations,
+-- in their order
 abbrev pub ContinuationsAreBelow : Type 0
 ContinuationsAreBelow =
-    (all : List (List ℕ)) (j : ℕ) → (line : List ℕ) × IsLine all j line × (begins_element line ≡ true)
-    → (ks : List ℕ) × IsListOf nat_cmp (λ k. GoesOn all k j) ks × (map (λ k. slice_get all (k - 1)) ks ≡ map Some (continuations all j))
+    (all : List (List ℕ)) (j : ℕ)
+    → (line : List ℕ) × IsLine all j line × (begins_element line ≡ true)
+    → (ks : List ℕ) × IsListOf nat_cmp (λ k. Continues all k j) ks
+    × (map (λ k. slice_get all (k - 1)) ks ≡ map Some (continuations all j))

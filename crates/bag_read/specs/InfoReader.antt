@@ -1,5 +1,7 @@
--- The elements and the faults of numbered lines, and how a reader comes to them line by line (RFC 8493, 2.2.2).
-use Rattle.std.specs.Prelude.{ℕ, ◌++◌, ◌||◌, Bool, true, false, List, [], ◌∷◌, Option, Some, None, if◌then◌else◌}
+-- The elements and the faults of numbered lines, and how a reader comes to them line by line (RFC
+-- 8493, 2.2.2).
+use Rattle.std.specs.Prelude.{ℕ, ◌++◌, ◌||◌, Bool, true, false, List, [], ◌∷◌, Option, Some, None}
+use Rattle.std.specs.Prelude.{if◌then◌else◌}
 use Rattle.std.specs.Option.{option_to_list}
 use Rattle.bag_text.specs.Text.{trim, is_blank_line, begins_with_blank}
 use Rattle.bag_text.specs.Lines.{line_feed}
@@ -31,10 +33,12 @@ value_on value (x ∷ xs) =
 -- what a line that begins an element makes, with the lines that follow
 abbrev pub element_if : ℕ → Option (List ℕ × List ℕ) → Numbered → Option Element
 element_if n None more = None
-element_if n (Some x) more = Some (record { line = n; label = x.0; value = value_on (trim x.1) more })
+element_if n (Some x) more =
+    Some (record { line = n; label = x.0; value = value_on (trim x.1) more })
 
 abbrev pub element_at : Rules → ℕ → List ℕ → Numbered → Option Element
-element_at rules n line more = if begins_element line then element_if n (split rules line) more else None
+element_at rules n line more =
+    if begins_element line then element_if n (split rules line) more else None
 
 abbrev pub elements : Rules → Numbered → List Element
 elements rules [] = []
@@ -56,7 +60,8 @@ fault_at rules begun n line =
 
 abbrev pub faults : Rules → Bool → Numbered → List LineFault
 faults rules begun [] = []
-faults rules begun (x ∷ xs) = option_to_list (fault_at rules begun x.0 x.1) ++ faults rules (begun || begins_element x.1) xs
+faults rules begun (x ∷ xs) =
+    option_to_list (fault_at rules begun x.0 x.1) ++ faults rules (begun || begins_element x.1) xs
 
 -- the element that is open, as it stands
 abbrev pub closed : Above → List Element
@@ -84,13 +89,20 @@ all_faults rules r xs = r.faults ++ faults rules (has_begun r.above) xs
 
 -- the reader after a line that should begin an element
 abbrev pub begun : Reader → ℕ → Option (List ℕ × List ℕ) → Reader
-begun r n None = record { items = r.items ++ closed r.above; faults = r.faults ++ wrong n ∷ []; above = Refused }
-begun r n (Some x) = record { items = r.items ++ closed r.above; faults = r.faults; above = Begun (record { line = n; label = x.0; value = trim x.1 }) }
+begun r n None =
+    record { items = r.items ++ closed r.above; faults = r.faults ++ wrong n ∷ []; above = Refused }
+begun r n (Some x) =
+    record {
+      items = r.items ++ closed r.above;
+      faults = r.faults;
+      above = Begun (record { line = n; label = x.0; value = trim x.1 });
+    }
 
 abbrev pub continued_from : Reader → ℕ → List ℕ → Above → Reader
 continued_from r n line Nothing = record r { faults = r.faults ++ wrong n ∷ [] }
 continued_from r n line Refused = r
-continued_from r n line (Begun e) = record r { above = Begun (record e { value = with_part e.value line }) }
+continued_from r n line (Begun e) =
+    record r { above = Begun (record e { value = with_part e.value line }) }
 
 -- the reader after a continuation
 abbrev pub continued : Reader → ℕ → List ℕ → Reader

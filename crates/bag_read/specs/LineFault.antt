@@ -1,5 +1,6 @@
 -- What is read of a tag file line by line, its faults, and their order: by line, code and detail.
-use Rattle.std.specs.Prelude.{ℕ, List, [], Option, Some, None, Result, Ok, Err, if◌then◌else◌, filter_map}
+use Rattle.std.specs.Prelude.{ℕ, List, [], Option, Some, None, Result, Ok, Err, if◌then◌else◌}
+use Rattle.std.specs.Prelude.{filter_map}
 use Rattle.std.specs.List.{enumerate_from}
 use Rattle.std.specs.Result.{result_ok}
 use Rattle.std.specs.declared.cmp.Ordering.{Ordering}
@@ -20,7 +21,9 @@ abbrev pub not_utf8 : LineFault
 not_utf8 = line_fault 0 NotUtf8 []
 
 abbrev pub line_fault_cmp : LineFault → LineFault → Ordering
-line_fault_cmp = then_cmp (then_cmp (on (λ f. f.line) nat_cmp) (on (λ f. number f.code) nat_cmp)) (on (λ f. f.detail) text_cmp)
+line_fault_cmp =
+    then_cmp (then_cmp (on (λ f. f.line) nat_cmp) (on (λ f. number f.code) nat_cmp))
+    (on (λ f. f.detail) text_cmp)
 
 -- the faults of a file that are exactly these, in line order
 abbrev pub AreFaults : (LineFault → Type 0) → List LineFault → Type 0
@@ -42,5 +45,6 @@ fault_of reads x = if is_blank_line x.1 then None else fault_in x.0 (reads x.0 x
 abbrev pub entries_read : {E : Type 0} → (ℕ → List ℕ → Result E Reason) → List (List ℕ) → List E
 entries_read reads all = filter_map (entry_of reads) (enumerate_from 1 all)
 
-abbrev pub faults_read : {E : Type 0} → (ℕ → List ℕ → Result E Reason) → List (List ℕ) → List LineFault
+abbrev pub faults_read : {E : Type 0} → (ℕ → List ℕ → Result E Reason) → List (List ℕ)
+    → List LineFault
 faults_read reads all = filter_map (fault_of reads) (enumerate_from 1 all)

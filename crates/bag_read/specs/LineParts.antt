@@ -9,7 +9,7 @@ abbrev pub BeginsUnblank : List ℕ → Type 0
 BeginsUnblank t = (c : ℕ) × (more : List ℕ) × (t ≡ c ∷ more) × (is_blank c ≡ false)
 
 -- a part without a blank, one or more blanks, and what follows them
-pub record IsCut (text part rest : List ℕ) : Type 0 where
+pub record IsCutAtBlanks (text part rest : List ℕ) : Type 0 where
   pub blanks : List ℕ
   pub text_is : text ≡ part ++ blanks ++ rest
   pub some_part : part ≢ []
@@ -18,7 +18,7 @@ pub record IsCut (text part rest : List ℕ) : Type 0 where
   pub only_blanks : IsTrue (list_all is_blank blanks)
   pub begins : BeginsUnblank rest
 
--- the longest front without a blank, the blanks behind it, and what follows them
+-- the longest front without a blank, the blanks after it, and what follows them
 pub record IsFronted (text front rest : List ℕ) : Type 0 where
   pub blanks : List ℕ
   pub text_is : text ≡ front ++ blanks ++ rest
@@ -31,6 +31,7 @@ pub record IsFronted (text front rest : List ℕ) : Type 0 where
 abbrev pub AreDigits : List ℕ → Type 0
 AreDigits t = (t ≢ []) × IsTrue (list_all is_ascii_digit t)
 
--- the text behind a mark, or the text itself where the mark doesn't stand in front of it
+-- the text after a mark, or the text itself where the mark doesn't stand in front of it
 abbrev pub IsWithout : List ℕ → List ℕ → List ℕ → Type 0
-IsWithout mark text behind = (text ≡ mark ++ behind) ⊎ ((behind ≡ text) × ((more : List ℕ) → text ≢ mark ++ more))
+IsWithout mark text behind = (text ≡ mark ++ behind)
+    ⊎ ((behind ≡ text) × ((more : List ℕ) → text ≢ mark ++ more))

@@ -1,5 +1,7 @@
 -- Manifests (RFC 8493, 2.1.3 and 2.2.1).
-use Rattle.std.specs.Prelude.{ℕ, ◌-◌, ◌≡◌, ◌==◌, ◌||◌, Bool, false, not, List, [], length, Option, Some, None, Result, Ok, Err, bytes_eq, codes, if◌then◌else◌, filter_map, take, Contains}
+use Rattle.std.specs.Prelude.{ℕ, ◌-◌, ◌≡◌, ◌==◌, ◌||◌, Bool, false, not, List, [], length, Option}
+use Rattle.std.specs.Prelude.{Some, None, Result, Ok, Err, bytes_eq, codes, if◌then◌else◌}
+use Rattle.std.specs.Prelude.{filter_map, take, Contains}
 use Rattle.std.specs.Str.{str_to_ascii_lowercase}
 use Rattle.std.specs.Char.{is_ascii_hexdigit}
 use Rattle.std.specs.List.{list_all}
@@ -11,7 +13,11 @@ use Rattle.bag_text.specs.Alg.{hex_len}
 use Rattle.bag_text.specs.declared.rules.Rules.{Rules}
 use Rattle.bag_text.specs.declared.alg.Alg.{Alg}
 use Rattle.bag_text.specs.declared.code.Code.{Code}
-use Rattle.bag_text.specs.declared.code.Code.TheVariants.{NotUtf8, ManifestLine, DigestLength, ManifestEscape, ManifestUnsafePath, ManifestOutsidePayload, TagmanifestNamesPayload, TagmanifestNamesTagmanifest, NamedAgain}
+use Rattle.bag_text.specs.declared.code.Code.TheVariants.{NotUtf8, ManifestLine, DigestLength}
+use Rattle.bag_text.specs.declared.code.Code.TheVariants.{ManifestEscape, ManifestUnsafePath}
+use Rattle.bag_text.specs.declared.code.Code.TheVariants.{ManifestOutsidePayload}
+use Rattle.bag_text.specs.declared.code.Code.TheVariants.{TagmanifestNamesPayload}
+use Rattle.bag_text.specs.declared.code.Code.TheVariants.{TagmanifestNamesTagmanifest, NamedAgain}
 use Rattle.bag_read.specs.ManifestName.{is_manifest_name}
 use Rattle.bag_read.specs.declared.kind.Kind.{Kind}
 use Rattle.bag_read.specs.declared.kind.Kind.TheVariants.{Payload, Tag}
@@ -22,7 +28,8 @@ use Rattle.bag_read.specs.declared.manifest.ManifestEntry.{ManifestEntry}
 -- the digest in lower case, where it is hex, has the algorithm's length, and something follows it
 abbrev pub checked_digest : Alg → List ℕ → List ℕ → Result (List ℕ) Reason
 checked_digest alg digest rest =
-    if bytes_eq digest [] || not (list_all is_ascii_hexdigit digest) || bytes_eq rest [] then Err (ManifestLine, [])
+    if bytes_eq digest [] || not (list_all is_ascii_hexdigit digest) || bytes_eq rest []
+    then Err (ManifestLine, [])
     else if not (length digest == hex_len alg) then Err (DigestLength, digest)
     else Ok (str_to_ascii_lowercase digest)
 
@@ -68,19 +75,25 @@ manifest_line rules kind alg line = do
 
 -- the entry of line n that says this, where it doesn't name a path again
 abbrev pub entry_unless : Bool → ℕ → List ℕ × List ℕ → Result ManifestEntry Reason
-entry_unless again n said = if again then Err (NamedAgain, said.1) else Ok (record { line = n; digest = said.0; path = said.1 })
+entry_unless again n said =
+    if again then Err (NamedAgain, said.1)
+    else Ok (record { line = n; digest = said.0; path = said.1 })
 
--- the entry of line n, or the first reason why it isn't one, by a test whether a line names a path again
-abbrev pub entry_in : (ℕ → List ℕ → Bool) → Rules → Kind → Alg → ℕ → List ℕ → Result ManifestEntry Reason
-entry_in names_again rules kind alg n line = do
+-- the entry of line n, or the first reason why it isn't one, by a test whether a line names a path
+-- again
+abbrev pub manifest_entry_in : (ℕ → List ℕ → Bool) → Rules → Kind → Alg → ℕ → List ℕ
+    → Result ManifestEntry Reason
+manifest_entry_in names_again rules kind alg n line = do
   said ← manifest_line rules kind alg line
   entry_unless (names_again n said.1) n said
 
-abbrev pub Reads : Rules → Kind → Alg → List ℕ → List ℕ → List ℕ → Type 0
-Reads rules kind alg line digest path = (is_blank_line line ≡ false) × (manifest_line rules kind alg line ≡ Ok (digest, path))
+abbrev pub ReadsManifest : Rules → Kind → Alg → List ℕ → List ℕ → List ℕ → Type 0
+ReadsManifest rules kind alg line digest path =
+    (is_blank_line line ≡ false) × (manifest_line rules kind alg line ≡ Ok (digest, path))
 
-abbrev pub HasReason : Rules → Kind → Alg → List ℕ → Reason → Type 0
-HasReason rules kind alg line reason = (is_blank_line line ≡ false) × (manifest_line rules kind alg line ≡ Err reason)
+abbrev pub HasManifestReason : Rules → Kind → Alg → List ℕ → Reason → Type 0
+HasManifestReason rules kind alg line reason =
+    (is_blank_line line ≡ false) × (manifest_line rules kind alg line ≡ Err reason)
 
 -- the path that a line names, where it reads
 abbrev pub path_read : Result (List ℕ × List ℕ) Reason → Option (List ℕ)
@@ -89,7 +102,9 @@ path_read (Err reason) = None
 
 -- the paths that lines name, in their order
 abbrev pub named : Rules → Kind → Alg → List (List ℕ) → List (List ℕ)
-named rules kind alg all = filter_map (λ line. if is_blank_line line then None else path_read (manifest_line rules kind alg line)) all
+named rules kind alg all =
+    filter_map (λ line. if is_blank_line line then None
+    else path_read (manifest_line rules kind alg line)) all
 
 -- the paths that the lines before line k name
 abbrev pub named_before : Rules → Kind → Alg → List (List ℕ) → ℕ → List (List ℕ)
@@ -98,7 +113,7 @@ named_before rules kind alg all k = named rules kind alg (take (k - 1) all)
 -- an entry: a line that reads, the first that names its path
 abbrev pub IsEntry : Rules → Kind → Alg → List (List ℕ) → ManifestEntry → Type 0
 IsEntry rules kind alg all e =
-    (line : List ℕ) × IsLine all e.line line × Reads rules kind alg line e.digest e.path
+    (line : List ℕ) × IsLine all e.line line × ReadsManifest rules kind alg line e.digest e.path
     × ¬ (Contains (named_before rules kind alg all e.line) e.path)
 
 -- what is wrong with the file: by cases on the fault's code
@@ -106,11 +121,13 @@ abbrev pub ManifestFault : Code → Rules → Kind → Alg → List ℕ → Line
 ManifestFault NotUtf8 rules kind alg bytes f = (f.line ≡ 0) × (f.detail ≡ []) × IsNoText bytes
 ManifestFault NamedAgain rules kind alg bytes f =
     let all = lines_of_file bytes in
-    (line : List ℕ) × (digest : List ℕ) × IsLine all f.line line × Reads rules kind alg line digest f.detail
+    (line : List ℕ) × (digest : List ℕ) × IsLine all f.line line
+    × ReadsManifest rules kind alg line digest f.detail
     × Contains (named_before rules kind alg all f.line) f.detail
 -- the reasons why a line doesn't read
 ManifestFault reason rules kind alg bytes f =
-    (line : List ℕ) × IsLine (lines_of_file bytes) f.line line × HasReason rules kind alg line (reason, f.detail)
+    (line : List ℕ) × IsLine (lines_of_file bytes) f.line line
+    × HasManifestReason rules kind alg line (reason, f.detail)
 
 abbrev pub IsManifestFault : Rules → Kind → Alg → List ℕ → LineFault → Type 0
 IsManifestFault rules kind alg bytes f = ManifestFault f.code rules kind alg bytes f

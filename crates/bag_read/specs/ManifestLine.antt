@@ -1,4 +1,5 @@
--- What a line of a manifest is made of (RFC 8493, 2.1.3 and 2.2.1), and the laws that its definition keeps.
+-- What a line of a manifest is made of (RFC 8493, 2.1.3 and 2.2.1), and the laws that its
+-- definition keeps.
 use Rattle.std.specs.Prelude.{ℕ, ◌≡◌, ◌≢◌, ◌⊎◌, ◌↔◌, false, List, length, codes, IsTrue}
 use Rattle.std.specs.Char.{is_ascii_hexdigit}
 use Rattle.std.specs.List.{list_all}
@@ -9,28 +10,34 @@ use Rattle.bag_text.specs.Spelling.{Spells}
 use Rattle.bag_text.specs.Text.{is_blank_line}
 use Rattle.bag_text.specs.declared.rules.Rules.{Rules}
 use Rattle.bag_text.specs.declared.alg.Alg.{Alg}
-use Rattle.bag_read.specs.LineParts.{IsCut, IsWithout}
+use Rattle.bag_read.specs.LineParts.{IsCutAtBlanks, IsWithout}
 use Rattle.bag_read.specs.Reason.{Reason}
-use Rattle.bag_read.specs.Manifest.{Reads, HasReason}
+use Rattle.bag_read.specs.Manifest.{ReadsManifest, HasManifestReason}
 use Rattle.bag_read.specs.ManifestName.{manifest_name, is_alg_text}
 use Rattle.bag_read.specs.declared.kind.Kind.{Kind}
 use Rattle.bag_read.specs.declared.kind.Kind.TheVariants.{Payload, Tag}
 
--- how the path is written: behind one *, as md5sum -b has it, and then one ./
+-- how the path is written: after one *, as md5sum -b has it, and then one ./
 abbrev pub IsSpelling : List ℕ → List ℕ → Type 0
-IsSpelling rest spelling = (unmarked : List ℕ) × IsWithout (codes "*") rest unmarked × IsWithout (codes "./") unmarked spelling
+IsSpelling rest spelling =
+    (unmarked : List ℕ) × IsWithout (codes "*") rest unmarked
+    × IsWithout (codes "./") unmarked spelling
 
 -- a payload manifest may name payload files, and a tag manifest other files, but no tag manifest
 abbrev pub MayName : Kind → List ℕ → Type 0
 MayName Payload path = IsTrue (is_payload_path path)
-MayName Tag path = (is_payload_path path ≡ false) × ((alg : List ℕ) → IsTrue (is_alg_text alg) → path ≢ manifest_name Tag alg)
+MayName Tag path =
+    (is_payload_path path ≡ false)
+    × ((alg : List ℕ) → IsTrue (is_alg_text alg) → path ≢ manifest_name Tag alg)
 
--- the line is a digest of the algorithm, blanks, and a spelling of a path that a manifest of this kind may name
-pub record ReadsAs (rules : Rules) (kind : Kind) (alg : Alg) (line digest path : List ℕ) : Type 0 where
+-- the line is a digest of the algorithm, blanks, and a spelling of a path that a manifest of this
+-- kind may name
+pub record IsManifestLine (rules : Rules) (kind : Kind) (alg : Alg)
+    (line digest path : List ℕ) : Type 0 where
   pub hex : List ℕ
   pub rest : List ℕ
   pub spelling : List ℕ
-  pub parts : IsCut line hex rest
+  pub parts : IsCutAtBlanks line hex rest
   pub only_digits : IsTrue (list_all is_ascii_hexdigit hex)
   pub hex_length : length hex ≡ hex_len alg
   pub in_lower_case : digest ≡ str_to_ascii_lowercase hex
@@ -41,20 +48,23 @@ pub record ReadsAs (rules : Rules) (kind : Kind) (alg : Alg) (line digest path :
 
 -- the law: a line reads just as it is made of these
 abbrev pub LinesReadAsTheirParts : Type 0
-LinesReadAsTheirParts = (rules : Rules) (kind : Kind) (alg : Alg) (line digest path : List ℕ) → Reads rules kind alg line digest path ↔ ReadsAs rules kind alg line digest path
+LinesReadAsTheirParts = (rules : Rules) (kind : Kind) (alg : Alg) (line digest path : List ℕ)
+    → ReadsManifest rules kind alg line digest path ↔ IsManifestLine rules kind alg line digest path
 
-abbrev pub OnlyReads : Rules → Kind → Alg → List ℕ → Type 0
-OnlyReads rules kind alg line =
-    (digest path : List ℕ) × ReadsAs rules kind alg line digest path
-    × ((d p : List ℕ) → ReadsAs rules kind alg line d p → (d ≡ digest) × (p ≡ path))
-    × ((reason : Reason) → ¬ (HasReason rules kind alg line reason))
+abbrev pub OnlyReadsManifest : Rules → Kind → Alg → List ℕ → Type 0
+OnlyReadsManifest rules kind alg line =
+    (digest path : List ℕ) × IsManifestLine rules kind alg line digest path
+    × ((d p : List ℕ) → IsManifestLine rules kind alg line d p → (d ≡ digest) × (p ≡ path))
+    × ((reason : Reason) → ¬ (HasManifestReason rules kind alg line reason))
 
-abbrev pub HasOnlyReason : Rules → Kind → Alg → List ℕ → Type 0
-HasOnlyReason rules kind alg line =
-    (reason : Reason) × HasReason rules kind alg line reason
-    × ((other : Reason) → HasReason rules kind alg line other → other ≡ reason)
-    × ((digest path : List ℕ) → ¬ (ReadsAs rules kind alg line digest path))
+abbrev pub HasOnlyManifestReason : Rules → Kind → Alg → List ℕ → Type 0
+HasOnlyManifestReason rules kind alg line =
+    (reason : Reason) × HasManifestReason rules kind alg line reason
+    × ((other : Reason) → HasManifestReason rules kind alg line other → other ≡ reason)
+    × ((digest path : List ℕ) → ¬ (IsManifestLine rules kind alg line digest path))
 
 -- the law: a line that isn't blank reads in one way, or has one reason why it doesn't
 abbrev pub LinesReadOrHaveOneReason : Type 0
-LinesReadOrHaveOneReason = (rules : Rules) (kind : Kind) (alg : Alg) (line : List ℕ) → is_blank_line line ≡ false → OnlyReads rules kind alg line ⊎ HasOnlyReason rules kind alg line
+LinesReadOrHaveOneReason = (rules : Rules) (kind : Kind) (alg : Alg) (line : List ℕ)
+    → is_blank_line line ≡ false
+    → OnlyReadsManifest rules kind alg line ⊎ HasOnlyManifestReason rules kind alg line

@@ -1,5 +1,6 @@
 -- The names of manifests (RFC 8493, 2.1.3 and 2.2.1).
-use Rattle.std.specs.Prelude.{ℕ, ◌-◌, ◌&&◌, ◌||◌, Bool, not, List, [], ◌++◌, length, take, bytes_eq, codes}
+use Rattle.std.specs.Prelude.{ℕ, ◌-◌, ◌&&◌, ◌||◌, Bool, not, List, [], ◌++◌, length, take, bytes_eq}
+use Rattle.std.specs.Prelude.{codes}
 use Rattle.std.specs.List.{list_all}
 use Rattle.std.specs.Char.{is_ascii_digit, is_ascii_lowercase}
 use Rattle.bag_text.specs.Text.{without_prefix}

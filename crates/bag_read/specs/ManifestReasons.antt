@@ -1,4 +1,5 @@
--- The reasons why a line of a manifest doesn't read, each by itself (RFC 8493, 2.1.3 and 2.2.1), and the law of the first.
+-- The manifest_reasons why a line of a manifest doesn't read, each by itself (RFC 8493, 2.1.3 and
+-- 2.2.1), and the law of the first.
 use Rattle.std.specs.Prelude.{ℕ, ◌≡◌, ◌≢◌, ◌⊎◌, false, List, [], ◌∷◌, length, IsTrue}
 use Rattle.std.specs.Char.{is_ascii_hexdigit}
 use Rattle.std.specs.List.{list_all}
@@ -8,51 +9,67 @@ use Rattle.bag_text.specs.Spelling.{Spells}
 use Rattle.bag_text.specs.declared.rules.Rules.{Rules}
 use Rattle.bag_text.specs.declared.alg.Alg.{Alg}
 use Rattle.bag_text.specs.declared.code.Code.{Code}
-use Rattle.bag_text.specs.declared.code.Code.TheVariants.{ManifestLine, DigestLength, ManifestEscape, ManifestUnsafePath, ManifestOutsidePayload, TagmanifestNamesPayload, TagmanifestNamesTagmanifest}
+use Rattle.bag_text.specs.declared.code.Code.TheVariants.{ManifestLine, DigestLength}
+use Rattle.bag_text.specs.declared.code.Code.TheVariants.{ManifestEscape, ManifestUnsafePath}
+use Rattle.bag_text.specs.declared.code.Code.TheVariants.{ManifestOutsidePayload}
+use Rattle.bag_text.specs.declared.code.Code.TheVariants.{TagmanifestNamesPayload}
+use Rattle.bag_text.specs.declared.code.Code.TheVariants.{TagmanifestNamesTagmanifest}
 use Rattle.bag_read.specs.LineParts.{IsFronted}
-use Rattle.bag_read.specs.Manifest.{HasReason}
+use Rattle.bag_read.specs.Manifest.{HasManifestReason}
 use Rattle.bag_read.specs.ManifestLine.{IsSpelling}
 use Rattle.bag_read.specs.ManifestName.{manifest_name, is_alg_text}
 use Rattle.bag_read.specs.Reason.{Reason, IsFirst}
 use Rattle.bag_read.specs.declared.kind.Kind.{Kind}
 use Rattle.bag_read.specs.declared.kind.Kind.TheVariants.{Payload, Tag}
 
--- behind the digest and the blanks the path is spelled so
-abbrev pub IsSpelled : List ℕ → List ℕ → Type 0
-IsSpelled line spelling = (hex rest : List ℕ) × IsFronted line hex rest × IsSpelling rest spelling
+-- after the digest and the blanks the path is spelled so
+abbrev pub IsManifestSpelled : List ℕ → List ℕ → Type 0
+IsManifestSpelled line spelling =
+    (hex rest : List ℕ) × IsFronted line hex rest × IsSpelling rest spelling
 
 -- and this text is what is spelled
-abbrev pub IsWritten : Rules → List ℕ → List ℕ → Type 0
-IsWritten rules line text = (spelling : List ℕ) × IsSpelled line spelling × Spells rules spelling text
+abbrev pub IsManifestWritten : Rules → List ℕ → List ℕ → Type 0
+IsManifestWritten rules line text =
+    (spelling : List ℕ) × IsManifestSpelled line spelling × Spells rules spelling text
 
 -- a reason, with its detail, by cases on the code
-abbrev pub Holds : Code → Rules → Kind → Alg → List ℕ → List ℕ → Type 0
+abbrev pub ManifestReasonHolds : Code → Rules → Kind → Alg → List ℕ → List ℕ → Type 0
 -- the front is empty or isn't hex, or nothing follows it
-Holds ManifestLine rules kind alg line detail =
-    (detail ≡ []) × ((hex rest : List ℕ) × IsFronted line hex rest × ((hex ≡ []) ⊎ (list_all is_ascii_hexdigit hex ≡ false) ⊎ (rest ≡ [])))
+ManifestReasonHolds ManifestLine rules kind alg line detail =
+    (detail ≡ []) × ((hex rest : List ℕ) × IsFronted line hex rest
+    × ((hex ≡ []) ⊎ (list_all is_ascii_hexdigit hex ≡ false) ⊎ (rest ≡ [])))
 -- the front hasn't the length of the algorithm's digests
-Holds DigestLength rules kind alg line detail = (rest : List ℕ) × IsFronted line detail rest × (length detail ≢ hex_len alg)
+ManifestReasonHolds DigestLength rules kind alg line detail =
+    (rest : List ℕ) × IsFronted line detail rest × (length detail ≢ hex_len alg)
 -- the spelling of the path has a bad escape
-Holds ManifestEscape rules kind alg line detail = IsSpelled line detail × ((path : List ℕ) → ¬ (Spells rules detail path))
+ManifestReasonHolds ManifestEscape rules kind alg line detail =
+    IsManifestSpelled line detail × ((path : List ℕ) → ¬ (Spells rules detail path))
 -- what is spelled isn't a path
-Holds ManifestUnsafePath rules kind alg line detail = IsWritten rules line detail × (is_path detail ≡ false)
+ManifestReasonHolds ManifestUnsafePath rules kind alg line detail =
+    IsManifestWritten rules line detail × (is_path detail ≡ false)
 -- in a payload manifest: it isn't the path of a payload file
-Holds ManifestOutsidePayload rules Payload alg line detail = IsWritten rules line detail × (is_payload_path detail ≡ false)
+ManifestReasonHolds ManifestOutsidePayload rules Payload alg line detail =
+    IsManifestWritten rules line detail × (is_payload_path detail ≡ false)
 -- in a tag manifest: it is
-Holds TagmanifestNamesPayload rules Tag alg line detail = IsWritten rules line detail × IsTrue (is_payload_path detail)
+ManifestReasonHolds TagmanifestNamesPayload rules Tag alg line detail =
+    IsManifestWritten rules line detail × IsTrue (is_payload_path detail)
 -- in a tag manifest: it has the form of a tag manifest's name
-Holds TagmanifestNamesTagmanifest rules Tag alg line detail =
-    IsWritten rules line detail × ((text : List ℕ) × IsTrue (is_alg_text text) × (detail ≡ manifest_name Tag text))
-Holds other rules kind alg line detail = ⊥
+ManifestReasonHolds TagmanifestNamesTagmanifest rules Tag alg line detail =
+    IsManifestWritten rules line detail
+    × ((text : List ℕ) × IsTrue (is_alg_text text) × (detail ≡ manifest_name Tag text))
+ManifestReasonHolds other rules kind alg line detail = ⊥
 
 -- in the order in which they count
-abbrev pub reasons : List Code
-reasons =
-    ManifestLine ∷ DigestLength ∷ ManifestEscape ∷ ManifestUnsafePath ∷ ManifestOutsidePayload ∷ TagmanifestNamesPayload
+abbrev pub manifest_reasons : List Code
+manifest_reasons =
+    ManifestLine ∷ DigestLength ∷ ManifestEscape ∷ ManifestUnsafePath ∷ ManifestOutsidePayload
+    ∷ TagmanifestNamesPayload
     ∷ TagmanifestNamesTagmanifest ∷ []
 
 -- the law: the reason of a line holds, and none of those before it does
-abbrev pub FirstReasonIsTold : Type 0
-FirstReasonIsTold =
-    (rules : Rules) (kind : Kind) (alg : Alg) (line : List ℕ) (reason : Reason) → HasReason rules kind alg line reason
-    → IsFirst (λ code detail. Holds code rules kind alg line detail) reasons reason
+abbrev pub FirstReasonIsReported : Type 0
+FirstReasonIsReported =
+    (rules : Rules) (kind : Kind) (alg : Alg) (line : List ℕ) (reason : Reason)
+    → HasManifestReason rules kind alg line reason
+    → IsFirst (λ code detail. ManifestReasonHolds code rules kind alg line detail) manifest_reasons
+    reason

@@ -1,7 +1,8 @@
 -- The bytes that a digest spells.
 use Rattle.std.specs.Prelude.{ℕ, List}
 use Rattle.bag_read.specs.declared.digest.Spelled.{Spelled}
-use Rattle.bag_read.specs.declared.digest.Spelled.TheVariants.{Md5, Sha1, Sha224, Sha256, Sha384, Sha512}
+use Rattle.bag_read.specs.declared.digest.Spelled.TheVariants.{Md5, Sha1, Sha224, Sha256, Sha384}
+use Rattle.bag_read.specs.declared.digest.Spelled.TheVariants.{Sha512}
 
 abbrev pub spelled_bytes : Spelled → List ℕ
 spelled_bytes (Md5 bytes) = bytes

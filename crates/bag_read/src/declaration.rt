@@ -24,8 +24,9 @@ pub struct Declaration {
     pub faults: Items<LineFault>,
 }
 
-/// Reads the bytes of `bagit.txt` (RFC 8493, 2.1.1). Each of the two lines is judged by itself, and the rest is read
-/// behind a byte order mark too; in bytes that aren't UTF-8 nothing is read. An error only for want of memory.
+/// Reads the bytes of `bagit.txt` (RFC 8493, 2.1.1). Each of the two lines is judged by itself, and
+/// the rest is read after a byte order mark too; in bytes that aren't UTF-8 nothing is read. An
+/// error only when out of memory.
 pub fn read_declaration(alloc: Global, bytes: &[u8]) -> Result<Declaration, AllocError>
     ensures version { IfOk result (λ d. d.version ≡ spec.declared_version bytes.now) }
     ensures encoding { IfOk result (λ d. d.encoding ≡ spec.declared_encoding bytes.now) }
@@ -49,7 +50,8 @@ pub fn declared_rules(bytes: &[u8]) -> Rules
 
 /// The rules that a text declares.
 fn rules_of_text(text: &str) -> Rules
-    ensures { result ≡ rules_of (option_and_then spec.version_of (slice_get (cut.lines text.now) 0)) }
+    ensures { result
+        ≡ rules_of (option_and_then spec.version_of (slice_get (cut.lines text.now) 0)) }
 {
     let (first, _, _) = first_lines(text);
     Rules::of_version(declared_version(first))
@@ -70,8 +72,10 @@ fn unread(alloc: Global) -> Result<Declaration, AllocError>
 
 /// Reads the text of these bytes.
 fn read_text(alloc: Global, bytes: &[u8], text: &str) -> Result<Declaration, AllocError>
-    ensures version { IfOk result (λ d. d.version ≡ option_and_then spec.version_of (slice_get (cut.lines text.now) 0)) }
-    ensures encoding { IfOk result (λ d. d.encoding ≡ option_and_then spec.encoding_of (slice_get (cut.lines text.now) 1)) }
+    ensures version { IfOk result (λ d.
+        d.version ≡ option_and_then spec.version_of (slice_get (cut.lines text.now) 0)) }
+    ensures encoding { IfOk result (λ d.
+        d.encoding ≡ option_and_then spec.encoding_of (slice_get (cut.lines text.now) 1)) }
     ensures faults { IfOk result (λ d. d.faults ≡ text_faults bytes.now (cut.lines text.now)) }
 {
     let (first, second, count) = first_lines(text);

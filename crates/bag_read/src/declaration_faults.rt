@@ -1,4 +1,5 @@
-//! What is wrong with the declaration: first of the whole file, then of each line (RFC 8493, 2.1.1).
+//! What is wrong with the declaration: first of the whole file, then of each line (RFC 8493,
+//! 2.1.1).
 ghost use Rattle.std.specs.Prelude.{◌≡◌, ◌∷◌, ◌++◌, [], IfOk, OnOk};
 ghost use Rattle.std.specs.Option.{option_copied, option_to_list};
 ghost use Rattle.bag_read.specs.LineFault.{line_fault};
@@ -17,7 +18,8 @@ pub(crate) fn utf8_faults(alloc: Global) -> Result<Items<LineFault>, AllocError>
     Ok(faults)
 }
 
-/// The faults of a text with this many lines, of which the first two declare these, where they read.
+/// The faults of a text with this many lines, of which the first two declare these, where they
+/// read.
 pub(crate) fn text_faults(
     alloc: Global,
     bytes: &[u8],
@@ -25,7 +27,9 @@ pub(crate) fn text_faults(
     version: Option<&str>,
     encoding: Option<&str>,
 ) -> Result<Items<LineFault>, AllocError>
-    ensures { IfOk result (λ faults. faults ≡ spec.faults_of bytes.now count (option_copied version.entry) (option_copied encoding.entry)) }
+    ensures { IfOk result (λ faults.
+        faults ≡ spec.faults_of bytes.now count (option_copied version.entry)
+        (option_copied encoding.entry)) }
 {
     let mut faults = Items::new(alloc);
     push_mark_fault(alloc, &mut faults, bytes)?;
@@ -94,7 +98,9 @@ fn push_version_fault(
     faults: &mut Items<LineFault>,
     version: Option<&str>,
 ) -> Result<(), AllocError>
-    ensures { OnOk result (faults.new ≡ faults.old ++ option_to_list (spec.version_fault (option_copied version.entry))) }
+    ensures { OnOk result
+        (faults.new ≡ faults.old
+        ++ option_to_list (spec.version_fault (option_copied version.entry))) }
 {
     let Some(version) = version else {
         return push(alloc, faults, 1, Code::DeclarationLine, "");
@@ -112,7 +118,9 @@ fn push_encoding_fault(
     faults: &mut Items<LineFault>,
     encoding: Option<&str>,
 ) -> Result<(), AllocError>
-    ensures { OnOk result (faults.new ≡ faults.old ++ option_to_list (spec.encoding_fault (option_copied encoding.entry))) }
+    ensures { OnOk result
+        (faults.new ≡ faults.old
+        ++ option_to_list (spec.encoding_fault (option_copied encoding.entry))) }
 {
     let Some(encoding) = encoding else {
         return push(alloc, faults, 2, Code::DeclarationLine, "");

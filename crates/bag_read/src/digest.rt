@@ -10,8 +10,8 @@ use bag_text::{Alg, Text};
 use std::alloc::{AllocError, Global};
 use std::marker::Model;
 
-/// A digest that a manifest gives, seen by contracts as its text in lower-case hex. It takes as much memory as its algorithm
-/// needs, and one of more than 32 bytes has memory of its own.
+/// A digest that a manifest gives, seen by contracts as its text in lower-case hex. It takes as
+/// much memory as its algorithm needs, and one of more than 32 bytes has memory of its own.
 #[derive(Debug, Drop)]
 pub struct Digest {
     spelled: Spelled,

@@ -13,11 +13,11 @@ use crate::line_fault::{
 use bag_text::{Code, Rules, Text, check_path, is_payload, split_at_blanks, text_of};
 use std::alloc::{AllocError, Global};
 
-/// What stands for a length that isn't told.
+/// What stands for a length that isn't given.
 const UNKNOWN: &str = "-";
 
-/// A line of `fetch.txt` that reads: where a payload file is, its length in bytes or `-`, each as it is written, and
-/// the path that it gets.
+/// A line of `fetch.txt` that reads: where a payload file is, its length in bytes or `-`, each as
+/// it is written, and the path that it gets.
 #[derive(Debug, Drop)]
 pub struct FetchEntry {
     /// Counted from 1.
@@ -30,16 +30,20 @@ pub struct FetchEntry {
     pub path: Text,
 }
 
-/// Reads the bytes of `fetch.txt` (RFC 8493, 2.2.3). Each line that isn't blank is an entry or has one fault; a path may
-/// stand in more than one line, and the syntax of a URL isn't looked at. Bytes that aren't UTF-8 have no entry and the
-/// one fault `NotUtf8`. One pass. An error only for want of memory.
+/// Reads the bytes of `fetch.txt` (RFC 8493, 2.2.3). Each line that isn't blank is an entry or has
+/// one fault; a path may stand in more than one line, and the syntax of a URL isn't looked at.
+/// Bytes that aren't UTF-8 have no entry and the one fault `NotUtf8`. One pass. An error only when
+/// out of memory.
 pub fn read_fetch(
     alloc: Global,
     rules: Rules,
     bytes: &[u8],
 ) -> Result<Parsed<FetchEntry>, AllocError>
-    ensures items { IfOk result (λ parsed. IsListOf (on (λ e. e.line) nat_cmp) (IsFetch rules (cut.lines_of_file bytes.now)) parsed.items) }
-    ensures faults { IfOk result (λ parsed. AreFaults (IsFetchFault rules bytes.now) parsed.faults) }
+    ensures items { IfOk result (λ parsed.
+        IsListOf (on (λ e. e.line) nat_cmp) (IsFetch rules (cut.lines_of_file bytes.now))
+        parsed.items) }
+    ensures faults { IfOk result (λ parsed.
+        AreFaults (IsFetchFault rules bytes.now) parsed.faults) }
 {
     match text_of(bytes) {
         Ok(text) => read_lines(alloc, &FetchForm { rules }, text, 0),
@@ -56,7 +60,7 @@ struct FetchForm {
 impl LineForm for FetchForm {
     type Entry = FetchEntry;
 
-    ghost reads = { λ form line content. spec.entry_in form.rules line content };
+    ghost reads = { λ form line content. spec.fetch_entry_in form.rules line content };
 
     fn read(
         &self,
@@ -68,14 +72,15 @@ impl LineForm for FetchForm {
     }
 }
 
-/// Reads a line that isn't blank: its URL, its length and its path, or the first reason why it doesn't read.
+/// Reads a line that isn't blank: its URL, its length and its path, or the first reason why it
+/// doesn't read.
 fn read_line(
     alloc: Global,
     rules: Rules,
     number: u64,
     line: &str,
 ) -> Result<Result<FetchEntry, Why>, AllocError>
-    ensures { IfOk result (λ read. read ≡ spec.entry_in rules number line.now) }
+    ensures { IfOk result (λ read. read ≡ spec.fetch_entry_in rules number line.now) }
 {
     let (url, behind) = split_at_blanks(line);
     let (length, written) = split_at_blanks(behind);
@@ -88,14 +93,15 @@ fn read_line(
     }
 }
 
-/// Whether a part is missing, or the length isn't one. A line that begins with a blank lacks its URL.
+/// Whether a part is missing, or the length isn't one. A line that begins with a blank lacks its
+/// URL.
 fn lacks_part(url: &str, length: &str, written: &str) -> bool
     ensures { result ≡ spec.lacks_part url.now length.now written.now }
 {
     url.is_empty() || !is_length(length) || written.is_empty()
 }
 
-/// A length in bytes, or a sign that it isn't told.
+/// A length in bytes, or a sign that it isn't given.
 fn is_length(text: &str) -> bool
     ensures { result ≡ spec.is_length text.now }
 {

@@ -37,7 +37,8 @@ pub(crate) fn kind_of(rules: Rules, line: &str) -> LineKind<'_>
 /// The label and what follows the first colon, where the line splits there.
 #[tactic(auto, using(crate::proofs::InfoLine::lacks, crate::proofs::InfoLine::has))]
 fn split(rules: Rules, line: &str) -> Option<(&str, &str)>
-    ensures { MatchOption result (spec.split rules line.now ≡ None) (λ x. spec.split rules line.now ≡ Some (x.0.now, x.1.now)) }
+    ensures { MatchOption result (spec.split rules line.now ≡ None) (λ x.
+        spec.split rules line.now ≡ Some (x.0.now, x.1.now)) }
 {
     let Some((before, part)) = line.split_once(':') else {
         return None;

@@ -64,7 +64,8 @@ impl Reader {
 
     /// All that was read, once there are no more lines.
     pub(crate) fn finish(self, alloc: Global) -> Result<Parsed<Element>, AllocError>
-        ensures items { IfOk result (λ parsed. parsed.items ≡ self.items ++ reading.closed self.above) }
+        ensures items { IfOk result (λ parsed.
+            parsed.items ≡ self.items ++ reading.closed self.above) }
         ensures faults { IfOk result (λ parsed. parsed.faults ≡ self.faults) }
     {
         let Reader {
@@ -95,7 +96,8 @@ impl Reader {
         label: &str,
         part: &str,
     ) -> Result<(), AllocError>
-        ensures { OnOk result (self.new ≡ reading.begun self.old number (Some (label.now, part.now))) }
+        ensures { OnOk result
+            (self.new ≡ reading.begun self.old number (Some (label.now, part.now))) }
     {
         let element = Element {
             line: number,
@@ -114,7 +116,8 @@ impl Reader {
 
     /// Closes the element that is open, and opens what comes next.
     fn close(&mut self, next: Above) -> Result<(), AllocError>
-        ensures items { OnOk result (self.new.items ≡ self.old.items ++ reading.closed self.old.above) }
+        ensures items { OnOk result
+            (self.new.items ≡ self.old.items ++ reading.closed self.old.above) }
         ensures faults { OnOk result (self.new.faults ≡ self.old.faults) }
         ensures above { OnOk result (self.new.above ≡ next) }
     {

@@ -1,15 +1,19 @@
 //! Laws of the definitions, each the contract of a function that does nothing.
 ghost use Rattle.bag_read.specs.ManifestLine.{LinesReadAsTheirParts, LinesReadOrHaveOneReason};
-ghost use Rattle.bag_read.specs.ManifestReasons.{FirstReasonIsTold};
+ghost use Rattle.bag_read.specs.ManifestReasons.{FirstReasonIsReported};
 ghost use Rattle.bag_read.specs.TagName.{TagFilesStandInTheBase, TagPathsDiffer};
-ghost use Rattle.bag_read.specs.FetchLine.{FetchLinesReadAsTheirParts, FetchLinesReadOrHaveOneReason};
-ghost use Rattle.bag_read.specs.FetchReasons.{FirstFetchReasonIsTold};
-ghost use Rattle.bag_read.specs.InfoPlaces.{ContinuationsAreBelow, EachLineHasOnePlace, EachLineIsOfOneElement};
+ghost use Rattle.bag_read.specs.FetchLine.{FetchLinesReadAsTheirParts};
+ghost use Rattle.bag_read.specs.FetchLine.{FetchLinesReadOrHaveOneReason};
+ghost use Rattle.bag_read.specs.FetchReasons.{FirstFetchReasonIsReported};
+ghost use Rattle.bag_read.specs.InfoPlaces.{ContinuationsAreBelow, EachLineHasOnePlace};
+ghost use Rattle.bag_read.specs.InfoPlaces.{EachLineIsOfOneElement};
 ghost use Rattle.bag_read.specs.InfoSplit.{LinesSplitAsTheirParts};
 ghost use Rattle.bag_read.specs.Oxum.{OxumsReadAsTheirParts};
-ghost use Rattle.bag_read.specs.DeclarationLine.{EncodingLinesReadAsTheirParts, LinesDeclareOrAreFaulty, VersionLinesReadAsTheirParts};
+ghost use Rattle.bag_read.specs.DeclarationLine.{EncodingLinesReadAsTheirParts};
+ghost use Rattle.bag_read.specs.DeclarationLine.{LinesDeclareOrAreFaulty};
+ghost use Rattle.bag_read.specs.DeclarationLine.{VersionLinesReadAsTheirParts};
 
-/// No two tag files stand at one path.
+/// Of the tag files that the checks read no two have the same path.
 pub fn tag_paths_differ()
     ensures { TagPathsDiffer }
 {}
@@ -19,8 +23,8 @@ pub fn tag_files_stand_in_the_base()
     ensures { TagFilesStandInTheBase }
 {}
 
-/// A line of a manifest reads just where it is a digest of the algorithm, blanks, and a spelling of a path that may
-/// stand there; and it says that digest, in lower case, and that path.
+/// A line of a manifest reads just where it is a digest of the algorithm, blanks, and a spelling of
+/// a path that may stand there; and it says that digest, in lower case, and that path.
 pub fn lines_read_as_their_parts()
     ensures { LinesReadAsTheirParts }
 {}
@@ -30,32 +34,35 @@ pub fn lines_read_or_have_one_reason()
     ensures { LinesReadOrHaveOneReason }
 {}
 
-/// The reason why a line of a manifest doesn't read holds of it, and none of those that stand before it in their order.
-pub fn first_reason_is_told()
-    ensures { FirstReasonIsTold }
+/// The reason why a line of a manifest doesn't read holds of it, and none of those that stand
+/// before it in their order.
+pub fn first_reason_is_reported()
+    ensures { FirstReasonIsReported }
 {}
 
-/// A line of `bag-info.txt` that isn't blank is the first line of an element, or goes on with one, or is wrong, or is
-/// passed over below a line that is wrong; it is just one of these, and of one element at most. The lines that go on
-/// with an element are those of its value, in their order.
+/// A line of `bag-info.txt` that isn't blank is the first line of an element, or goes on with one,
+/// or is wrong, or is passed over below a line that is wrong; it is just one of these, and of one
+/// element at most. The lines that go on with an element are those of its value, in their order.
 pub fn each_line_has_one_place()
     ensures place { EachLineHasOnePlace }
     ensures element { EachLineIsOfOneElement }
     ensures parts { ContinuationsAreBelow }
 {}
 
-/// The first line of an element splits just where it is a label, the first colon, and what may follow it.
+/// The first line of an element splits just where it is a label, the first colon, and what may
+/// follow it.
 pub fn lines_split_as_their_parts()
     ensures { LinesSplitAsTheirParts }
 {}
 
-/// A value of `Payload-Oxum` reads just where it is two numbers of ASCII digits with a dot between them; and it says these.
+/// A value of `Payload-Oxum` reads just where it is two numbers of ASCII digits with a dot between
+/// them; and it says these.
 pub fn oxums_read_as_their_parts()
     ensures { OxumsReadAsTheirParts }
 {}
 
-/// A line of `fetch.txt` reads just where it is a URL, blanks, a length, blanks, and a spelling of the path of a payload
-/// file; and it says these three.
+/// A line of `fetch.txt` reads just where it is a URL, blanks, a length, blanks, and a spelling of
+/// the path of a payload file; and it says these three.
 pub fn fetch_lines_read_as_their_parts()
     ensures { FetchLinesReadAsTheirParts }
 {}
@@ -65,22 +72,26 @@ pub fn fetch_lines_read_or_have_one_reason()
     ensures { FetchLinesReadOrHaveOneReason }
 {}
 
-/// The reason why a line of `fetch.txt` doesn't read holds of it, and none of those that stand before it in their order.
-pub fn first_fetch_reason_is_told()
-    ensures { FirstFetchReasonIsTold }
+/// The reason why a line of `fetch.txt` doesn't read holds of it, and none of those that stand
+/// before it in their order.
+pub fn first_fetch_reason_is_reported()
+    ensures { FirstFetchReasonIsReported }
 {}
 
-/// Line 1 of the declaration declares a version just where it is its label and then digits, a dot and digits.
+/// Line 1 of the declaration declares a version just where it is its label and then digits, a dot
+/// and digits.
 pub fn version_lines_read_as_their_parts()
     ensures { VersionLinesReadAsTheirParts }
 {}
 
-/// Line 2 of the declaration declares an encoding just where it is its label and then a text without a blank.
+/// Line 2 of the declaration declares an encoding just where it is its label and then a text
+/// without a blank.
 pub fn encoding_lines_read_as_their_parts()
     ensures { EncodingLinesReadAsTheirParts }
 {}
 
-/// Line 1 of the declaration declares just one version, or is fault 104 and declares none; and so line 2 an encoding.
+/// Line 1 of the declaration declares just one version, or is fault 104 and declares none; and so
+/// line 2 an encoding.
 pub fn lines_declare_or_are_faulty()
     ensures { LinesDeclareOrAreFaulty }
 {}

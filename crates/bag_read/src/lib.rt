@@ -8,10 +8,11 @@
 //! }
 //! ```
 //!
-//! Of RFC 8493 it keeps the declaration (2.1.1), payload manifests (2.1.3) and tag manifests (2.2.1), the metadata (2.2.2) and
-//! the list of files to fetch (2.2.3).
+//! Of RFC 8493 it keeps the declaration (2.1.1), payload manifests (2.1.3) and tag manifests
+//! (2.2.1), the metadata (2.2.2) and the list of files to fetch (2.2.3).
 //!
-//! Each call says what a tag file says, by the rules of either version, and exactly what is wrong with it, in line order.
+//! Each call says what a tag file says, by the rules of either version, and exactly what is wrong
+//! with it, in line order.
 #![tactic(auto)]
 
 mod declaration;

@@ -1,6 +1,7 @@
-//! What a tag file says and what is wrong with it, line by line, and what its lines are made of: texts in front of others and
-//! behind them, spelled paths, and numbers in ASCII digits.
-ghost use Rattle.std.specs.Prelude.{◌≡◌, ◌∷◌, [], ℕ, List, Result, Err, IfOk, ◌≢◌, ◌++◌, MatchOption};
+//! What a tag file says and what is wrong with it, line by line, and what its lines are made of:
+//! texts in front of others and after them, spelled paths, and numbers in ASCII digits.
+ghost use Rattle.std.specs.Prelude.{◌≡◌, ◌∷◌, [], ℕ, List, Result, Err, IfOk, ◌≢◌, ◌++◌};
+ghost use Rattle.std.specs.Prelude.{MatchOption};
 ghost use Rattle.std.specs.Char.{is_ascii_digit};
 ghost use Rattle.std.specs.List.{list_all};
 ghost use Rattle.std.specs.Option.{option_copied};
@@ -55,15 +56,18 @@ pub(crate) trait LineForm {
         ensures { IfOk result (λ read. read ≡ reads self.now number line.now) };
 }
 
-/// Reads each line of a text that isn't blank, in one pass. Room is taken at once for `room` lines that read.
+/// Reads each line of a text that isn't blank, in one pass. Room is taken at once for `room` lines
+/// that read.
 pub(crate) fn read_lines<F: LineForm>(
     alloc: Global,
     form: &F,
     text: &str,
     room: usize,
 ) -> Result<Parsed<F::Entry>, AllocError>
-    ensures items { IfOk result (λ parsed. parsed.items ≡ entries_read (F.reads form.now) (cut.lines text.now)) }
-    ensures faults { IfOk result (λ parsed. parsed.faults ≡ faults_read (F.reads form.now) (cut.lines text.now)) }
+    ensures items { IfOk result (λ parsed.
+        parsed.items ≡ entries_read (F.reads form.now) (cut.lines text.now)) }
+    ensures faults { IfOk result (λ parsed.
+        parsed.faults ≡ faults_read (F.reads form.now) (cut.lines text.now)) }
 {
     let mut items = Items::from_vec(Vec::with_capacity(alloc, room)?);
     let mut faults = Items::new(alloc);
@@ -98,8 +102,8 @@ pub(crate) fn refuse<T>(
     Ok(Err((code, Text::from_str(alloc, detail)?)))
 }
 
-/// What is read of bytes that aren't UTF-8: no item, and the one fault `NotUtf8`, of the whole file. An error only for
-/// want of memory.
+/// What is read of bytes that aren't UTF-8: no item, and the one fault `NotUtf8`, of the whole
+/// file. An error only when out of memory.
 pub(crate) fn unread<T>(alloc: Global) -> Result<Parsed<T>, AllocError>
     ensures items { IfOk result (λ parsed. parsed.items ≡ []) }
     ensures faults { IfOk result (λ parsed. parsed.faults ≡ not_utf8 ∷ []) }
@@ -125,7 +129,8 @@ pub(crate) fn after_prefix<'a>(text: &'a str, prefix: &str) -> Option<&'a str>
 
 /// What stands before a suffix, where the text has it.
 pub(crate) fn before_suffix<'a>(text: &'a str, suffix: &str) -> Option<&'a str>
-    ensures { MatchOption result ((front : List ℕ) → text.now ≢ front ++ suffix.now) (λ front. text.now ≡ front.now ++ suffix.now) }
+    ensures { MatchOption result ((front : List ℕ) → text.now ≢ front ++ suffix.now) (λ front.
+        text.now ≡ front.now ++ suffix.now) }
 {
     text.strip_suffix(suffix)
 }
@@ -147,7 +152,8 @@ pub(crate) fn decode_path(
     spelling: &str,
     bad_escape: Code,
 ) -> Result<Result<Text, Why>, AllocError>
-    ensures { IfOk result (λ path. path ≡ decoded_or bad_escape (unescaped rules spelling.now) spelling.now) }
+    ensures { IfOk result (λ path.
+        path ≡ decoded_or bad_escape (unescaped rules spelling.now) spelling.now) }
 {
     match unescape_path(alloc, rules, spelling) {
         Ok(path) => Ok(Ok(Text::from_string(path))),
@@ -164,7 +170,8 @@ pub(crate) fn decode_known(
     spelling: &str,
     bad_escape: Code,
 ) -> Result<Result<Text, Why>, AllocError>
-    ensures { IfOk result (λ path. path ≡ decoded_or bad_escape (unescaped rules spelling.now) spelling.now) }
+    ensures { IfOk result (λ path.
+        path ≡ decoded_or bad_escape (unescaped rules spelling.now) spelling.now) }
 {
     if is_written_as_itself(rules, spelling) {
         Ok(Ok(known.text(alloc, spelling)?))

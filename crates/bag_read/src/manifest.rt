@@ -31,10 +31,10 @@ pub struct ManifestEntry {
     pub path: Text,
 }
 
-/// Reads the bytes of a manifest of an algorithm (RFC 8493, 2.1.3 and 2.2.1). Each line that isn't blank is an entry or
-/// has one fault; a path that is named again is a fault of the later line, and its first entry counts. Bytes that
-/// aren't UTF-8 name nothing and have the one fault `NotUtf8`. Takes time n log n in the number of lines. An error
-/// only for want of memory.
+/// Reads the bytes of a manifest of an algorithm (RFC 8493, 2.1.3 and 2.2.1). Each line that isn't
+/// blank is an entry or has one fault; a path that is named again is a fault of the later line, and
+/// its first entry counts. Bytes that aren't UTF-8 name nothing and have the one fault `NotUtf8`.
+/// Takes time n log n in the number of lines. An error only when out of memory.
 pub fn read_manifest(
     alloc: Global,
     rules: Rules,
@@ -42,8 +42,11 @@ pub fn read_manifest(
     alg: Alg,
     bytes: &[u8],
 ) -> Result<Parsed<ManifestEntry>, AllocError>
-    ensures items { IfOk result (λ parsed. IsListOf (on (λ e. e.line) nat_cmp) (IsEntry rules kind alg (cut.lines_of_file bytes.now)) parsed.items) }
-    ensures faults { IfOk result (λ parsed. AreFaults (IsManifestFault rules kind alg bytes.now) parsed.faults) }
+    ensures items { IfOk result (λ parsed.
+        IsListOf (on (λ e. e.line) nat_cmp) (IsEntry rules kind alg (cut.lines_of_file bytes.now))
+        parsed.items) }
+    ensures faults { IfOk result (λ parsed.
+        AreFaults (IsManifestFault rules kind alg bytes.now) parsed.faults) }
 {
     read_manifest_among(alloc, &Pool::empty(alloc), rules, kind, alg, bytes)
 }
@@ -57,8 +60,11 @@ pub fn read_manifest_among(
     alg: Alg,
     bytes: &[u8],
 ) -> Result<Parsed<ManifestEntry>, AllocError>
-    ensures items { IfOk result (λ parsed. IsListOf (on (λ e. e.line) nat_cmp) (IsEntry rules kind alg (cut.lines_of_file bytes.now)) parsed.items) }
-    ensures faults { IfOk result (λ parsed. AreFaults (IsManifestFault rules kind alg bytes.now) parsed.faults) }
+    ensures items { IfOk result (λ parsed.
+        IsListOf (on (λ e. e.line) nat_cmp) (IsEntry rules kind alg (cut.lines_of_file bytes.now))
+        parsed.items) }
+    ensures faults { IfOk result (λ parsed.
+        AreFaults (IsManifestFault rules kind alg bytes.now) parsed.faults) }
 {
     match text_of(bytes) {
         Ok(text) => read_text(alloc, known, rules, kind, alg, text),
@@ -66,7 +72,8 @@ pub fn read_manifest_among(
     }
 }
 
-/// Reads a text. Where a path may be named again, it is read once more, with the lines known that do.
+/// Reads a text. Where a path may be named again, it is read once more, with the lines known that
+/// do.
 fn read_text(
     alloc: Global,
     known: &Pool,
@@ -75,7 +82,8 @@ fn read_text(
     alg: Alg,
     text: &str,
 ) -> Result<Parsed<ManifestEntry>, AllocError>
-    ensures { IfOk result (λ parsed. IsReadOnce rules kind alg (cut.lines text.now) parsed.items parsed.faults) }
+    ensures { IfOk result (λ parsed.
+        IsReadOnce rules kind alg (cut.lines text.now) parsed.items parsed.faults) }
 {
     let room = line_count(text);
     let form = ManifestForm {
@@ -114,7 +122,8 @@ struct ManifestForm<'a> {
 impl<'a> ManifestForm<'a> {
     /// The entry of a line that says this, where it is the first that names the path.
     fn entry(&self, line: u64, digest: Digest, path: Text) -> Result<ManifestEntry, Why>
-        ensures { result ≡ spec.entry_unless (contains nat_cmp self.now.repeated line) line (digest, path) }
+        ensures { result
+            ≡ spec.entry_unless (contains nat_cmp self.now.repeated line) line (digest, path) }
     {
         if self.repeated.contains(&line) {
             Err((Code::NamedAgain, path))
@@ -127,7 +136,9 @@ impl<'a> ManifestForm<'a> {
 impl<'a> LineForm for ManifestForm<'a> {
     type Entry = ManifestEntry;
 
-    ghost reads = { λ form line content. spec.entry_in (λ n path. contains nat_cmp form.repeated n) form.rules form.kind form.alg line content };
+    ghost reads = { λ form line content.
+        spec.manifest_entry_in (λ n path. contains nat_cmp form.repeated n) form.rules form.kind
+        form.alg line content };
 
     fn read(
         &self,
@@ -160,8 +171,8 @@ fn read_line(
     }
 }
 
-/// The digest, where it is hex of the algorithm's length and something follows it; else the code and the detail of
-/// what is wrong.
+/// The digest, where it is hex of the algorithm's length and something follows it; else the code
+/// and the detail of what is wrong.
 fn check_digest<'a>(
     alloc: Global,
     alg: Alg,
@@ -181,7 +192,8 @@ fn check_digest<'a>(
     Ok(Ok(Digest::of_digits(alloc, alg, digest.as_bytes())?))
 }
 
-/// Whether all bytes are hex digits. It takes no branch for a byte, as none could be foretold in a digest.
+/// Whether all bytes are hex digits. It takes no branch for a byte, as none could be foretold in a
+/// digest.
 fn is_hex(bytes: &[u8]) -> bool
     ensures { result ≡ list_all is_ascii_hexdigit bytes.now }
 {
@@ -198,7 +210,8 @@ fn is_hex_digit(b: u8) -> bool
     b.is_ascii_digit() | ((b >= b'A') & (b <= b'F')) | ((b >= b'a') & (b <= b'f'))
 }
 
-/// The rest of a line without what may be written before a path: one `*`, as `md5sum -b` has it, and then one `./`.
+/// The rest of a line without what may be written before a path: one `*`, as `md5sum -b` has it,
+/// and then one `./`.
 fn without_marks(rest: &str) -> &str
     ensures { result.now ≡ spec.without_marks rest.now }
 {
@@ -234,7 +247,8 @@ fn name_path(kind: Kind, digest: Digest, path: Text) -> Result<(Digest, Text), W
 
 /// Why a manifest of this kind may not name this text, if it may not.
 fn misplaced(kind: Kind, path: &str) -> Option<Code>
-    ensures { MatchOption result (spec.named_path kind path.now ≡ Ok path.now) (λ code. spec.named_path kind path.now ≡ Err (code, path.now)) }
+    ensures { MatchOption result (spec.named_path kind path.now ≡ Ok path.now) (λ code.
+        spec.named_path kind path.now ≡ Err (code, path.now)) }
 {
     match kind {
         Kind::Payload => {

@@ -11,9 +11,10 @@ use crate::line_fault::{after_prefix, before_suffix};
 /// What a manifest's name ends with.
 pub(crate) const SUFFIX: &str = ".txt";
 
-/// The text ALG of `manifest-ALG.txt` (RFC 8493, 2.1.3), or for tag manifests of `tagmanifest-ALG.txt` (2.2.1), where
-/// the name has that form: ALG is one or more of the characters `a` to `z` and `0` to `9`. It may be an algorithm that
-/// isn't known here. `None` for any other name.
+/// The text ALG of `manifest-ALG.txt` (RFC 8493, 2.1.3), or for tag manifests of
+/// `tagmanifest-ALG.txt` (2.2.1), where the name has that form: ALG is one or more of the
+/// characters `a` to `z` and `0` to `9`. It may be an algorithm that isn't known here. `None` for
+/// any other name.
 pub fn manifest_alg(kind: Kind, name: &str) -> Option<&str>
     ensures alg { MatchOption result
         ((alg : List ℕ) → IsTrue (spec.is_alg_text alg) → name.now ≢ spec.manifest_name kind alg)

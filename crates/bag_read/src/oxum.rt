@@ -13,8 +13,9 @@ pub struct Oxum {
     pub streams: u64,
 }
 
-/// What a value of `Payload-Oxum` says, where it reads: two numbers in ASCII digits, each below 2 to the 64, with a dot
-/// between them (RFC 8493, 2.2.2). Leading zeros are read; a sign or a blank is not.
+/// What a value of `Payload-Oxum` says, where it reads: two numbers in ASCII digits, each below 2
+/// to the 64, with a dot between them (RFC 8493, 2.2.2). Leading zeros are read; a sign or a blank
+/// is not.
 pub fn oxum_of(value: &str) -> Option<Oxum>
     ensures { result ≡ spec.oxum_of value.now }
 {

@@ -3,14 +3,16 @@ ghost use Rattle.std.specs.Prelude.{◌≡◌, ◌↔◌, ℕ, IfOk, IsTrue, map
 ghost use Rattle.std.specs.BTreeSet.{contains};
 ghost use Rattle.std.specs.List.Sorted.{IsStrictlyIncreasing};
 ghost use Rattle.std.specs.Ordering.{nat_cmp};
-ghost use Rattle.bag_read.specs.Repeats.{fingerprint, mark_of, AreAscending, AreDifferent, IsRepeatedLine};
+ghost use Rattle.bag_read.specs.Repeats.{fingerprint, mark_of, PathsAscend, AreDifferent};
+ghost use Rattle.bag_read.specs.Repeats.{IsRepeatedLine};
 
 use crate::manifest::ManifestEntry;
 use std::alloc::{AllocError, Global};
 use std::collections::BTreeSet;
 use std::hash::{FoldHasher, Hasher};
 
-/// Whether entries name each path once; where they do, this may still be false. Takes time n log n in their number.
+/// Whether entries name each path once; where they do, this may still be false. Takes time n log n
+/// in their number.
 pub(crate) fn are_different(alloc: Global, entries: &[ManifestEntry]) -> Result<bool, AllocError>
     ensures { IfOk result (λ different. IsTrue different → AreDifferent entries.now) }
 {
@@ -22,7 +24,7 @@ pub(crate) fn are_different(alloc: Global, entries: &[ManifestEntry]) -> Result<
 
 /// Whether the paths ascend, so that none is named again. Many programs write them so.
 fn is_ascending(entries: &[ManifestEntry]) -> bool
-    ensures { IsTrue result → AreAscending entries.now }
+    ensures { IsTrue result → PathsAscend entries.now }
 {
     for k in 1..entries.len() {
         if !entries[k - 1].path.cmp(&entries[k].path).is_lt() {
@@ -32,7 +34,8 @@ fn is_ascending(entries: &[ManifestEntry]) -> bool
     true
 }
 
-/// Whether the paths have different fingerprints, so that none is named again. Sorted alone, these take little time.
+/// Whether the paths have different fingerprints, so that none is named again. Sorted alone, these
+/// take little time.
 fn fingerprints_differ(alloc: Global, entries: &[ManifestEntry]) -> Result<bool, AllocError>
     ensures { IfOk result (λ differ. IsTrue differ → AreDifferent entries.now) }
 {
@@ -79,7 +82,8 @@ pub(crate) fn repeated_lines(
     alloc: Global,
     entries: &[ManifestEntry],
 ) -> Result<BTreeSet<u64>, AllocError>
-    ensures { IfOk result (λ lines. (n : ℕ) → IsTrue (contains nat_cmp lines n) ↔ IsRepeatedLine entries.now n) }
+    ensures { IfOk result (λ lines.
+        (n : ℕ) → IsTrue (contains nat_cmp lines n) ↔ IsRepeatedLine entries.now n) }
 {
     let mut paths = BTreeSet::new(alloc);
     let mut lines = BTreeSet::new(alloc);

@@ -34,7 +34,8 @@ pub enum TagName {
 impl TagName {
     /// The tag file that stands at this path of a bag, or `None` where it is none of these.
     pub fn at(path: &str) -> Option<TagName>
-        ensures { MatchOption result ((name : TagName) → tag_path name ≢ path.now) (λ name. tag_path name ≡ path.now) }
+        ensures { MatchOption result ((name : TagName) → tag_path name ≢ path.now) (λ name.
+            tag_path name ≡ path.now) }
     {
         if begins_as_payload(path) {
             None
@@ -85,7 +86,8 @@ fn begins_as_payload(path: &str) -> bool
 
 /// The manifest of this kind that stands at a path.
 fn manifest_at(kind: Kind, path: &str) -> Option<TagName>
-    ensures { MatchOption result ((alg : Alg) → tag_path (Manifest kind alg) ≢ path.now) (λ name. tag_path name ≡ path.now) }
+    ensures { MatchOption result ((alg : Alg) → tag_path (Manifest kind alg) ≢ path.now) (λ name.
+        tag_path name ≡ path.now) }
 {
     let Some(text) = manifest_alg(kind, path) else {
         return None;

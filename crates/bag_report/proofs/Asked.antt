@@ -1,5 +1,7 @@
 -- The faults of a stage that are asked for.
-use Rattle.bag_report.proofs.Common.{◌≡◌, ◌≢◌, ◌<◌, ℕ, List, [], true, false, sym, subst, ◌∙◌, filter, arith, and_parts, stage, IsListOf, NameClash, nothing_listed, same_members, fault_cmp, Fault, reaches, Check, is_fast, IsStageOf, IsFoundAt}
+use Rattle.bag_report.proofs.Common.{◌≡◌, ◌≢◌, ◌<◌, ℕ, List, [], true, false, sym, subst, ◌∙◌, filter, arith, and_parts}
+use Rattle.bag_report.proofs.Common.{stage, IsListOf, NameClash, nothing_listed, same_members, fault_cmp, Fault}
+use Rattle.bag_report.proofs.Common.{reaches, Check, is_fast, IsStageOf, IsFoundAt}
 use Rattle.std.proofs.lemmas.Bool.Decides.{nat_tests}
 use Rattle.bag_text.specs.declared.code.Code.{Code}
 use Rattle.bag_facts.specs.declared.options.Depth.{Depth}
@@ -34,7 +36,9 @@ module _ (check : Check) (k : ℕ) (faults : List Fault) where
   -- nothing is asked for of a stage that the depth doesn't reach
   pub not_reached : reaches check.options.depth k ≡ false → faults ≡ [] → IsStageOf check k faults
   not_reached beyond none = rw none (nothing_listed fault_cmp _
-      (λ f h. let reach : reaches check.options.depth k ≡ true = subst (λ n. reaches check.options.depth n ≡ true) h.1 (asked_is_reached check.options f.code h.0.1) in
+      (λ f h. let reach : reaches check.options.depth k
+      ≡ true = subst (λ n. reaches check.options.depth n ≡ true) h.1 (asked_is_reached check.options f.code h.0.1)
+      in
       let clash : true ≡ false = sym reach ∙ beyond in cc))
 
   -- those of the faults that a stage finds which are asked for

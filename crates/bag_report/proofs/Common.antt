@@ -1,9 +1,11 @@
 -- The names that this crate's proofs cite, passed on from one place. Declares nothing.
-pub use Rattle.std.proofs.Common.{Bool, Contains, List, Option, [], ap, arith, false, filter, inl, inr, is_some, map, refl, rules, subst, suc, sym, true, zero, ℕ, ◌<◌, ◌∙◌, ◌∷◌, ◌≡◌, ◌≢◌}
+pub use Rattle.std.proofs.Common.{Bool, Contains, List, Option, [], ap, arith, false, filter, inl, inr, is_some, map}
+pub use Rattle.std.proofs.Common.{refl, rules, subst, suc, sym, true, zero, ℕ, ◌<◌, ◌∙◌, ◌∷◌, ◌≡◌, ◌≢◌}
 pub use Rattle.std.proofs.lemmas.Bool.{and_parts}
 pub use Rattle.std.specs.Option.{option_copied}
 pub use Rattle.std.specs.declared.cmp.Ordering.{Ordering}
-pub use Rattle.bag_conformance.proofs.ConformanceFaultsLaws.{conformance_faults_are_listed, conformance_faults_are_of_stage_eight}
+pub use Rattle.bag_conformance.proofs.ConformanceFaultsLaws.{conformance_faults_are_listed}
+pub use Rattle.bag_conformance.proofs.ConformanceFaultsLaws.{conformance_faults_are_of_stage_eight}
 pub use Rattle.bag_conformance.specs.ConformanceStage.{IsOfConformance}
 pub use Rattle.bag_facts.proofs.Mapped.{kept, passed}
 pub use Rattle.bag_facts.proofs.Ordered.{fault_cmp_same, fault_cmp_total}

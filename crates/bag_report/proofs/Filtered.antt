@@ -2,7 +2,8 @@
 use Rattle.bag_report.proofs.Common.{◌≡◌, Bool, true, List, filter, Ordering, IsListOf, kept, passed}
 use Rattle.std.proofs.lemmas.List.Kept.{IsStrictlySortedBy-filter}
 
-pub filtered_list : {A : Type 0} (cmp : A → A → Ordering) (Member : A → Type 0) (p : A → Bool) (xs : List A) → IsListOf cmp Member xs → IsListOf cmp (λ x. Member x × (p x ≡ true)) (filter p xs)
+pub filtered_list : {A : Type 0} (cmp : A → A → Ordering) (Member : A → Type 0) (p : A → Bool) (xs : List A)
+    → IsListOf cmp Member xs → IsListOf cmp (λ x. Member x × (p x ≡ true)) (filter p xs)
 filtered_list cmp Member p xs list = record {
   ascending = IsStrictlySortedBy-filter cmp p xs list.ascending;
   members = λ x. (

@@ -1,18 +1,27 @@
 -- The names that this crate's proofs cite, passed on from one place. Declares nothing.
-pub use Rattle.std.proofs.Common.{Bool, Bor, Contains, Equal, Greater, IsTrue, Less, List, None, Option, Ordering, Some, [], add-one, ap, append-nil, append_assoc, arith, bytes_eq, chars, codes, cond, drop, drop-cons, encode_utf8_all, false, filter_map, get_or, if◌then◌else◌, inl, inr, is_lt, is_some, length, map, min, not, of_calls, option_map, option_to_list, position, refl, rules, string_bytes, subst, suc, sum_by, sym, take, take-append-drop, true, zero, ℕ, ◌*◌, ◌++◌, ◌+◌, ◌-◌, ◌<◌, ◌==◌, ◌^◌, ◌↔◌, ◌∙◌, ◌∷◌, ◌≡◌, ◌≢◌, ◌≤◌, ◌⊎◌}
+pub use Rattle.std.proofs.Common.{Bool, Bor, Contains, Equal, Greater, IsTrue, Less, List, None, Option, Ordering, Some}
+pub use Rattle.std.proofs.Common.{[], add-one, ap, append-nil, append_assoc, arith, bytes_eq, chars, codes, cond, drop}
+pub use Rattle.std.proofs.Common.{drop-cons, encode_utf8_all, false, filter_map, get_or, if◌then◌else◌, inl, inr, is_lt}
+pub use Rattle.std.proofs.Common.{is_some, length, map, min, not, of_calls, option_map, option_to_list, position, refl}
+pub use Rattle.std.proofs.Common.{rules, string_bytes, subst, suc, sum_by, sym, take, take-append-drop, true, zero, ℕ}
+pub use Rattle.std.proofs.Common.{◌*◌, ◌++◌, ◌+◌, ◌-◌, ◌<◌, ◌==◌, ◌^◌, ◌↔◌, ◌∙◌, ◌∷◌, ◌≡◌, ◌≢◌, ◌≤◌, ◌⊎◌}
 pub use Rattle.std.proofs.Math.ListN.{get_or-map}
 pub use Rattle.std.proofs.lemmas.Bool.Decides.{nat_tests}
 pub use Rattle.std.proofs.lemmas.Grind.{common_steps}
-pub use Rattle.std.proofs.lemmas.List.{append_cancel_left, get_or_default, length-map, length-take, map-append, take-append-le, take_all, take_min, take_rest}
+pub use Rattle.std.proofs.lemmas.List.{append_cancel_left, get_or_default, length-map, length-take, map-append}
+pub use Rattle.std.proofs.lemmas.List.{take-append-le, take_all, take_min, take_rest}
 pub use Rattle.std.proofs.lemmas.List.Elements.{All-contains, filter-append, filter_map-append}
-pub use Rattle.std.proofs.lemmas.List.Kept.{Any-dedup, Contains-from_dedup, IsStrictlySortedBy-dedup, IsStrictlySortedBy-filter}
+pub use Rattle.std.proofs.lemmas.List.Kept.{Any-dedup, Contains-from_dedup, IsStrictlySortedBy-dedup}
+pub use Rattle.std.proofs.lemmas.List.Kept.{IsStrictlySortedBy-filter}
 pub use Rattle.std.proofs.lemmas.List.Sorted.{Contains-permutation, IsPermutation-filter_both, IsPermutation-sym}
-pub use Rattle.std.proofs.lemmas.Map.Keys.{IsDistinct-IsPermutation, IsDistinct-from_sorted, apart_from_distinct, sorted_from_all_adjacent}
+pub use Rattle.std.proofs.lemmas.Map.Keys.{IsDistinct-IsPermutation, IsDistinct-from_sorted, apart_from_distinct}
+pub use Rattle.std.proofs.lemmas.Map.Keys.{sorted_from_all_adjacent}
 pub use Rattle.std.proofs.lemmas.Map.Views.{Contains-from_any, list_any-from_Contains}
 pub use Rattle.std.proofs.lemmas.Result.{IfOk-weaker, on_ok_weaker}
 pub use Rattle.std.proofs.lemmas.Slice.Eq.{bytes_eq-Decides}
 pub use Rattle.std.specs.Cmp.{eq_by_cmp_equiv, nat_cmp_total, tied_itself}
-pub use Rattle.std.specs.Cmp.Lexicographic.{nat_list_cmp_total, on_texts, on_texts_equal, pointwise, same_text, texts_ties}
+pub use Rattle.std.specs.Cmp.Lexicographic.{nat_list_cmp_total, on_texts, on_texts_equal, pointwise, same_text}
+pub use Rattle.std.specs.Cmp.Lexicographic.{texts_ties}
 pub use Rattle.std.specs.FinMap.{contains_key-keys, keys}
 pub use Rattle.std.specs.List.{cons_option, dedup, enumerate_from, filter, list_any}
 pub use Rattle.std.specs.List.Sorted.{IsPermutation, IsSorted, IsSortedBy, IsStrictlySortedBy}
@@ -23,11 +32,13 @@ pub use Rattle.bag_facts.proofs.ByPath.{items_ascend, less_case, paths_ascend, r
 pub use Rattle.bag_facts.proofs.ListedFiles.{file_listed, listed_file}
 pub use Rattle.bag_facts.proofs.Mapped.{contains_mapped, kept, mapped_contains, passed, take_one_more, taken_cases}
 pub use Rattle.bag_facts.proofs.Ordered.{fault_cmp_same, fault_cmp_total}
-pub use Rattle.bag_facts.specs.Facts.{IsByV097, IsByV10, IsFactsOf, IsSaid, OfBag, rules_in}
+pub use Rattle.bag_facts.specs.Facts.{IsByV097, IsByV10, IsFactsOf, IsSaidOfTagFile, OfBag, rules_in}
 pub use Rattle.bag_facts.specs.FaultAt.{of_line, of_path}
 pub use Rattle.bag_facts.specs.FaultOrder.{fault_cmp}
-pub use Rattle.bag_facts.specs.TagFacts.{AreByPath, AreEntriesOf, IsDeclarationOf, IsFetchListOf, IsManifestNamed, IsMetadataOf, IsReadOf, Says, entry_paths, name_of, path_of, text_test}
-pub use Rattle.bag_facts.specs.TagReader.{AreListed}
+pub use Rattle.bag_facts.specs.TagFacts.{AreByPath, AreEntriesOf, IsDeclarationOf, IsFetchListOf, IsManifestNamed}
+pub use Rattle.bag_facts.specs.TagFacts.{IsMetadataOf, IsReadOf, SaysOfTagFile, entry_paths, name_of, path_of}
+pub use Rattle.bag_facts.specs.TagFacts.{text_test}
+pub use Rattle.bag_facts.specs.TagReader.{AreFilesOfBag}
 pub use Rattle.bag_facts.specs.Wanted.{paths_of}
 pub use Rattle.bag_facts.specs.declared.facts.Facts.{Facts}
 pub use Rattle.bag_facts.specs.declared.fault.Fault.{Fault}
@@ -43,7 +54,7 @@ pub use Rattle.bag_read.proofs.ManifestName.{IsManifestName, named_is, same_alg}
 pub use Rattle.bag_read.proofs.PickedOut.{both_true}
 pub use Rattle.bag_read.proofs.TagPaths.{name_named, paths_differ}
 pub use Rattle.bag_read.specs.Declaration.{DeclarationFault, IsDeclarationFault}
-pub use Rattle.bag_read.specs.Fetch.{FetchFault, IsFetch, IsFetchFault, entry_in}
+pub use Rattle.bag_read.specs.Fetch.{FetchFault, IsFetch, IsFetchFault, fetch_entry_in}
 pub use Rattle.bag_read.specs.Info.{InfoFault, IsElement, IsInfoFault}
 pub use Rattle.bag_read.specs.LineFault.{AreFaults, entries_read, faults_read, line_fault, line_fault_cmp, not_utf8}
 pub use Rattle.bag_read.specs.Manifest.{IsEntry, IsManifestFault, ManifestFault}
@@ -59,7 +70,9 @@ pub use Rattle.bag_read.specs.declared.oxum.Oxum.{Oxum}
 pub use Rattle.bag_read.specs.declared.tag_name.TagName.{TagName}
 pub use Rattle.bag_read.specs.declared.tag_name.TagName.TheVariants.{Fetch, Info}
 pub use Rattle.bag_text.proofs.AlgSets.{each_is_listed, list_ascends}
-pub use Rattle.bag_text.proofs.ListOf.{contains_back, contains_behind, contains_cases, contains_either, contains_first, contains_front, contains_nothing, each_from_members, joined, member_has, nothing_listed, one_listed, only_listed, same_lists, same_members}
+pub use Rattle.bag_text.proofs.ListOf.{contains_back, contains_behind, contains_cases, contains_either, contains_first}
+pub use Rattle.bag_text.proofs.ListOf.{contains_front, contains_nothing, each_from_members, joined, member_has}
+pub use Rattle.bag_text.proofs.ListOf.{nothing_listed, one_listed, only_listed, same_lists, same_members}
 pub use Rattle.bag_text.specs.Alg.{alg_named, algs, hex_len, rank, rank_cmp, rank_or_zero}
 pub use Rattle.bag_text.specs.Code.{stage}
 pub use Rattle.bag_text.specs.Lines.{lines_of_file}
@@ -69,7 +82,12 @@ pub use Rattle.bag_text.specs.Text.{IsNoText, text_cmp, without_prefix}
 pub use Rattle.bag_text.specs.declared.alg.Alg.{Alg}
 pub use Rattle.bag_text.specs.declared.alg.Alg.TheVariants.{Md5}
 pub use Rattle.bag_text.specs.declared.code.Code.{Code}
-pub use Rattle.bag_text.specs.declared.code.Code.TheVariants.{AlgorithmUnsupported, DeclarationNotUtf8, FetchNotInManifest, InfoLine, NameClash, NoDeclaration, NoOxum, NoPayloadFolder, NoPayloadManifest, NotUtf8, OxumAgain, OxumDiffers, OxumMalformed, PayloadFileMissing, PayloadFileNotListed, PayloadManifestNotListed, PayloadSumDiffers, TagFileMissing}
+pub use Rattle.bag_text.specs.declared.code.Code.TheVariants.{AlgorithmUnsupported, DeclarationNotUtf8}
+pub use Rattle.bag_text.specs.declared.code.Code.TheVariants.{FetchNotInManifest, InfoLine, NameClash, NoDeclaration}
+pub use Rattle.bag_text.specs.declared.code.Code.TheVariants.{NoOxum, NoPayloadFolder, NoPayloadManifest, NotUtf8}
+pub use Rattle.bag_text.specs.declared.code.Code.TheVariants.{OxumAgain, OxumDiffers, OxumMalformed, PayloadFileMissing}
+pub use Rattle.bag_text.specs.declared.code.Code.TheVariants.{PayloadFileNotListed, PayloadManifestNotListed}
+pub use Rattle.bag_text.specs.declared.code.Code.TheVariants.{PayloadSumDiffers, TagFileMissing}
 pub use Rattle.bag_text.specs.declared.rules.Rules.TheVariants.{V097, V10}
 pub use Rattle.bag_tree.proofs.SameText.{exact_texts, one_text}
 pub use Rattle.bag_tree.specs.Bag.{Bag, HasFile, LacksFile, file, files_of, has_file, has_folder}
@@ -77,31 +95,48 @@ pub use Rattle.bag_tree.specs.Digest.{digest}
 pub use Rattle.bag_tree.specs.Listing.{IsListingOf, IsOrdered}
 pub use Rattle.bag_tree.specs.declared.listing.FileEntry.{FileEntry}
 pub use Rattle.hex.specs.Hex.{encode_lower, lower_digits}
-pub use Rattle.bag_stages.specs.ClashFaults.{IsClashAmong, IsClashOf, first_of, first_with, name_clash}
+pub use Rattle.bag_stages.specs.ClashFaults.{IsClashAmong, IsClashOf, first_of_form, first_with, name_clash}
 pub use Rattle.bag_stages.specs.ClashStage.{IsClashFault, IsSoughtClash}
 pub use Rattle.bag_stages.specs.Clashes.{AreAlike, IsLeast, IsLeastAlike, nfc_of}
-pub use Rattle.bag_stages.specs.CompletenessFaults.{HasEachOnce, IsIncomplete, IsFileLeftOutByAll, IsFileLeftOutByOne, IsMissing, IsMissingFromSome, IsFileLeftOut, IsOfPath, IsOfPathAmong, IsLeftOutAmong, IsV10LeftOutByOne, IsV097LeftOutByAll, IsV10LeftOutBySome, IsPathLeftOutOf, IsFileNamedByNone, IsPathNamedByNone, IsWrong, IsWrongOfSome, missing_code}
-pub use Rattle.bag_stages.specs.CompletenessStage.{CompletenessFaultsAreListed, CompletenessFaultsAreOfStageSix, IsOfCompleteness, IsPayloadFile, IsPayloadName, IsSoughtInStageSix}
-pub use Rattle.bag_stages.specs.DeclarationStage.{DeclarationFaultsAreListed, DeclarationFaultsAreOfStageOne, InDeclaration, IsOfDeclaration}
+pub use Rattle.bag_stages.specs.CompletenessFaults.{HasEachOnce, IsIncomplete, IsFileLeftOutByAll, IsFileLeftOutByOne}
+pub use Rattle.bag_stages.specs.CompletenessFaults.{IsMissing, IsMissingFromSome, IsFileLeftOut, IsOfPath}
+pub use Rattle.bag_stages.specs.CompletenessFaults.{IsOfPathAmong, IsLeftOutAmong, IsV10LeftOutByOne}
+pub use Rattle.bag_stages.specs.CompletenessFaults.{IsV097LeftOutByAll, IsV10LeftOutBySome, IsPathLeftOutOf}
+pub use Rattle.bag_stages.specs.CompletenessFaults.{IsFileNamedByNone, IsPathNamedByNone, IsWrong, IsWrongOfSome}
+pub use Rattle.bag_stages.specs.CompletenessFaults.{missing_code}
+pub use Rattle.bag_stages.specs.CompletenessStage.{CompletenessFaultsAreListed, CompletenessFaultsAreOfStageSix}
+pub use Rattle.bag_stages.specs.CompletenessStage.{IsOfCompleteness, IsPayloadFile, IsPayloadName, IsSoughtInStageSix}
+pub use Rattle.bag_stages.specs.DeclarationStage.{DeclarationFaultsAreListed, DeclarationFaultsAreOfStageOne}
+pub use Rattle.bag_stages.specs.DeclarationStage.{InDeclaration, IsOfDeclaration}
 pub use Rattle.bag_stages.specs.FaultFields.{At, InFile, in_file, in_line, of_bag}
-pub use Rattle.bag_stages.specs.FetchFaults.{AreByLine, AreFetched, IsNamedByNone, IsNamedByNoneAmong, IsFetchLeftOutByAll, IsFetchLeftOutByOne, IsFetchLeftOutBySome, IsNotNamed, IsNotNamedAmong, not_in_manifest}
-pub use Rattle.bag_stages.specs.FetchStage.{FetchFaultsAreListed, FetchFaultsAreOfStageFour, HasFetch, IsOfFetch, fetch_txt}
-pub use Rattle.bag_stages.specs.FileFaults.{AreTagsOf, HasTextless, IsFaultAmong, IsFileFault, IsUnsupported, ListsPayloadManifest}
+pub use Rattle.bag_stages.specs.FetchFaults.{AreByLine, AreFetched, IsNamedByNone, IsNamedByNoneAmong}
+pub use Rattle.bag_stages.specs.FetchFaults.{IsFetchLeftOutByAll, IsFetchLeftOutByOne, IsFetchLeftOutBySome, IsNotNamed}
+pub use Rattle.bag_stages.specs.FetchFaults.{IsNotNamedAmong, not_in_manifest}
+pub use Rattle.bag_stages.specs.FetchStage.{FetchFaultsAreListed, FetchFaultsAreOfStageFour, HasFetch, IsOfFetch}
+pub use Rattle.bag_stages.specs.FetchStage.{fetch_txt}
+pub use Rattle.bag_stages.specs.FileFaults.{AreTagsOf, HasTextless, IsFaultAmong, IsFileFault, IsUnsupported}
+pub use Rattle.bag_stages.specs.FileFaults.{ListsPayloadManifest}
 pub use Rattle.bag_stages.specs.Given.{AreNaming, IsGivenBy, IsSpelledBy}
 pub use Rattle.bag_stages.specs.HasList.{HasList}
 pub use Rattle.bag_stages.specs.LeftOut.{IsLeftOut, IsLeftOutByAll, IsLeftOutByOne, IsNamedBySome}
-pub use Rattle.bag_stages.specs.ManifestFaults.{IsAskedUnnamed, IsLineFault, IsOfManifest, IsUnlistedManifest, IsUnnamedFault, unnamed}
-pub use Rattle.bag_stages.specs.ManifestsStage.{InManifest, IsOfManifests, ManifestFaultsAreListed, ManifestFaultsAreOfStageFive}
+pub use Rattle.bag_stages.specs.ManifestFaults.{IsAskedUnnamed, IsLineFault, IsOfManifest, IsUnlistedManifest}
+pub use Rattle.bag_stages.specs.ManifestFaults.{IsUnnamedFault, unnamed}
+pub use Rattle.bag_stages.specs.ManifestsStage.{InManifest, IsOfManifests, ManifestFaultsAreListed}
+pub use Rattle.bag_stages.specs.ManifestsStage.{ManifestFaultsAreOfStageFive}
 pub use Rattle.bag_stages.specs.Metadata.{HasElement, HasFirst, HasLater, bag_info_txt}
-pub use Rattle.bag_stages.specs.MetadataStage.{IsOfMetadata, MetadataFaultsAreListed, MetadataFaultsAreOfStageThree, oxum_label, pair}
+pub use Rattle.bag_stages.specs.MetadataStage.{IsOfMetadata, MetadataFaultsAreListed, MetadataFaultsAreOfStageThree}
+pub use Rattle.bag_stages.specs.MetadataStage.{oxum_label, pair}
 pub use Rattle.bag_stages.specs.Names.{IsNameOf, texts_of}
-pub use Rattle.bag_stages.specs.OxumFaults.{again, differs, first_faults, is_oxum, no_oxum, of_element, oxum_faults, oxums, same_oxum, told_faults}
+pub use Rattle.bag_stages.specs.OxumFaults.{again, differs, first_faults, is_oxum, no_oxum, of_element, oxum_faults}
+pub use Rattle.bag_stages.specs.OxumFaults.{oxums, same_oxum, reported_faults}
 pub use Rattle.bag_stages.specs.PartsStage.{PartFaultsAreListed, PartFaultsAreOfStageTwo}
 pub use Rattle.bag_stages.specs.Payload.{oxum, oxum_of_files, oxum_text}
-pub use Rattle.bag_stages.specs.PayloadNamed.{GoesOn, IsExact, IsNamedExactly, StopsAt, payload_paths}
+pub use Rattle.bag_stages.specs.PayloadNamed.{RestStartsAfter, IsExact, IsNamedExactly, StopsAt, payload_paths}
 pub use Rattle.bag_stages.specs.PayloadSize.{listed_oxum, payload_entries}
 pub use Rattle.bag_stages.specs.SumFaults.{AreSumsBy, differing, differing_code, faults_of_bytes, sum_differs}
 pub use Rattle.bag_stages.specs.SummedFiles.{IsNamed, IsSummed, NamesByKind, kind_of}
-pub use Rattle.bag_stages.specs.TagFiles.{HasManifest, HasNoText, HasSupported, Names, bagit_txt, lines_in, lines_or_none, manifest_of, named_in}
-pub use Rattle.bag_stages.specs.ValidityStage.{Differs, IsEntryIn, IsFaultOfFile, IsOfValidity, ValidityFaultsAreListed, ValidityFaultsAreOfStageSeven, expected_and_found}
+pub use Rattle.bag_stages.specs.TagFiles.{HasManifest, HasNoText, HasSupported, Names, bagit_txt, lines_in}
+pub use Rattle.bag_stages.specs.TagFiles.{lines_or_none, manifest_of, named_in}
+pub use Rattle.bag_stages.specs.ValidityStage.{Differs, IsEntryIn, IsFaultOfFile, IsOfValidity, ValidityFaultsAreListed}
+pub use Rattle.bag_stages.specs.ValidityStage.{ValidityFaultsAreOfStageSeven, expected_and_found}
 pub use Rattle.bag_stages.specs.declared.expected.Expected.{Expected}

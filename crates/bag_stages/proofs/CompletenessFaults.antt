@@ -1,5 +1,11 @@
 -- The faults of completeness and of names.
-use Rattle.bag_stages.proofs.Common.{arith, ◌≡◌, ◌⊎◌, inl, inr, ◌++◌, List, [], Bool, None, Some, refl, sym, ap, subst, is_lt, IsPermutation, IsSortedBy, stage, IsListOf, Code, PayloadFileMissing, TagFileMissing, PayloadFileNotListed, NameClash, same_members, Kind, Payload, Tag, Bag, fault_cmp, Fault, rules_in, At, IsLeftOut, IsClashFault, IsSoughtClash, missing_code, HasEachOnce, IsIncomplete, IsMissingFromSome, IsFileLeftOut, IsV097LeftOutByAll, IsWrongOfSome, CompletenessFaultsAreOfStageSix, IsPayloadFile, IsSoughtInStageSix}
+use Rattle.bag_stages.proofs.Common.{arith, ◌≡◌, ◌⊎◌, inl, inr, ◌++◌, List, [], Bool, None, Some, refl, sym, ap, subst}
+use Rattle.bag_stages.proofs.Common.{is_lt, IsPermutation, IsSortedBy, stage, IsListOf, Code, PayloadFileMissing}
+use Rattle.bag_stages.proofs.Common.{TagFileMissing, PayloadFileNotListed, NameClash, same_members, Kind, Payload, Tag}
+use Rattle.bag_stages.proofs.Common.{Bag, fault_cmp, Fault, rules_in, At, IsLeftOut, IsClashFault, IsSoughtClash}
+use Rattle.bag_stages.proofs.Common.{missing_code, HasEachOnce, IsIncomplete, IsMissingFromSome, IsFileLeftOut}
+use Rattle.bag_stages.proofs.Common.{IsV097LeftOutByAll, IsWrongOfSome, CompletenessFaultsAreOfStageSix, IsPayloadFile}
+use Rattle.bag_stages.proofs.Common.{IsSoughtInStageSix}
 use Rattle.bag_stages.proofs.LeftOut.{by_all, by_one, left_out_by, not_both}
 use Rattle.bag_stages.specs.CompletenessStage.{CompletenessHolds, IsOfCompleteness}
 use Rattle.bag_stages.proofs.FaultFields.{has_fields, made_of}
@@ -18,18 +24,22 @@ module _ (bag : Bag) (f : Fault) where
   unlisted_code_is : IsFileLeftOut bag f → f.code ≡ PayloadFileNotListed
   unlisted_code_is h = grind arith
 
-  not_listed : f.code ≡ PayloadFileNotListed → At f f.path f.alg 0 [] → IsPayloadFile bag f.path → IsLeftOut (rules_in bag) bag f.alg f.path → IsFileLeftOut bag f
+  not_listed : f.code ≡ PayloadFileNotListed → At f f.path f.alg 0 [] → IsPayloadFile bag f.path
+      → IsLeftOut (rules_in bag) bag f.alg f.path → IsFileLeftOut bag f
   not_listed e at here out = elim (left_out_by bag f.path (rules_in bag) f.alg out) [
-    | inl (by, (alg, is, left)) ↦ inl (alg, (by, (made_of f PayloadFileNotListed f.path (Some alg) 0 [] e (rw (sym is) at), (here, left))))
+    | inl (by, (alg, is, left)) ↦ inl
+        (alg, (by, (made_of f PayloadFileNotListed f.path (Some alg) 0 [] e (rw (sym is) at), (here, left))))
     | inr (by, is, left) ↦ inr (by, (made_of f PayloadFileNotListed f.path None 0 [] e (rw (sym is) at), (here, left)))
   ]
 
   incomplete_is : IsIncomplete bag f → IsOfCompleteness bag f
   unfolding IsOfCompleteness CompletenessHolds
   incomplete_is (inl (inl (alg, (is, (named, lacks))))) =
-      subst (CompletenessHolds bag f) (sym (ap (λ (x : Fault). x.code) is)) (alg, has_fields f PayloadFileMissing f.path (Some alg) 0 [] is, named, lacks)
+      subst (CompletenessHolds bag f) (sym (ap (λ (x : Fault). x.code) is))
+      (alg, has_fields f PayloadFileMissing f.path (Some alg) 0 [] is, named, lacks)
   incomplete_is (inl (inr (alg, (is, (named, lacks))))) =
-      subst (CompletenessHolds bag f) (sym (ap (λ (x : Fault). x.code) is)) (alg, has_fields f TagFileMissing f.path (Some alg) 0 [] is, named, lacks)
+      subst (CompletenessHolds bag f) (sym (ap (λ (x : Fault). x.code) is))
+      (alg, has_fields f TagFileMissing f.path (Some alg) 0 [] is, named, lacks)
   incomplete_is (inr (inl (alg, (by, (is, (here, out)))))) = grind (arith, has_fields, by_one)
   incomplete_is (inr (inr (by, (is, (here, out))))) = grind (arith, has_fields, by_all)
 
@@ -72,21 +82,27 @@ module _ (bag : Bag) where
   all_apart f h k = grind (arith, unlisted_apart bag f, not_both)
 
   -- what payload manifests are wrong about, then tag manifests, and then all payload manifests at once
-  pub incomplete_once : (payload tag all : List Fault) → HasEachOnce (IsWrongOfSome bag) payload → HasEachOnce (IsMissingFromSome bag Tag) tag → IsListOf fault_cmp (IsV097LeftOutByAll bag) all
+  pub incomplete_once : (payload tag all : List Fault) → HasEachOnce (IsWrongOfSome bag) payload
+      → HasEachOnce (IsMissingFromSome bag Tag) tag → IsListOf fault_cmp (IsV097LeftOutByAll bag) all
       → HasEachOnce (IsIncomplete bag) ((payload ++ tag) ++ all)
   incomplete_once payload tag all p t a =
       same_once _ _ ((payload ++ tag) ++ all) one_or_all of_one_or_all
-      (both_once OfOne (IsV097LeftOutByAll bag) (payload ++ tag) all all_apart (both_once _ _ payload tag tags_apart p t) (once_listed _ all a))
+      (both_once OfOne (IsV097LeftOutByAll bag) (payload ++ tag) all all_apart
+      (both_once _ _ payload tag tags_apart p t) (once_listed _ all a))
 
-  pub sought_is : (clashes : Bool) (f : Fault) → IsIncomplete bag f ⊎ IsSoughtClash clashes bag f → IsSoughtInStageSix clashes bag f
+  pub sought_is : (clashes : Bool) (f : Fault) → IsIncomplete bag f ⊎ IsSoughtClash clashes bag f
+      → IsSoughtInStageSix clashes bag f
   sought_is clashes f h = grind (arith, incomplete_is, no_clash)
 
-  pub is_sought : (clashes : Bool) (f : Fault) → IsSoughtInStageSix clashes bag f → IsIncomplete bag f ⊎ IsSoughtClash clashes bag f
+  pub is_sought : (clashes : Bool) (f : Fault) → IsSoughtInStageSix clashes bag f
+      → IsIncomplete bag f ⊎ IsSoughtClash clashes bag f
   is_sought clashes f h = elim (is_either bag f h.0) [ inl a ↦ inl a | inr clash ↦ inr (clash, h.1 clash.1) ]
 
   -- both, sorted
-  pub all_sought : (clashes : Bool) (files names all : List Fault) → HasEachOnce (IsIncomplete bag) files → IsListOf fault_cmp (IsSoughtClash clashes bag) names
-      → IsPermutation (files ++ names) all → IsSortedBy (λ x y. is_lt (fault_cmp x y)) all → IsListOf fault_cmp (IsSoughtInStageSix clashes bag) all
+  pub all_sought : (clashes : Bool) (files names all : List Fault) → HasEachOnce (IsIncomplete bag) files
+      → IsListOf fault_cmp (IsSoughtClash clashes bag) names
+      → IsPermutation (files ++ names) all → IsSortedBy (λ x y. is_lt (fault_cmp x y)) all
+      → IsListOf fault_cmp (IsSoughtInStageSix clashes bag) all
   all_sought clashes files names all once list perm sorted =
       same_members fault_cmp _ _ all (sought_is clashes) (is_sought clashes)
       (sorted_once (λ f. IsIncomplete bag f ⊎ IsSoughtClash clashes bag f) (files ++ names) all

@@ -1,5 +1,9 @@
 -- The faults of the declaration.
-use Rattle.bag_stages.proofs.Common.{arith, ◌≡◌, ◌↔◌, ◌⊎◌, inl, inr, ℕ, List, [], ◌∷◌, None, Some, true, map, refl, ap, sym, subst, is_some, stage, IsListOf, Code, NoDeclaration, DeclarationNotUtf8, one_listed, same_members, Bag, LacksFile, file, AreFaults, LineFault, DeclarationFault, IsDeclarationFault, of_path, Fault, fault_cmp, InDeclaration, DeclarationFaultsAreOfStageOne, in_file, in_line, bagit_txt}
+use Rattle.bag_stages.proofs.Common.{arith, ◌≡◌, ◌↔◌, ◌⊎◌, inl, inr, ℕ, List, [], ◌∷◌, None, Some, true, map, refl, ap}
+use Rattle.bag_stages.proofs.Common.{sym, subst, is_some, stage, IsListOf, Code, NoDeclaration, DeclarationNotUtf8}
+use Rattle.bag_stages.proofs.Common.{one_listed, same_members, Bag, LacksFile, file, AreFaults, LineFault}
+use Rattle.bag_stages.proofs.Common.{DeclarationFault, IsDeclarationFault, of_path, Fault, fault_cmp, InDeclaration}
+use Rattle.bag_stages.proofs.Common.{DeclarationFaultsAreOfStageOne, in_file, in_line, bagit_txt}
 use Rattle.bag_stages.specs.DeclarationStage.{DeclarationHolds, IsOfDeclaration}
 use Rattle.bag_stages.proofs.FaultFields.{has_fields, made_of}
 use Rattle.bag_stages.proofs.InFile.{IsOfLine, lines_listed}
@@ -33,28 +37,35 @@ module _ (bag : Bag) (f : Fault) where
   unfolding IsOfDeclaration
   of_some h = some_of_holds f.code refl h
 
-  holds_of_file : (c : Code) (bytes : List ℕ) → DeclarationFault c bytes (in_line f) → InDeclaration bag f → DeclarationHolds bag f c
+  holds_of_file : (c : Code) (bytes : List ℕ) → DeclarationFault c bytes (in_line f) → InDeclaration bag f
+      → DeclarationHolds bag f c
   unfolding DeclarationHolds
   holds_of_file NoDeclaration bytes h i = absurd h
   holds_of_file c bytes h i = grind arith
 
   pub some_is : IsNone ⊎ OfLine → IsOfDeclaration bag f
   unfolding IsOfDeclaration DeclarationHolds
-  some_is (inl (lacks, is)) = subst (DeclarationHolds bag f) (sym (ap (λ (x : Fault). x.code) is)) (has_fields f NoDeclaration bagit_txt None 0 [] is, lacks)
+  some_is (inl (lacks, is)) =
+      subst (DeclarationHolds bag f) (sym (ap (λ (x : Fault). x.code) is))
+      (has_fields f NoDeclaration bagit_txt None 0 [] is, lacks)
   some_is (inr (i, s)) = holds_of_file f.code i.2.0 i.2.2 i
 
 pub declaration_of_stage_one : DeclarationFaultsAreOfStageOne
-declaration_of_stage_one bag f h = elim (of_some bag f h) [ inl none ↦ ap (λ (x : Fault). stage x.code) none.1 | inr line ↦ line.1 ]
+declaration_of_stage_one bag f h =
+    elim (of_some bag f h) [ inl none ↦ ap (λ (x : Fault). stage x.code) none.1 | inr line ↦ line.1 ]
 
 module _ (bag : Bag) where
   -- the declaration is there
-  pub declared_listed : (bytes : List ℕ) (lines : List LineFault) → file bag bagit_txt ≡ Some bytes → AreFaults (IsDeclarationFault bytes) lines
+  pub declared_listed : (bytes : List ℕ) (lines : List LineFault) → file bag bagit_txt ≡ Some bytes
+      → AreFaults (IsDeclarationFault bytes) lines
       → IsListOf fault_cmp (IsOfDeclaration bag) (map (in_file bagit_txt None) lines)
   declared_listed bytes lines there list =
-      same_members fault_cmp _ _ (map (in_file bagit_txt None) lines) (λ f h. some_is bag f (inr h)) (λ f h. grind (arith, of_some bag f h))
+      same_members fault_cmp _ _ (map (in_file bagit_txt None) lines) (λ f h. some_is bag f (inr h)) (λ f h.
+      grind (arith, of_some bag f h))
       (lines_listed bag bagit_txt None 1 IsDeclarationFault (λ b. true) line_tells bytes true lines there refl list)
 
   -- there is no declaration
   pub missing_listed : file bag bagit_txt ≡ None → IsListOf fault_cmp (IsOfDeclaration bag) (no_declaration ∷ [])
   missing_listed none =
-      one_listed fault_cmp _ no_declaration (some_is bag no_declaration (inl (ap is_some none, refl))) (λ f h. grind (arith, of_some bag f h))
+      one_listed fault_cmp _ no_declaration (some_is bag no_declaration (inl (ap is_some none, refl))) (λ f h.
+      grind (arith, of_some bag f h))

@@ -1,5 +1,7 @@
 -- A digest that a manifest gives has no more bytes than the longest one has.
-use Rattle.bag_stages.proofs.Common.{◌≡◌, ◌≤◌, ℕ, List, length, take, ap, arith, length-map, take_all, encode_lower, lower_digits, hex_len, Alg, Md5, Kind, ManifestEntry, lines_read, Bag, rules_in, IsEntryIn}
+use Rattle.bag_stages.proofs.Common.{◌≡◌, ◌≤◌, ℕ, List, length, take, ap, arith, length-map, take_all, encode_lower}
+use Rattle.bag_stages.proofs.Common.{lower_digits, hex_len, Alg, Md5, Kind, ManifestEntry, lines_read, Bag, rules_in}
+use Rattle.bag_stages.proofs.Common.{IsEntryIn}
 use Rattle.std.specs.Char.{to_ascii_lowercase}
 use Rattle.hex.proofs.HexLemmas.{length-encode_with}
 
@@ -15,4 +17,5 @@ module _ (bag : Bag) (kind : Kind) (alg : Alg) (entry : ManifestEntry) (listed :
 
   -- so the first of them are all
   pub all_bytes : (bytes : List ℕ) → encode_lower bytes ≡ entry.digest → take 64 bytes ≡ bytes
-  all_bytes bytes is = take_all 64 bytes (omega (arith, ap length is, length-encode_with lower_digits bytes, short_text))
+  all_bytes bytes is =
+      take_all 64 bytes (omega (arith, ap length is, length-encode_with lower_digits bytes, short_text))

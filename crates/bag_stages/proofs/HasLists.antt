@@ -1,5 +1,7 @@
 -- Sets that a list has: of nothing, of one, of two sets, of a set for each member of another; and what can be decided.
-use Rattle.bag_stages.proofs.Common.{arith, ◌≡◌, ◌⊎◌, inl, inr, Bool, true, false, List, [], ◌∷◌, ◌++◌, refl, sym, subst, Contains, Less, contains_cases, contains_first, contains_behind, contains_nothing, nothing_listed, one_listed, HasList}
+use Rattle.bag_stages.proofs.Common.{arith, ◌≡◌, ◌⊎◌, inl, inr, Bool, true, false, List, [], ◌∷◌, ◌++◌, refl, sym}
+use Rattle.bag_stages.proofs.Common.{subst, Contains, Less, contains_cases, contains_first, contains_behind}
+use Rattle.bag_stages.proofs.Common.{contains_nothing, nothing_listed, one_listed, HasList}
 use Rattle.bag_stages.proofs.Sorted.{either_listed}
 
 abbrev pub Decided : Type 0 → Type 0
@@ -32,8 +34,12 @@ module _ {I A : Type 0} (P : I → A → Type 0) (each : (i : I) → HasList (P 
   along [] = nothing _ (λ x h. contains_nothing h.0 h.1)
   along (i ∷ items) =
       same_set (λ x. P i x ⊎ ((j : I) × Contains items j × P j x)) _
-      (λ x h. elim h [ inl p ↦ (i, contains_first i items, p) | inr more ↦ (more.0, contains_behind i items more.0 more.1, more.2) ])
-      (λ x h. elim (contains_cases i items h.0 h.1) [ inl e ↦ inl (subst (λ j. P j x) (sym e) h.2) | inr d ↦ inr (h.0, d, h.2) ])
+      (λ x h. elim h [
+        | inl p ↦ (i, contains_first i items, p)
+        | inr more ↦ (more.0, contains_behind i items more.0 more.1, more.2)
+      ])
+      (λ x h. elim (contains_cases i items h.0 h.1)
+      [ inl e ↦ inl (subst (λ j. P j x) (sym e) h.2) | inr d ↦ inr (h.0, d, h.2) ])
       (either (P i) _ (each i) (along items))
 
   -- a set for each member of another
@@ -47,7 +53,8 @@ module _ {I A : Type 0} (P : I → A → Type 0) (each : (i : I) → HasList (P 
 -- those of a set of which this holds
 pub those : {A : Type 0} (P D : A → Type 0) → HasList P → ((x : A) → Decided (D x)) → HasList (λ x. P x × D x)
 those P D p decided =
-    same_set _ _ (λ x h. subst (λ y. P y × D y) (sym h.2.1) (h.1, h.2.0)) (λ x h. (x, h.0, (h.1, refl))) (for_each (λ i x. D i × (x ≡ i)) (λ i. one_where i (D i) (decided i)) P p)
+    same_set _ _ (λ x h. subst (λ y. P y × D y) (sym h.2.1) (h.1, h.2.0)) (λ x h. (x, h.0, (h.1, refl)))
+    (for_each (λ i x. D i × (x ≡ i)) (λ i. one_where i (D i) (decided i)) P p)
 
 -- what can be decided
 pub false_unless : (b : Bool) → (b ≡ true → ⊥) → b ≡ false

@@ -1,5 +1,11 @@
 -- The faults of the metadata.
-use Rattle.bag_stages.proofs.Common.{arith, ◌≡◌, ◌↔◌, ◌⊎◌, inl, inr, ◌++◌, ℕ, List, [], ◌∷◌, map, None, true, false, is_lt, refl, sym, ap, ◌∙◌, subst, if◌then◌else◌, IsPermutation, IsSortedBy, is_utf8, stage, IsListOf, Code, NotUtf8, InfoLine, OxumMalformed, OxumAgain, OxumDiffers, NoOxum, same_members, InfoFault, IsInfoFault, LineFault, elements_of, Bag, file, Fault, fault_cmp, rules_in, IsSaid, in_file, in_line, bag_info_txt, MetadataFaultsAreOfStageThree, no_oxum, oxums, oxum_faults, oxum, oxum_text, pair}
+use Rattle.bag_stages.proofs.Common.{arith, ◌≡◌, ◌↔◌, ◌⊎◌, inl, inr, ◌++◌, ℕ, List, [], ◌∷◌, map, None, true, false}
+use Rattle.bag_stages.proofs.Common.{is_lt, refl, sym, ap, ◌∙◌, subst, if◌then◌else◌, IsPermutation, IsSortedBy}
+use Rattle.bag_stages.proofs.Common.{is_utf8, stage, IsListOf, Code, NotUtf8, InfoLine, OxumMalformed, OxumAgain}
+use Rattle.bag_stages.proofs.Common.{OxumDiffers, NoOxum, same_members, InfoFault, IsInfoFault, LineFault, elements_of}
+use Rattle.bag_stages.proofs.Common.{Bag, file, Fault, fault_cmp, rules_in, IsSaidOfTagFile, in_file, in_line}
+use Rattle.bag_stages.proofs.Common.{bag_info_txt, MetadataFaultsAreOfStageThree, no_oxum, oxums, oxum_faults, oxum}
+use Rattle.bag_stages.proofs.Common.{oxum_text, pair}
 use Rattle.bag_read.proofs.InfoFaults.{faults_of_no_text}
 use Rattle.bag_facts.specs.declared.tag_facts.Metadata.{Metadata}
 use Rattle.bag_facts.specs.declared.tag_facts.TagFacts.TheVariants as facts
@@ -10,13 +16,16 @@ use Rattle.bag_stages.proofs.OxumFaults.{IsOfOxum, oxum_listed}
 use Rattle.bag_stages.proofs.Sorted.{sorted_together}
 
 -- what is wrong with a line of a text
-line_code : (bag : Bag) (c : Code) (bytes : List ℕ) (x : LineFault) → is_utf8 bytes ≡ true → InfoFault (rules_in bag) c bytes x → c ≡ InfoLine
+line_code : (bag : Bag) (c : Code) (bytes : List ℕ) (x : LineFault) → is_utf8 bytes ≡ true
+    → InfoFault (rules_in bag) c bytes x → c ≡ InfoLine
 line_code bag NotUtf8 bytes x text h = let clash : true ≡ false = sym text ∙ h.2 in cc
 line_code bag c bytes x text h = grind arith
 
-pub line_tells : (bag : Bag) (bytes : List ℕ) (x : LineFault) → IsInfoFault (rules_in bag) bytes x → (stage x.code ≡ 3) ↔ (is_utf8 bytes ≡ true)
+pub line_tells : (bag : Bag) (bytes : List ℕ) (x : LineFault) → IsInfoFault (rules_in bag) bytes x
+    → (stage x.code ≡ 3) ↔ (is_utf8 bytes ≡ true)
 line_tells bag bytes x h =
-    text_tells 3 (IsInfoFault (rules_in bag) bytes) x (is_utf8 bytes) (λ e. omega (arith, e)) (λ text. ap stage (line_code bag x.code bytes x text h))
+    text_tells 3 (IsInfoFault (rules_in bag) bytes) x (is_utf8 bytes) (λ e. omega (arith, e)) (λ text.
+    ap stage (line_code bag x.code bytes x text h))
     (faults_of_no_text (rules_in bag) bytes) h
 
 -- what the codes of the stage say
@@ -33,10 +42,21 @@ module _ (bag : Bag) (f : Fault) where
   some_of_holds : (c : Code) → f.code ≡ c → MetadataHolds bag f c → IsOfOxum bag f ⊎ OfLine
   unfolding MetadataHolds
   some_of_holds InfoLine e h = inr (h, ap stage e)
-  some_of_holds OxumMalformed e (d, at, first, none) = inl (inl (d, first, inl (none, made_of f OxumMalformed bag_info_txt None d.line d.value e at)))
-  some_of_holds OxumAgain e (d, at, later) = inl (inr (inl (d, later, made_of f OxumAgain bag_info_txt None d.line d.value e at)))
+  some_of_holds OxumMalformed e (d, at, first, none) =
+      inl (inl (d, first, inl (none, made_of f OxumMalformed bag_info_txt None d.line d.value e at)))
+  some_of_holds OxumAgain e (d, at, later) =
+      inl (inr (inl (d, later, made_of f OxumAgain bag_info_txt None d.line d.value e at)))
   some_of_holds OxumDiffers e (d, told, at, first, is, other) =
-      inl (inl (d, first, inr (told, is, other, made_of f OxumDiffers bag_info_txt None d.line (pair d.value (oxum_text (oxum bag))) e at)))
+      inl (inl (
+        d,
+        first,
+        inr (
+          told,
+          is,
+          other,
+          made_of f OxumDiffers bag_info_txt None d.line (pair d.value (oxum_text (oxum bag))) e at,
+        ),
+      ))
   some_of_holds NoOxum e (at, none) = inl (inr (inr (none, made_of f NoOxum bag_info_txt None 0 [] e at)))
   some_of_holds other e h = absurd h
 
@@ -49,10 +69,14 @@ module _ (bag : Bag) (f : Fault) where
 
   pub some_is : IsOfOxum bag f ⊎ OfLine → IsOfMetadata bag f
   unfolding IsOfMetadata MetadataHolds
-  some_is (inl (inl (d, first, inl (none, is)))) = rw is (d, record { path_is = refl; alg_is = refl; line_is = refl; detail_is = refl }, first, none)
-  some_is (inl (inl (d, first, inr (told, reads, other, is)))) = rw is (d, told, record { path_is = refl; alg_is = refl; line_is = refl; detail_is = refl }, first, reads, other)
-  some_is (inl (inr (inl (d, later, is)))) = rw is (d, record { path_is = refl; alg_is = refl; line_is = refl; detail_is = refl }, later)
-  some_is (inl (inr (inr (none, is)))) = rw is (record { path_is = refl; alg_is = refl; line_is = refl; detail_is = refl }, none)
+  some_is (inl (inl (d, first, inl (none, is)))) =
+      rw is (d, record { path_is = refl; alg_is = refl; line_is = refl; detail_is = refl }, first, none)
+  some_is (inl (inl (d, first, inr (told, reads, other, is)))) =
+      rw is (d, told, record { path_is = refl; alg_is = refl; line_is = refl; detail_is = refl }, first, reads, other)
+  some_is (inl (inr (inl (d, later, is)))) =
+      rw is (d, record { path_is = refl; alg_is = refl; line_is = refl; detail_is = refl }, later)
+  some_is (inl (inr (inr (none, is)))) =
+      rw is (record { path_is = refl; alg_is = refl; line_is = refl; detail_is = refl }, none)
   some_is (inr h) = subst (MetadataHolds bag f) (sym (of_line_code h)) h.0
 
   apart : IsOfOxum bag f → OfLine → ⊥
@@ -64,13 +88,17 @@ metadata_of_stage_three bag f h = holds_stage bag f f.code h
 
 module _ (bag : Bag) where
   -- what was read of the file tells the faults
-  pub metadata_listed : (m : Metadata) (of_oxums of_lines all : List Fault) → IsSaid bag (facts.Info m) → of_oxums ≡ oxum_faults bag_info_txt (oxum bag) (oxums m.elements)
-      → of_lines ≡ (if m.is_text then map (in_file bag_info_txt None) m.faults else []) → IsPermutation (of_oxums ++ of_lines) all → IsSortedBy (λ x y. is_lt (fault_cmp x y)) all
+  pub metadata_listed : (m : Metadata) (of_oxums of_lines all : List Fault) → IsSaidOfTagFile bag (facts.Info m)
+      → of_oxums ≡ oxum_faults bag_info_txt (oxum bag) (oxums m.elements)
+      → of_lines ≡ (if m.is_text then map (in_file bag_info_txt None) m.faults else [])
+      → IsPermutation (of_oxums ++ of_lines) all → IsSortedBy (λ x y. is_lt (fault_cmp x y)) all
       → IsListOf fault_cmp (IsOfMetadata bag) all
   metadata_listed m of_oxums of_lines all (bytes, there, says) oxums_are lines_are perm sorted =
       same_members fault_cmp _ _ all (some_is bag) (of_some bag)
-      (sorted_together (IsOfOxum bag) (OfLine bag) of_oxums of_lines all (apart bag) (rw oxums_are (oxum_listed bag m.elements (rw there says.elements)))
-      (rw lines_are (lines_listed bag bag_info_txt None 3 (IsInfoFault (rules_in bag)) is_utf8 (line_tells bag) bytes m.is_text m.faults there says.text says.faults)) perm sorted)
+      (sorted_together (IsOfOxum bag) (OfLine bag) of_oxums of_lines all (apart bag)
+      (rw oxums_are (oxum_listed bag m.elements (rw there says.elements)))
+      (rw lines_are (lines_listed bag bag_info_txt None 3 (IsInfoFault (rules_in bag)) is_utf8 (line_tells bag) bytes
+      m.is_text m.faults there says.text says.faults)) perm sorted)
 
   -- a bag without the file has the one fault that no element tells the size
   pub missing_listed : file bag bag_info_txt ≡ None → IsListOf fault_cmp (IsOfMetadata bag) (no_oxum bag_info_txt ∷ [])

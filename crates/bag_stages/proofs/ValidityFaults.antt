@@ -1,11 +1,14 @@
 -- The faults of validity.
-use Rattle.bag_stages.proofs.Common.{arith, ◌≡◌, ◌≢◌, ℕ, List, Some, refl, stage, Alg, Code, PayloadSumDiffers, Kind, Payload, Tag, ManifestEntry, Bag, file, digest, of_path, Fault, differing_code, expected_and_found, Differs, IsEntryIn, ValidityFaultsAreOfStageSeven}
+use Rattle.bag_stages.proofs.Common.{arith, ◌≡◌, ◌≢◌, ℕ, List, Some, refl, stage, Alg, Code, PayloadSumDiffers, Kind}
+use Rattle.bag_stages.proofs.Common.{Payload, Tag, ManifestEntry, Bag, file, digest, of_path, Fault, differing_code}
+use Rattle.bag_stages.proofs.Common.{expected_and_found, Differs, IsEntryIn, ValidityFaultsAreOfStageSeven}
 use Rattle.bag_stages.specs.ValidityStage.{IsOfValidity, ValidityHolds}
 use Rattle.bag_stages.proofs.FaultFields.{made_of}
 
 -- the fault of an entry's file that has this digest
 abbrev pub fault_of_sum : Kind → Alg → ManifestEntry → List ℕ → Fault
-fault_of_sum kind alg entry found = of_path (differing_code kind) entry.path (Some alg) (expected_and_found entry.digest found)
+fault_of_sum kind alg entry found =
+    of_path (differing_code kind) entry.path (Some alg) (expected_and_found entry.digest found)
 
 -- the fault of a file of these bytes whose digest isn't the one that an entry gives
 abbrev pub sum_fault : Kind → Alg → ManifestEntry → List ℕ → Fault
@@ -15,7 +18,8 @@ module _ (bag : Bag) where
   -- the fault of the file of an entry
   abbrev pub IsOfEntry : Kind → Alg → ManifestEntry → Fault → Type 0
   IsOfEntry kind alg entry f =
-      (content : List ℕ) × (file bag entry.path ≡ Some content) × (entry.digest ≢ digest alg content) × (f ≡ sum_fault kind alg entry content)
+      (content : List ℕ) × (file bag entry.path ≡ Some content) × (entry.digest ≢ digest alg content)
+      × (f ≡ sum_fault kind alg entry content)
 
   -- such a fault of some entry of a manifest
   abbrev pub IsOfManifest : Kind → Alg → Fault → Type 0
@@ -52,7 +56,8 @@ module _ (bag : Bag) where
   holds_of Payload f h = h
   holds_of Tag f h = h
 
-  fault_holds : (kind : Kind) (alg : Alg) (entry : ManifestEntry) (content : List ℕ) → IsEntryIn bag kind alg entry → file bag entry.path ≡ Some content → entry.digest ≢ digest alg content
+  fault_holds : (kind : Kind) (alg : Alg) (entry : ManifestEntry) (content : List ℕ) → IsEntryIn bag kind alg entry
+      → file bag entry.path ≡ Some content → entry.digest ≢ digest alg content
       → IsOfValidity bag (sum_fault kind alg entry content)
   unfolding IsOfValidity
   fault_holds kind alg entry content listed there differ = grind (arith, holds_of)

@@ -21,9 +21,9 @@ abbrev pub IsClashAmong : (List ℕ → Type 0) → Fault → Type 0
 IsClashAmong IsName f = (name : List ℕ) × IsClashOf IsName name f
 
 -- the first name of a form, among those that were seen
-abbrev pub first_of : {Y S : Type 0} → HashMap (String Y) (Bor (List ℕ)) S → List ℕ
+abbrev pub first_of_form : {Y S : Type 0} → HashMap (String Y) (Bor (List ℕ)) S → List ℕ
     → Option (List ℕ)
-first_of firsts form = option_map (λ name. name.now) (get_by_text firsts form)
+first_of_form firsts form = option_map (λ name. name.now) (get_by_text firsts form)
 
 -- the same, where one more name is seen
 abbrev pub first_with : Option (List ℕ) → List ℕ → List ℕ → Option (List ℕ)

@@ -28,7 +28,7 @@ pub record HasEachOnce (IsMember : Fault → Type 0) (faults : List Fault) : Typ
   pub members : (f : Fault) → Contains faults f ↔ IsMember f
 
 -- the fault of a path of which this holds, by the manifest of an algorithm, or by all where no
--- algorithm is told
+-- algorithm is given
 abbrev pub IsOfPath : Code → Option Alg → (List ℕ → Type 0) → Fault → Type 0
 IsOfPath code alg IsWrong f = (f ≡ of_path code f.path alg []) × IsWrong f.path
 

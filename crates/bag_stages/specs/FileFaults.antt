@@ -10,7 +10,7 @@ use Rattle.bag_read.specs.declared.tag_name.TagName.{TagName}
 use Rattle.bag_tree.specs.Bag.{Bag, HasFile}
 use Rattle.bag_tree.specs.declared.listing.FileEntry.{FileEntry}
 use Rattle.bag_facts.specs.declared.fault.Fault.{Fault}
-use Rattle.bag_facts.specs.Facts.{IsSaid}
+use Rattle.bag_facts.specs.Facts.{IsSaidOfTagFile}
 use Rattle.bag_facts.specs.TagFacts.{name_of, text_test}
 use Rattle.bag_facts.specs.Wanted.{paths_of}
 use Rattle.bag_facts.specs.declared.tag_facts.TagFacts.{TagFacts}
@@ -21,7 +21,7 @@ use Rattle.bag_stages.specs.TagFiles.{HasNoText}
 pub record AreTagsOf (bag : Bag) (tags : List TagFacts) : Type 0 where
   pub there : (name : TagName) → HasFile bag (tag_path name)
       → (tag : TagFacts) × Contains tags tag × (name_of tag ≡ name)
-  pub said : (tag : TagFacts) → Contains tags tag → IsSaid bag tag
+  pub said : (tag : TagFacts) → Contains tags tag → IsSaidOfTagFile bag tag
 
 -- among these is what is known of a tag file, and it isn't UTF-8
 abbrev pub HasTextless : List TagFacts → TagName → Type 0

@@ -20,7 +20,7 @@ abbrev pub IsLeftOutByAll : Bag → List ℕ → Type 0
 IsLeftOutByAll bag path = ((alg : Alg) × HasSupported bag Payload alg) × ¬ (IsNamedBySome bag path)
 
 -- The payload manifests leave the path out: by the rules of 1.0 the one of an algorithm does, and
--- by those of 0.97 all do, and no algorithm is told.
+-- by those of 0.97 all do, and no algorithm is given.
 abbrev pub IsLeftOut : Rules → Bag → Option Alg → List ℕ → Type 0
 IsLeftOut V10 bag (Some alg) path = IsLeftOutByOne bag alg path
 IsLeftOut V10 bag None path = ⊥

@@ -39,13 +39,13 @@ module _ (path : List ℕ) where
     abbrev pub differs : Element → Fault
     differs e = of_element OxumDiffers e (pair e.value (oxum_text found))
 
-    abbrev pub told_faults : Element → Option Oxum → List Fault
-    told_faults e None = of_element OxumMalformed e e.value ∷ []
-    told_faults e (Some told) = if same_oxum told found then [] else differs e ∷ []
+    abbrev pub reported_faults : Element → Option Oxum → List Fault
+    reported_faults e None = of_element OxumMalformed e e.value ∷ []
+    reported_faults e (Some told) = if same_oxum told found then [] else differs e ∷ []
 
     -- the first one doesn't read, or tells another size
     abbrev pub first_faults : Element → List Fault
-    first_faults e = told_faults e (oxum_of e.value)
+    first_faults e = reported_faults e (oxum_of e.value)
 
     -- the faults of all of them
     abbrev pub oxum_faults : List Element → List Fault

@@ -11,9 +11,9 @@ use Rattle.bag_stages.specs.CompletenessStage.{IsPayloadFile}
 abbrev pub payload_paths : List (List ℕ) → List (List ℕ)
 payload_paths paths = filter is_payload_path paths
 
--- the rest of the names behind a path: it is the first of them, or no payload file's
-abbrev pub GoesOn : List (List ℕ) → List ℕ → List (List ℕ) → Type 0
-GoesOn names path rest = ((is_payload_path path ≡ true) × (names ≡ path ∷ rest))
+-- the rest of the names after a path: it is the first of them, or no payload file's
+abbrev pub RestStartsAfter : List (List ℕ) → List ℕ → List (List ℕ) → Type 0
+RestStartsAfter names path rest = ((is_payload_path path ≡ true) × (names ≡ path ∷ rest))
     ⊎ ((is_payload_path path ≡ false) × (rest ≡ names))
 
 -- there is none: the path is a payload file's, and not the first of the names

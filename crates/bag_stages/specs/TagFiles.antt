@@ -44,10 +44,10 @@ abbrev pub Names : Bag → Kind → Alg → List ℕ → Type 0
 Names bag kind alg path = Contains (named_in bag kind alg) path
 
 -- a tag file that is read as lines, but for the declaration
-abbrev pub IsRead : List ℕ → Type 0
-IsRead path = (name : TagName) × (name ≢ Declaration) × (tag_path name ≡ path)
+abbrev pub IsReadAsLines : List ℕ → Type 0
+IsReadAsLines path = (name : TagName) × (name ≢ Declaration) × (tag_path name ≡ path)
 
 -- such a file that is there and isn't UTF-8
 abbrev pub HasNoText : Bag → List ℕ → Type 0
 HasNoText bag path =
-    IsRead path × ((bytes : List ℕ) × (file bag path ≡ Some bytes) × IsNoText bytes)
+    IsReadAsLines path × ((bytes : List ℕ) × (file bag path ≡ Some bytes) × IsNoText bytes)

@@ -7,7 +7,7 @@ ghost use Rattle.bag_text.specs.Order.{IsListOf};
 ghost use Rattle.bag_text.specs.Text.{text_cmp};
 ghost use Rattle.bag_facts.specs.FaultOrder.{fault_cmp};
 ghost use Rattle.bag_stages.specs.Clashes.{nfc_of};
-ghost use Rattle.bag_stages.specs.ClashFaults.{first_of, first_with, name_clash, IsClashAmong};
+ghost use Rattle.bag_stages.specs.ClashFaults.{first_of_form, first_with, name_clash, IsClashAmong};
 ghost use Rattle.bag_stages.specs.ClashStage.{IsClashFault};
 ghost use Rattle.bag_stages.specs.Names.{texts_of};
 ghost use Rattle.bag_stages.specs.Found.{AreFaultsOf};
@@ -67,9 +67,10 @@ fn clash_of<'a>(
     name: &'a str,
 ) -> Result<Option<Fault>, AllocError>
     ensures fault { IfOk result (λ fault.
-        fault ≡ option_map (name_clash name.now) (first_of firsts.old (nfc_of name.now))) }
+        fault ≡ option_map (name_clash name.now) (first_of_form firsts.old (nfc_of name.now))) }
     ensures firsts { OnOk result ((form : List ℕ)
-        → first_of firsts.new form ≡ first_with (first_of firsts.old form) name.now form) }
+        → first_of_form firsts.new form
+        ≡ first_with (first_of_form firsts.old form) name.now form) }
 {
     let form = nfc_form(alloc, name)?;
     if let Some(first) = firsts.get(form.as_str()) {

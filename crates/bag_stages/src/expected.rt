@@ -76,7 +76,7 @@ fn expected_by(
 }
 
 /// The entry of a path among entries in the order of their paths. It is looked for at a place
-/// first, and then by a search; the place is left behind it.
+/// first, and then by a search; the place is left after it.
 fn entry_near<'a>(
     entries: &'a [ManifestEntry],
     path: &Text,

@@ -7,7 +7,7 @@ use bag_text::{Alg, Code, Text};
 use std::alloc::{AllocError, Global};
 
 /// The fault of a file that the manifest of an algorithm is wrong about, or all where no algorithm
-/// is told.
+/// is given.
 pub(crate) fn file_fault(
     alloc: Global,
     code: Code,

@@ -11,7 +11,7 @@ const MOST_BYTES: usize = 64;
 #[derive(Debug, Drop)]
 pub struct GivenDigest {
     count: u8,
-    /// The bytes, with zeros behind them.
+    /// The bytes, with zeros after them.
     bytes: [u8; MOST_BYTES],
 }
 

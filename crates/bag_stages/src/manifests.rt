@@ -5,7 +5,7 @@ ghost use Rattle.bag_text.specs.Order.{IsListOf, IsOnly};
 ghost use Rattle.bag_text.specs.Text.{text_cmp};
 ghost use Rattle.bag_tree.specs.Bag.{Bag};
 ghost use Rattle.bag_facts.specs.FaultOrder.{fault_cmp};
-ghost use Rattle.bag_facts.specs.Facts.{IsFactsOf, IsSaid};
+ghost use Rattle.bag_facts.specs.Facts.{IsFactsOf, IsSaidOfTagFile};
 ghost use Rattle.bag_facts.specs.TagFacts.{AreByPath};
 ghost use Rattle.bag_facts.specs.Wanted.{paths_of};
 ghost use Rattle.bag_facts.specs.declared.tag_facts.TagFacts.TheVariants as known;
@@ -39,7 +39,7 @@ pub fn manifest_faults(alloc: Global, facts: &Facts) -> Result<Vec<Fault>, Alloc
 /// The faults of one manifest: what it doesn't name stands before the faults of its lines.
 fn faults_of(alloc: Global, facts: &Facts, manifest: &Manifest) -> Result<Vec<Fault>, AllocError>
     ensures { IfOk result (λ faults. (bag : Bag) → IsFactsOf bag facts.now
-        → IsSaid bag (known.Manifest manifest.now)
+        → IsSaidOfTagFile bag (known.Manifest manifest.now)
         → IsListOf fault_cmp (IsOfManifest bag manifest.now.kind manifest.now.alg) faults.items) }
 {
     let path = TagName::Manifest(manifest.kind, manifest.alg).path(alloc)?;

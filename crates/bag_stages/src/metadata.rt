@@ -3,7 +3,7 @@ ghost use Rattle.std.specs.Prelude.{◌≡◌, IfOk};
 ghost use Rattle.bag_text.specs.Order.{IsListOf};
 ghost use Rattle.bag_tree.specs.Bag.{Bag};
 ghost use Rattle.bag_facts.specs.FaultOrder.{fault_cmp};
-ghost use Rattle.bag_facts.specs.Facts.{IsSaid};
+ghost use Rattle.bag_facts.specs.Facts.{IsSaidOfTagFile};
 ghost use Rattle.bag_facts.specs.declared.tag_facts.TagFacts.TheVariants as known;
 ghost use Rattle.bag_stages.specs.Metadata.{bag_info_txt};
 ghost use Rattle.bag_stages.specs.MetadataStage.{IsOfMetadata};
@@ -41,7 +41,7 @@ fn faults_of(
     files: &[FileEntry],
 ) -> Result<Vec<Fault>, AllocError>
     ensures { IfOk result (λ faults. (bag : Bag) → path.now ≡ bag_info_txt
-        → listed_oxum files.now ≡ oxum bag → IsSaid bag (known.Info metadata.now)
+        → listed_oxum files.now ≡ oxum bag → IsSaidOfTagFile bag (known.Info metadata.now)
         → IsListOf fault_cmp (IsOfMetadata bag) faults.items) }
 {
     let mut faults = oxum_faults(alloc, path, metadata.elements.as_slice(), files)?;

@@ -4,7 +4,7 @@ ghost use Rattle.bag_facts.specs.Facts.{OfBag};
 ghost use Rattle.bag_facts.specs.TagFacts.{entry_paths};
 ghost use Rattle.bag_facts.specs.Wanted.{paths_of};
 ghost use Rattle.bag_stages.specs.CompletenessFaults.{IsWrong, IsWrongOfSome};
-ghost use Rattle.bag_stages.specs.PayloadNamed.{GoesOn, IsExact, payload_paths, StopsAt};
+ghost use Rattle.bag_stages.specs.PayloadNamed.{RestStartsAfter, IsExact, payload_paths, StopsAt};
 ghost use Rattle.bag_stages.specs.Found.{AreEachOnceOf};
 
 use crate::left_out::left_out_by_one;
@@ -69,12 +69,12 @@ fn are_named(entries: &[ManifestEntry], files: &[FileEntry]) -> bool
     rest.is_empty()
 }
 
-/// The entries that are left behind a file: all of them where it isn't of the payload, and else
-/// those behind the first, which has its path.
+/// The entries that are left after a file: all of them where it isn't of the payload, and else
+/// those after the first, which has its path.
 fn behind<'a>(entries: &'a [ManifestEntry], path: &Text) -> Option<&'a [ManifestEntry]>
     ensures { MatchOption result
         (StopsAt (entry_paths entries.now) path.now)
-        (λ rest. GoesOn (entry_paths entries.now) path.now (entry_paths rest.now)) }
+        (λ rest. RestStartsAfter (entry_paths entries.now) path.now (entry_paths rest.now)) }
 {
     if !is_payload(path.as_str()) {
         return Some(entries);

@@ -3,7 +3,7 @@ ghost use Rattle.std.specs.Prelude.{◌≡◌, All};
 
 use bag_text::Alg;
 
-/// Where to look first for what manifests give for a file: behind what they gave for the file
+/// Where to look first for what manifests give for a file: after what they gave for the file
 /// before. In path order most files are found there, without a search. The places decide nothing:
 /// whatever they are, the same entries are found.
 #[derive(Debug, Drop)]

@@ -34,7 +34,7 @@ impl HasPath for ManifestEntry {
 }
 
 /// Those of items in the order of their paths that come after a path, and whether one stands at it.
-/// Looks at no item behind the first of those.
+/// Looks at no item after the first of those.
 pub(crate) fn seek<'a, T: HasPath>(items: &'a [T], path: &Text) -> (&'a [T], bool)
     ensures { IsStrictlySortedBy text_cmp (map T.path_of items.now)
         → IsSought path.now (map T.path_of items.now) (map T.path_of result.0.now) result.1 }

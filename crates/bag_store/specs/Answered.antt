@@ -3,7 +3,9 @@ use Rattle.std.specs.Prelude.{ℕ, ◌+◌, ◌==◌, if◌then◌else◌}
 use Rattle.bag_tree.specs.declared.tree_fault.TreeFault.{TreeFault}
 use Rattle.bag_tree.specs.declared.tree_fault.TreeFault.TheVariants as fault
 use Rattle.bag_disk.specs.declared.refusal.Refusal.{Refusal}
-use Rattle.bag_disk.specs.declared.refusal.Refusal.TheVariants.{Device, Special, Name, NotFound, TooMany, Memory, Exists, Contradicts, InTheWay}
+use Rattle.bag_disk.specs.declared.refusal.Refusal.TheVariants.{Device, Special, Name, NotFound}
+use Rattle.bag_disk.specs.declared.refusal.Refusal.TheVariants.{TooMany, Memory, Exists}
+use Rattle.bag_disk.specs.declared.refusal.Refusal.TheVariants.{Contradicts, InTheWay}
 
 -- the count that has no successor
 abbrev pub last_count : ℕ
@@ -16,17 +18,18 @@ failure_or_memory failure count = if count == last_count then fault.Memory else 
 abbrev pub one_more_failure : ℕ → ℕ
 one_more_failure count = if count == last_count then count else count + 1
 
--- the fault that answers a refusal, where this number of failures was counted that the disk didn't count
-abbrev pub fault_of : Refusal → ℕ → TreeFault
-fault_of Device count = fault.Device
-fault_of Special count = failure_or_memory fault.Special count
-fault_of Name count = failure_or_memory fault.Name count
-fault_of NotFound count = fault.NotFound
-fault_of TooMany count = fault.TooMany
-fault_of Memory count = fault.Memory
-fault_of Exists count = fault.Exists
-fault_of Contradicts count = failure_or_memory fault.Device count
-fault_of InTheWay count = failure_or_memory fault.Device count
+-- the fault that answers a refusal, where this number of failures was counted that the disk didn't
+-- count
+abbrev pub fault_answering : Refusal → ℕ → TreeFault
+fault_answering Device count = fault.Device
+fault_answering Special count = failure_or_memory fault.Special count
+fault_answering Name count = failure_or_memory fault.Name count
+fault_answering NotFound count = fault.NotFound
+fault_answering TooMany count = fault.TooMany
+fault_answering Memory count = fault.Memory
+fault_answering Exists count = fault.Exists
+fault_answering Contradicts count = failure_or_memory fault.Device count
+fault_answering InTheWay count = failure_or_memory fault.Device count
 
 -- how many of these failures there are then
 abbrev pub count_after : Refusal → ℕ → ℕ

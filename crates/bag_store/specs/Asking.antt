@@ -1,19 +1,23 @@
 -- What calls ask of a disk.
-use Rattle.std.specs.Prelude.{ℕ, ◌≡◌, ◌++◌, true, IsTrue, List, [], ◌∷◌, Option, Some, MatchResult, Result, map}
+use Rattle.std.specs.Prelude.{ℕ, ◌≡◌, ◌++◌, true, IsTrue, List, [], ◌∷◌, Option, Some, MatchResult}
+use Rattle.std.specs.Prelude.{Result, map}
 use Rattle.bag_tree.specs.Asked.{Adds, AreSyncs, Asking, has_durable_folders, joined}
 use Rattle.bag_tree.specs.declared.event.DeviceEvent.{DeviceEvent}
 use Rattle.bag_tree.specs.declared.event.DeviceEvent.TheVariants.{Write, Sync, SyncFolder}
 use Rattle.bag_disk.specs.Disk.{DiskState}
 use Rattle.bag_disk.specs.declared.refusal.Refusal.{Refusal}
 
--- Of a device that notes what it does a call asked this: where it was answered, and where it was refused.
-abbrev pub HasAsked : {T : Type 0} → Asking → Asking → DiskState → DiskState → Result T Refusal → Type 0
-HasAsked asks refused_asks old new result =
+-- Of a device that notes what it does a call asked this: where it was answered, and where it was
+-- refused.
+abbrev pub AsksOfDisk : {T : Type 0} → Asking → Asking → DiskState → DiskState → Result T Refusal
+    → Type 0
+AsksOfDisk asks refused_asks old new result =
     IsTrue old.noted → MatchResult result
     (λ _. Adds asks old.trail new.trail)
     (λ _. Adds refused_asks old.trail new.trail)
 
--- the names that folders were given in the base folder are durable, where the device notes what it does
+-- the names that folders were given in the base folder are durable, where the device notes what it
+-- does
 abbrev pub HasDurableFolders : DiskState → Type 0
 HasDurableFolders disk = IsTrue disk.noted → has_durable_folders disk.trail ≡ true
 
@@ -41,7 +45,9 @@ pub record FillsPart (path : List ℕ) (before now : List DeviceEvent) : Type 0 
   pub asked : now ≡ map (Write path) pieces ++ after
 
 -- what filling the file asks that is being written
-abbrev pub HasFilled : (List ℕ → Asking) → (List ℕ → Asking) → Option (List ℕ) → DiskState → DiskState
+abbrev pub HasFilled : (List ℕ → Asking) → (List ℕ → Asking) → Option (List ℕ) → DiskState
+    → DiskState
     → Result (Unit {0}) Refusal → Type 0
 HasFilled asks refused_asks written old new result =
-    (path : List ℕ) → written ≡ Some path → HasAsked (asks path) (refused_asks path) old new result
+    (path : List ℕ) → written ≡ Some path
+    → AsksOfDisk (asks path) (refused_asks path) old new result

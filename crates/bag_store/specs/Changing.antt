@@ -13,7 +13,8 @@ IsNameTaken disk name = IsTrue disk.honest → is_taken (bag_of disk.nodes) name
 
 -- what is to be moved isn't there, or the folder for it isn't
 abbrev pub LacksSource : DiskState → List ℕ → List ℕ → Type 0
-LacksSource disk top folder = IsTrue disk.honest → lacks_source (bag_of disk.nodes) top folder ≡ true
+LacksSource disk top folder = IsTrue disk.honest
+    → lacks_source (bag_of disk.nodes) top folder ≡ true
 
 -- there is no such folder
 abbrev pub LacksFolder : DiskState → List ℕ → Type 0
@@ -21,11 +22,13 @@ LacksFolder disk name = IsTrue disk.honest → lacks_folder (bag_of disk.nodes) 
 
 -- a file stands where something is to be moved to, or below it
 abbrev pub HasTarget : DiskState → List ℕ → List ℕ → Type 0
-HasTarget disk top folder = IsTrue disk.honest → has_within (bag_of disk.nodes) (under folder top) ≡ true
+HasTarget disk top folder = IsTrue disk.honest
+    → has_within (bag_of disk.nodes) (under folder top) ≡ true
 
 -- a folder stands where something is to be moved to
 abbrev pub HasFolderInTheWay : DiskState → List ℕ → List ℕ → Type 0
-HasFolderInTheWay disk top folder = IsTrue disk.honest → node disk.nodes (under folder top) ≡ Some Folder
+HasFolderInTheWay disk top folder = IsTrue disk.honest
+    → node disk.nodes (under folder top) ≡ Some Folder
 
 -- of an honest disk, what had a name was moved into a folder that is there, where nothing stood
 pub record MovesInto (old new : Nodes) (top folder : List ℕ) : Type 0 where

@@ -4,7 +4,9 @@ use Rattle.bag_tree.specs.Tree.{TreeState}
 use Rattle.bag_tree.specs.declared.answer.Answer.{Answer}
 use Rattle.bag_tree.specs.declared.answer.Answer.TheVariants.{Given}
 use Rattle.bag_tree.specs.declared.tree_fault.TreeFault.{TreeFault}
-use Rattle.bag_tree.specs.declared.tree_fault.TreeFault.TheVariants.{Device, Special, Name, NotFound, TooMany, Changed, NoneOpen, Memory, Exists}
+use Rattle.bag_tree.specs.declared.tree_fault.TreeFault.TheVariants.{Device, Special, Name}
+use Rattle.bag_tree.specs.declared.tree_fault.TreeFault.TheVariants.{NotFound, TooMany, Changed}
+use Rattle.bag_tree.specs.declared.tree_fault.TreeFault.TheVariants.{NoneOpen, Memory, Exists}
 use Rattle.bag_store.specs.declared.file_tree.FileTree.{FileTree}
 use Rattle.bag_disk.specs.Disk.{DiskState, entry_count, is_plain}
 use Rattle.bag_disk.specs.DiskBag.{bag_of}
@@ -15,10 +17,11 @@ use Rattle.bag_disk.specs.Refusal.{MeetsSpecial, MeetsUnnamed}
 abbrev pub disk_of : {D : Type 0} {disk : Disk.Ghosts D} → FileTree D disk → D
 disk_of tree = tree.disk
 
--- what a tree of the files on a disk means, with this number of failures beside those of the device, which the disk counts, where
--- its reads of the open file have given this number of bytes, and its last call answered this
-abbrev pub state_after : DiskState → ℕ → ℕ → Answer → TreeState
-state_after disk own given last = record {
+-- what a tree of the files on a disk means, with this number of failures beside those of the
+-- device, which the disk counts, where its reads of the open file have given this number of bytes,
+-- and its last call answered this
+abbrev pub file_state_after : DiskState → ℕ → ℕ → Answer → TreeState
+file_state_after disk own given last = record {
   bag = bag_of disk.nodes;
   plain = is_plain disk.nodes;
   honest = disk.honest;
@@ -32,28 +35,31 @@ state_after disk own given last = record {
   noted = disk.noted;
 }
 
--- what a tree of the files on a disk means at which it hasn't looked yet, with this number of failures beside those of the device
+-- what a tree of the files on a disk means at which it hasn't looked yet, with this number of
+-- failures beside those of the device
 abbrev pub tree_state : DiskState → ℕ → TreeState
-tree_state disk own = state_after disk own 0 Given
+tree_state disk own = file_state_after disk own 0 Given
 
 -- what a tree means whose disk means this
-abbrev pub state_of : {D : Type 0} {disk : Disk.Ghosts D} → (D → DiskState) → FileTree D disk → TreeState
-state_of state tree = state_after (state tree.disk) tree.answered.failures tree.answered.given tree.answered.last
+abbrev pub state_of : {D : Type 0} {disk : Disk.Ghosts D} → (D → DiskState) → FileTree D disk
+    → TreeState
+state_of state tree =
+    file_state_after (state tree.disk) tree.answered.failures tree.answered.given tree.answered.last
 
 -- the device of a disk refused
 abbrev pub HasFailed : DiskState → DiskState → Type 0
 HasFailed old new = old.failures < new.failures
 
--- What a tree's refusal tells of its disk, as it was before the call and after it: that its device refused in this call, that
--- something stands there that is no file and no folder, or that something has a name that isn't UTF-8. `reason` says when the
--- tree tells of a failure for itself.
-abbrev pub TellsOfDisk : Type 0 → DiskState → DiskState → TreeFault → Type 0
-TellsOfDisk reason old new Device = HasFailed old new ⊎ reason
-TellsOfDisk reason old new Special = MeetsSpecial old
-TellsOfDisk reason old new Name = MeetsUnnamed old
-TellsOfDisk reason old new NotFound = Unit {0}
-TellsOfDisk reason old new TooMany = Unit {0}
-TellsOfDisk reason old new Changed = Unit {0}
-TellsOfDisk reason old new NoneOpen = Unit {0}
-TellsOfDisk reason old new Memory = Unit {0}
-TellsOfDisk reason old new Exists = Unit {0}
+-- What a tree's refusal tells of its disk, as it was before the call and after it: that its device
+-- refused in this call, that something stands there that is no file and no folder, or that
+-- something has a name that isn't UTF-8. `reason` says when the tree tells of a failure for itself.
+abbrev pub ReportsDisk : Type 0 → DiskState → DiskState → TreeFault → Type 0
+ReportsDisk reason old new Device = HasFailed old new ⊎ reason
+ReportsDisk reason old new Special = MeetsSpecial old
+ReportsDisk reason old new Name = MeetsUnnamed old
+ReportsDisk reason old new NotFound = Unit {0}
+ReportsDisk reason old new TooMany = Unit {0}
+ReportsDisk reason old new Changed = Unit {0}
+ReportsDisk reason old new NoneOpen = Unit {0}
+ReportsDisk reason old new Memory = Unit {0}
+ReportsDisk reason old new Exists = Unit {0}

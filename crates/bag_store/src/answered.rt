@@ -2,13 +2,14 @@
 ghost use Rattle.std.specs.Prelude.{◌≡◌, ◌≤◌, ◌+◌, IsTrue};
 ghost use Rattle.bag_tree.specs.Tree.{answer_of_read};
 ghost use Rattle.bag_tree.specs.declared.answer.Answer.TheVariants.{Given, Refused, Unlisted};
-ghost use Rattle.bag_store.specs.Answered.{fault_of, count_after, failure_or_memory, one_more_failure, last_count};
+ghost use Rattle.bag_store.specs.Answered.{fault_answering, count_after, failure_or_memory};
+ghost use Rattle.bag_store.specs.Answered.{one_more_failure, last_count};
 
 use bag_disk::Refusal;
 use bag_tree::{Answer, TreeFault};
 
-/// What a tree has answered: how often it failed over what its disk gave, how many bytes the open file gave, and the last
-/// answer. What the disk's device refused is counted by the disk.
+/// What a tree has answered: how often it failed over what its disk gave, how many bytes the open
+/// file gave, and the last answer. What the disk's device refused is counted by the disk.
 #[derive(Clone, Copy)]
 pub(crate) struct Answered {
     failures: u64,
@@ -69,10 +70,10 @@ impl Answered {
         count
     }
 
-    /// Notes a refusal, and gives the fault that answers it. A failure that isn't the device's is counted; where no more can
-    /// be counted, the fault is `Memory`.
+    /// Notes a refusal, and gives the fault that answers it. A failure that isn't the device's is
+    /// counted; where no more can be counted, the fault is `Memory`.
     pub(crate) fn refuse(&mut self, refusal: Refusal) -> TreeFault
-        ensures fault { result ≡ fault_of refusal self.old.failures }
+        ensures fault { result ≡ fault_answering refusal self.old.failures }
         ensures failures { self.new.failures ≡ count_after refusal self.old.failures }
         ensures given { self.new.given ≡ self.old.given }
         ensures last { self.new.last ≡ Refused result }
@@ -83,7 +84,7 @@ impl Answered {
 
     /// Notes that a listing was refused, and gives the fault that answers it, as `refuse` does.
     pub(crate) fn refuse_list(&mut self, refusal: Refusal) -> TreeFault
-        ensures fault { result ≡ fault_of refusal self.old.failures }
+        ensures fault { result ≡ fault_answering refusal self.old.failures }
         ensures failures { self.new.failures ≡ count_after refusal self.old.failures }
         ensures given { self.new.given ≡ self.old.given }
         ensures last { self.new.last ≡ Unlisted result }
@@ -106,7 +107,7 @@ impl Answered {
 
     /// The fault that answers a refusal, where a failure that isn't the device's is counted.
     fn fault_of(&mut self, refusal: Refusal) -> TreeFault
-        ensures fault { result ≡ fault_of refusal self.old.failures }
+        ensures fault { result ≡ fault_answering refusal self.old.failures }
         ensures failures { self.new.failures ≡ count_after refusal self.old.failures }
         ensures given { self.new.given ≡ self.old.given }
     {

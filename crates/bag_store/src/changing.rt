@@ -5,10 +5,12 @@ ghost use Rattle.bag_tree.specs.Asked.{AsksFolder, AsksMove, AsksRename, AsksSyn
 ghost use Rattle.bag_tree.specs.Steps.{lacks_folder, lacks_source};
 ghost use Rattle.bag_tree.specs.declared.event.DeviceEvent.TheVariants.{Rename};
 ghost use Rattle.bag_disk.specs.Disk.{Has, OnlyLooks, OnlySyncs};
-ghost use Rattle.bag_disk.specs.WritableDisk.{Closes, MakesFolder, Moves, Notes};
-ghost use Rattle.bag_store.specs.Asking.{HasAsked, HasDurableFolders};
-ghost use Rattle.bag_store.specs.Changing.{HasFolderInTheWay, HasTarget, IsRenamed, IsMovedIn, IsNameTaken, LacksFolder, LacksSource};
-ghost use Rattle.bag_disk.specs.Refusal.{IsCounted, IsDueInMove, IsDueInStep, MeetsSpecial, failures_after, of_making};
+ghost use Rattle.bag_disk.specs.WritableDisk.{ClosesOpenFile, MakesFolderNode, Moves, Notes};
+ghost use Rattle.bag_store.specs.Asking.{AsksOfDisk, HasDurableFolders};
+ghost use Rattle.bag_store.specs.Changing.{HasFolderInTheWay, HasTarget, IsRenamed, IsMovedIn};
+ghost use Rattle.bag_store.specs.Changing.{IsNameTaken, LacksFolder, LacksSource};
+ghost use Rattle.bag_disk.specs.Refusal.{IsCounted, IsDueInMove, IsDueInStep, MeetsSpecial};
+ghost use Rattle.bag_disk.specs.Refusal.{failures_after, of_making};
 ghost use Rattle.bag_disk.specs.declared.disk.DiskFault.TheVariants.{Exists};
 
 use crate::standing::{Standing, check_free, check_taken, standing_at};
@@ -17,17 +19,19 @@ use crate::target::folder_in_the_way;
 use bag_disk::{Disk, DiskFault, Refusal, WritableDisk, check_is_folder, path_in};
 use std::alloc::Global;
 
-/// Makes a folder in the base folder, where nothing has its name. First the base folder is synced, so
-/// that a device that can't is known before anything is changed.
+/// Makes a folder in the base folder, where nothing has its name. First the base folder is synced,
+/// so that a device that can't is known before anything is changed.
 pub(crate) fn make_folder<D: WritableDisk>(disk: &mut D, name: &str) -> Result<(), Refusal>
     requires { IsTrue (is_base_name name.now) }
     ensures made { OnOk result (IsTrue (D.state disk.old).honest
-        → MakesFolder (D.state disk.old).nodes (D.state disk.new).nodes name.now) }
-    ensures closed { OnOk result (Closes (D.state disk.old) (D.state disk.new)) }
+        → MakesFolderNode (D.state disk.old).nodes (D.state disk.new).nodes name.now) }
+    ensures closed { OnOk result (ClosesOpenFile (D.state disk.old) (D.state disk.new)) }
     ensures same { OnErr result (OnlySyncs (D.state disk.old) (D.state disk.new)) }
-    ensures asked { HasAsked (AsksFolder name.now) AsksSyncs
+    ensures asked { AsksOfDisk (AsksFolder name.now) AsksSyncs
         (D.state disk.old) (D.state disk.new) result }
-    ensures refused { IfErr result (IsDueInStep (MeetsSpecial (D.state disk.old)) ⊥ (IsNameTaken (D.state disk.old) name.now)) }
+    ensures refused { IfErr result
+        (IsDueInStep (MeetsSpecial (D.state disk.old)) ⊥
+        (IsNameTaken (D.state disk.old) name.now)) }
     ensures failures { IsCounted result (D.state disk.old) (D.state disk.new) }
 {
     match sync_names(disk, BASE) {
@@ -40,13 +44,17 @@ pub(crate) fn make_folder<D: WritableDisk>(disk: &mut D, name: &str) -> Result<(
     }
 }
 
-/// Why nothing was made, where the disk refused so. What it says that stands there may be no file and no folder.
+/// Why nothing was made, where the disk refused so. What it says that stands there may be no file
+/// and no folder.
 pub(crate) fn not_made<D: Disk>(disk: &mut D, name: &str, fault: DiskFault) -> Refusal
     requires name { IsTrue (is_base_name name.now) }
-    requires there { fault ≡ Exists → IsTrue (D.state disk.old).honest → Has (D.state disk.old).nodes name.now }
+    requires there { fault ≡ Exists → IsTrue (D.state disk.old).honest
+        → Has (D.state disk.old).nodes name.now }
     ensures looks { OnlyLooks (D.state disk.old) (D.state disk.new) }
-    ensures due { IsDueInStep (MeetsSpecial (D.state disk.old)) ⊥ (IsNameTaken (D.state disk.old) name.now) result }
-    ensures failures { (before : ℕ) → (D.state disk.old).failures ≡ failures_after (of_making fault) before
+    ensures due { IsDueInStep (MeetsSpecial (D.state disk.old)) ⊥
+        (IsNameTaken (D.state disk.old) name.now) result }
+    ensures failures { (before : ℕ)
+        → (D.state disk.old).failures ≡ failures_after (of_making fault) before
         → (D.state disk.new).failures ≡ failures_after result before }
 {
     match fault {
@@ -73,13 +81,17 @@ pub(crate) fn move_in<D: WritableDisk>(
     requires synced { is_synced ≡ true → HasDurableFolders (D.state disk.old) }
     requires top { IsTrue (is_base_name top.now) }
     requires folder { IsTrue (is_base_name folder.now) }
-    ensures moved { OnOk result (IsMovedIn (D.state disk.old) (D.state disk.new) top.now folder.now) }
-    ensures closed { OnOk result (Closes (D.state disk.old) (D.state disk.new)) }
+    ensures moved { OnOk result
+        (IsMovedIn (D.state disk.old) (D.state disk.new) top.now folder.now) }
+    ensures closed { OnOk result (ClosesOpenFile (D.state disk.old) (D.state disk.new)) }
     ensures same { OnErr result (OnlySyncs (D.state disk.old) (D.state disk.new)) }
-    ensures asked { HasAsked (AsksMove top.now folder.now) AsksSyncs
+    ensures asked { AsksOfDisk (AsksMove top.now folder.now) AsksSyncs
         (D.state disk.old) (D.state disk.new) result }
-    ensures refused { IfErr result (IsDueInMove (MeetsSpecial (D.state disk.old)) (LacksSource (D.state disk.old) top.now folder.now)
-        (HasTarget (D.state disk.old) top.now folder.now) (HasFolderInTheWay (D.state disk.old) top.now folder.now)) }
+    ensures refused { IfErr result
+        (IsDueInMove (MeetsSpecial (D.state disk.old))
+        (LacksSource (D.state disk.old) top.now folder.now)
+        (HasTarget (D.state disk.old) top.now folder.now)
+        (HasFolderInTheWay (D.state disk.old) top.now folder.now)) }
     ensures failures { IsCounted result (D.state disk.old) (D.state disk.new) }
 {
     match sync_folder_names(disk, is_synced) {
@@ -97,14 +109,18 @@ fn move_below<D: WritableDisk>(
 ) -> Result<(), Refusal>
     requires top { IsTrue (is_base_name top.now) }
     requires folder { IsTrue (is_base_name folder.now) }
-    ensures moved { OnOk result (IsMovedIn (D.state disk.old) (D.state disk.new) top.now folder.now) }
-    ensures closed { OnOk result (Closes (D.state disk.old) (D.state disk.new)) }
+    ensures moved { OnOk result
+        (IsMovedIn (D.state disk.old) (D.state disk.new) top.now folder.now) }
+    ensures closed { OnOk result (ClosesOpenFile (D.state disk.old) (D.state disk.new)) }
     ensures same { OnErr result (OnlyLooks (D.state disk.old) (D.state disk.new)) }
     ensures noted { IsTrue (D.state disk.old).noted
         → OnOk result (Notes (Rename top.now (under folder.now top.now))
         (D.state disk.old) (D.state disk.new)) }
-    ensures refused { IfErr result (IsDueInMove (MeetsSpecial (D.state disk.old)) (LacksSource (D.state disk.old) top.now folder.now)
-        (HasTarget (D.state disk.old) top.now folder.now) (HasFolderInTheWay (D.state disk.old) top.now folder.now)) }
+    ensures refused { IfErr result
+        (IsDueInMove (MeetsSpecial (D.state disk.old))
+        (LacksSource (D.state disk.old) top.now folder.now)
+        (HasTarget (D.state disk.old) top.now folder.now)
+        (HasFolderInTheWay (D.state disk.old) top.now folder.now)) }
     ensures failures { IsCounted result (D.state disk.old) (D.state disk.new) }
 {
     match check_is_folder(disk, folder) {
@@ -128,8 +144,8 @@ fn move_below<D: WritableDisk>(
     }
 }
 
-/// Gives a folder of the base folder another name, where nothing has it. Before that both folders are
-/// synced, which may take a while: only then it is looked whether the name is free.
+/// Gives a folder of the base folder another name, where nothing has it. Before that both folders
+/// are synced, which may take a while: only then it is looked whether the name is free.
 pub(crate) fn rename_folder<D: WritableDisk>(
     disk: &mut D,
     from: &str,
@@ -137,10 +153,11 @@ pub(crate) fn rename_folder<D: WritableDisk>(
 ) -> Result<(), Refusal>
     requires from { IsTrue (is_base_name from.now) }
     requires to { IsTrue (is_base_name to.now) }
-    ensures renamed { OnOk result (IsRenamed (D.state disk.old) (D.state disk.new) from.now to.now) }
-    ensures closed { OnOk result (Closes (D.state disk.old) (D.state disk.new)) }
+    ensures renamed { OnOk result
+        (IsRenamed (D.state disk.old) (D.state disk.new) from.now to.now) }
+    ensures closed { OnOk result (ClosesOpenFile (D.state disk.old) (D.state disk.new)) }
     ensures same { OnErr result (OnlySyncs (D.state disk.old) (D.state disk.new)) }
-    ensures asked { HasAsked (AsksRename from.now to.now) AsksSyncs
+    ensures asked { AsksOfDisk (AsksRename from.now to.now) AsksSyncs
         (D.state disk.old) (D.state disk.new) result }
     ensures refused { IfErr result (IsDueInStep (MeetsSpecial (D.state disk.old))
         (LacksFolder (D.state disk.old) from.now) (IsNameTaken (D.state disk.old) to.now)) }

@@ -11,19 +11,21 @@ use std::rt::Files;
 
 /// The files below the base folder of a disk.
 ///
-/// Its bag is what stands there, and it is honest where the disk is. A symbolic link, a socket, a pipe or a device below
-/// the base folder is `Special`; none is followed or opened. The base folder itself may be a symbolic link to a folder.
-/// `Device` is what the disk counted as its device's refusal in this call, but for two causes: where the disk's answers
-/// contradict one another, since it named a path twice, a listing is `Device`; and so is `move_in` to a path where a folder
-/// stands in which it found no file, since it might be replaced. A read after which the bytes of the open file might not be
-/// counted in 64 bits is `Memory`.
+/// Its bag is what stands there, and it is honest where the disk is. A symbolic link, a socket, a
+/// pipe or a device below the base folder is `Special`; none is followed or opened. The base folder
+/// itself may be a symbolic link to a folder. `Device` is what the disk counted as its device's
+/// refusal in this call, but for two causes: where the disk's answers contradict one another, since
+/// it named a path twice, a listing is `Device`; and so is `move_in` to a path where a folder
+/// stands in which it found no file, since it might be replaced. A read after which the bytes of
+/// the open file might not be counted in 64 bits is `Memory`.
 ///
-/// A step that changes it is one call of the disk: a folder is made, or something is renamed, never copied. It looks
-/// first, and replaces nothing that stood there then. Before `make_folder` and `rename_folder` make their change they sync the
-/// base folder, the latter also the folder that it renames, and so does the first `move_in` after one of them: where the device
-/// refuses that, they are refused, and nothing is changed. What a disk calls a wrong name, as one that is too long, is `Device`
-/// too. A refused `create` may leave a file of some first bytes, which stays open until the next step or until the tree is
-/// dropped.
+/// A step that changes it is one call of the disk: a folder is made, or something is renamed, never
+/// copied. It looks first, and replaces nothing that stood there then. Before `make_folder` and
+/// `rename_folder` make their change they sync the base folder, the latter also the folder that it
+/// renames, and so does the first `move_in` after one of them: where the device refuses that, they
+/// are refused, and nothing is changed. What a disk calls a wrong name, as one that is too long, is
+/// `Device` too. A refused `create` may leave a file of some first bytes, which stays open until
+/// the next step or until the tree is dropped.
 #[derive(Drop)]
 pub struct FileTree<D: Disk> {
     alloc: Global,
@@ -63,13 +65,13 @@ impl<D: Disk + Drop> Tree for FileTree<D> {
     ghost use Rattle.bag_disk.specs.BagBelow.{bag_of_disk};
     ghost use Rattle.bag_disk.specs.FolderWalk.{Contradiction};
     ghost use Rattle.bag_memory.specs.TreeCalls.{ListCall, OpenCall, ReadCall};
-    ghost use Rattle.bag_store.specs.FileTree.{TellsOfDisk, disk_of, state_of};
+    ghost use Rattle.bag_store.specs.FileTree.{ReportsDisk, disk_of, state_of};
 
     ghost state = { state_of D.state };
 
     fn list(&mut self) -> Result<Listing, TreeFault>
         ensures call { ListCall (state_of D.state self.old) (state_of D.state self.new) result }
-        ensures cause { IfErr result (TellsOfDisk (Contradiction (D.state (disk_of self.old)))
+        ensures cause { IfErr result (ReportsDisk (Contradiction (D.state (disk_of self.old)))
             (D.state (disk_of self.old)) (D.state (disk_of self.new))) }
     {
         match list_below(&mut self.disk, self.alloc) {
@@ -82,9 +84,10 @@ impl<D: Disk + Drop> Tree for FileTree<D> {
     }
 
     fn open_file(&mut self, path: &str) -> Result<(), TreeFault>
-        ensures call { OpenCall (state_of D.state self.old) (state_of D.state self.new) path.now result }
+        ensures call { OpenCall (state_of D.state self.old) (state_of D.state self.new) path.now
+            result }
         ensures cause { IfErr result (
-            TellsOfDisk ⊥ (D.state (disk_of self.old)) (D.state (disk_of self.new))) }
+            ReportsDisk ⊥ (D.state (disk_of self.old)) (D.state (disk_of self.new))) }
     {
         self.disk.close();
         match open_at(&mut self.disk, path) {
@@ -101,7 +104,7 @@ impl<D: Disk + Drop> Tree for FileTree<D> {
         ensures call { ReadCall (state_of D.state self.old) (state_of D.state self.new)
             (length buffer.old) buffer.new result }
         ensures cause { IfErr result (
-            TellsOfDisk ⊥ (D.state (disk_of self.old)) (D.state (disk_of self.new))) }
+            ReportsDisk ⊥ (D.state (disk_of self.old)) (D.state (disk_of self.new))) }
     {
         if !self.disk.is_open() {
             return Err(self.answered.note(TreeFault::NoneOpen));
@@ -123,13 +126,14 @@ impl<D: WritableDisk + Drop> WriteTree for FileTree<D> {
     ghost use Rattle.bag_text.specs.Path.{is_base_name};
     ghost use Rattle.bag_tree.specs.Changes.{Creates, MakesFolder, MovesIn, RenamesFolder};
     ghost use Rattle.bag_store.specs.Changing.{HasFolderInTheWay};
-    ghost use Rattle.bag_store.specs.FileTree.{TellsOfDisk, disk_of, state_of};
+    ghost use Rattle.bag_store.specs.FileTree.{ReportsDisk, disk_of, state_of};
 
     fn make_folder(&mut self, name: &str) -> Result<(), TreeFault>
         requires { IsTrue (is_base_name name.now) }
-        ensures makes { MakesFolder name.now (state_of D.state self.old) (state_of D.state self.new) result }
+        ensures makes { MakesFolder name.now (state_of D.state self.old) (state_of D.state self.new)
+            result }
         ensures cause { IfErr result (
-            TellsOfDisk ⊥ (D.state (disk_of self.old)) (D.state (disk_of self.new))) }
+            ReportsDisk ⊥ (D.state (disk_of self.old)) (D.state (disk_of self.new))) }
     {
         self.is_synced = false;
         match changing::make_folder(&mut self.disk, name) {
@@ -147,7 +151,7 @@ impl<D: WritableDisk + Drop> WriteTree for FileTree<D> {
         requires two { top.now ≢ folder.now }
         ensures moves { MovesIn top.now folder.now
             (state_of D.state self.old) (state_of D.state self.new) result }
-        ensures cause { IfErr result (TellsOfDisk
+        ensures cause { IfErr result (ReportsDisk
             (HasFolderInTheWay (D.state (disk_of self.old)) top.now folder.now)
             (D.state (disk_of self.old)) (D.state (disk_of self.new))) }
     {
@@ -167,7 +171,7 @@ impl<D: WritableDisk + Drop> WriteTree for FileTree<D> {
         ensures renames { RenamesFolder from.now to.now
             (state_of D.state self.old) (state_of D.state self.new) result }
         ensures cause { IfErr result (
-            TellsOfDisk ⊥ (D.state (disk_of self.old)) (D.state (disk_of self.new))) }
+            ReportsDisk ⊥ (D.state (disk_of self.old)) (D.state (disk_of self.new))) }
     {
         self.is_synced = false;
         match changing::rename_folder(&mut self.disk, from, to) {
@@ -179,13 +183,14 @@ impl<D: WritableDisk + Drop> WriteTree for FileTree<D> {
         }
     }
 
-    /// Makes a file in the base folder. It was synced when this answers Ok, and so was the base folder.
+    /// Makes a file in the base folder. It was synced when this answers Ok, and so was the base
+    /// folder.
     fn create(&mut self, name: &str, bytes: &[u8]) -> Result<(), TreeFault>
         requires { IsTrue (is_base_name name.now) }
         ensures creates { Creates name.now bytes.now
             (state_of D.state self.old) (state_of D.state self.new) result }
         ensures cause { IfErr result (
-            TellsOfDisk ⊥ (D.state (disk_of self.old)) (D.state (disk_of self.new))) }
+            ReportsDisk ⊥ (D.state (disk_of self.old)) (D.state (disk_of self.new))) }
     {
         match writing::create(&mut self.disk, name, bytes) {
             Ok(()) => {

@@ -8,13 +8,14 @@
 //! }
 //! ```
 //!
-//! A `FileTree` stands over any `Disk`, a few calls of the system below a base folder, and is proved for each honest one.
-//! Over a `WritableDisk` it can be changed step by step, so that a folder is made a bag in place (RFC 8493, 2.1).
-//! `FileTree::at` is the tree over the system's disk, of which nothing is promised. What a tree means, its changes and its
-//! digests are in `bag_tree`, trees in memory in `bag_memory`, disks in `bag_disk`.
+//! A `FileTree` stands over any `Disk`, a few calls of the system below a base folder, and is
+//! proved for each honest one. Over a `WritableDisk` it can be changed step by step, so that a
+//! folder is made a bag in place (RFC 8493, 2.1). `FileTree::at` is the tree over the system's
+//! disk, of which nothing is promised. What a tree means, its changes and its digests are in
+//! `bag_tree`, trees in memory in `bag_memory`, disks in `bag_disk`.
 //!
-//! A tree of files is honest where its disk is, and has what stands there; a step on an honest one is its function on bags, and
-//! replaces nothing.
+//! A tree of files is honest where its disk is, and has what stands there; a step on an honest one
+//! is its function on bags, and replaces nothing.
 #![tactic(auto)]
 
 mod answered;

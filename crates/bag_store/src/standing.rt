@@ -2,7 +2,7 @@
 ghost use Rattle.std.specs.Prelude.{◌≡◌, IfErr, IfOk, IsTrue, None, OnOk, false};
 ghost use Rattle.bag_text.specs.Path.{is_base_name, is_path};
 ghost use Rattle.bag_tree.specs.Steps.{is_taken};
-ghost use Rattle.bag_disk.specs.Disk.{HasSpecial, IsReached, OnlyLooks, node};
+ghost use Rattle.bag_disk.specs.Disk.{HasSpecial, IsReachedByFolders, OnlyLooks, node};
 ghost use Rattle.bag_store.specs.Changing.{IsNameTaken};
 ghost use Rattle.bag_disk.specs.DiskBag.{bag_of};
 ghost use Rattle.bag_disk.specs.Refusal.{IsCounted, IsDue, IsDueInStep, MeetsSpecial};
@@ -21,9 +21,12 @@ pub(crate) enum Standing {
 pub(crate) fn standing_at<D: Disk>(disk: &mut D, path: &str) -> Result<Option<Standing>, Refusal>
     requires { IsTrue (is_path path.now) }
     ensures looks { OnlyLooks (D.state disk.old) (D.state disk.new) }
-    ensures found { IfOk result (λ standing. IsTrue (D.state disk.old).honest → IsReached (D.state disk.old).nodes path.now
+    ensures found { IfOk result (λ standing.
+        IsTrue (D.state disk.old).honest → IsReachedByFolders (D.state disk.old).nodes path.now
         → IsStanding (D.state disk.old).nodes path.now standing) }
-    ensures refused { IfErr result (IsDue (IsTrue (D.state disk.old).honest → IsReached (D.state disk.old).nodes path.now
+    ensures refused { IfErr result
+        (IsDue (IsTrue (D.state disk.old).honest
+        → IsReachedByFolders (D.state disk.old).nodes path.now
         → HasSpecial (D.state disk.old).nodes) ⊥ ⊥ ⊥) }
     ensures failures { IsCounted result (D.state disk.old) (D.state disk.new) }
 {
@@ -43,8 +46,11 @@ pub(crate) fn standing_at<D: Disk>(disk: &mut D, path: &str) -> Result<Option<St
 pub(crate) fn check_free<D: Disk>(disk: &mut D, name: &str) -> Result<(), Refusal>
     requires { IsTrue (is_base_name name.now) }
     ensures looks { OnlyLooks (D.state disk.old) (D.state disk.new) }
-    ensures free { OnOk result (IsTrue (D.state disk.old).honest → node (D.state disk.old).nodes name.now ≡ None) }
-    ensures refused { IfErr result (IsDueInStep (MeetsSpecial (D.state disk.old)) ⊥ (IsNameTaken (D.state disk.old) name.now)) }
+    ensures free { OnOk result
+        (IsTrue (D.state disk.old).honest → node (D.state disk.old).nodes name.now ≡ None) }
+    ensures refused { IfErr result
+        (IsDueInStep (MeetsSpecial (D.state disk.old)) ⊥
+        (IsNameTaken (D.state disk.old) name.now)) }
     ensures failures { IsCounted result (D.state disk.old) (D.state disk.new) }
 {
     match standing_at(disk, name) {
@@ -60,7 +66,8 @@ pub(crate) fn check_taken<D: Disk>(disk: &mut D, name: &str) -> Result<(), Refus
     ensures looks { OnlyLooks (D.state disk.old) (D.state disk.new) }
     ensures taken { OnOk result (IsNameTaken (D.state disk.old) name.now) }
     ensures refused { IfErr result (IsDue (MeetsSpecial (D.state disk.old)) ⊥
-        (IsTrue (D.state disk.old).honest → is_taken (bag_of (D.state disk.old).nodes) name.now ≡ false) ⊥) }
+        (IsTrue (D.state disk.old).honest
+        → is_taken (bag_of (D.state disk.old).nodes) name.now ≡ false) ⊥) }
     ensures failures { IsCounted result (D.state disk.old) (D.state disk.new) }
 {
     match standing_at(disk, name) {

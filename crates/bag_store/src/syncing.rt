@@ -4,8 +4,8 @@ ghost use Rattle.bag_tree.specs.Asked.{AsksSyncs};
 ghost use Rattle.bag_tree.specs.declared.event.DeviceEvent.TheVariants.{Sync, SyncFolder};
 ghost use Rattle.bag_disk.specs.Disk.{OnlyLooks, OnlySyncs};
 ghost use Rattle.bag_disk.specs.Refusal.{IsCounted, IsDueInStep};
-ghost use Rattle.bag_disk.specs.WritableDisk.{Closes, Notes};
-ghost use Rattle.bag_store.specs.Asking.{HasAsked, HasDurableFolders, SyncsBoth};
+ghost use Rattle.bag_disk.specs.WritableDisk.{ClosesOpenFile, Notes};
+ghost use Rattle.bag_store.specs.Asking.{AsksOfDisk, HasDurableFolders, SyncsBoth};
 
 use bag_disk::{Refusal, WritableDisk};
 
@@ -32,7 +32,7 @@ pub(crate) fn sync_names<D: WritableDisk>(disk: &mut D, folder: &str) -> Result<
 pub(crate) fn sync_file<D: WritableDisk>(disk: &mut D) -> Result<(), Refusal>
     requires { IsTrue (is_some (D.written disk.old)) }
     ensures held { OnOk result ((D.state disk.new).nodes ≡ (D.state disk.old).nodes) }
-    ensures closed { OnOk result (Closes (D.state disk.old) (D.state disk.new)) }
+    ensures closed { OnOk result (ClosesOpenFile (D.state disk.old) (D.state disk.new)) }
     ensures same { OnErr result (OnlyLooks (D.state disk.old) (D.state disk.new)) }
     ensures noted { IsTrue (D.state disk.old).noted
         → OnOk result ((path : List ℕ) → D.written disk.old ≡ Some path
@@ -49,7 +49,7 @@ pub(crate) fn sync_file<D: WritableDisk>(disk: &mut D) -> Result<(), Refusal>
 /// Syncs a folder, and then the base folder.
 pub(crate) fn sync_with_base<D: WritableDisk>(disk: &mut D, folder: &str) -> Result<(), Refusal>
     ensures syncs { OnlySyncs (D.state disk.old) (D.state disk.new) }
-    ensures asked { HasAsked (SyncsBoth folder.now) AsksSyncs
+    ensures asked { AsksOfDisk (SyncsBoth folder.now) AsksSyncs
         (D.state disk.old) (D.state disk.new) result }
     ensures refused { IfErr result (IsDueInStep ⊥ ⊥ ⊥) }
     ensures failures { IsCounted result (D.state disk.old) (D.state disk.new) }
@@ -60,14 +60,15 @@ pub(crate) fn sync_with_base<D: WritableDisk>(disk: &mut D, folder: &str) -> Res
     }
 }
 
-/// Syncs the base folder, but where the names that folders were given in it are known to be durable.
+/// Syncs the base folder, but where the names that folders were given in it are known to be
+/// durable.
 pub(crate) fn sync_folder_names<D: WritableDisk>(
     disk: &mut D,
     is_synced: bool,
 ) -> Result<(), Refusal>
     requires { is_synced ≡ true → HasDurableFolders (D.state disk.old) }
     ensures syncs { OnlySyncs (D.state disk.old) (D.state disk.new) }
-    ensures asked { HasAsked AsksSyncs AsksSyncs (D.state disk.old) (D.state disk.new) result }
+    ensures asked { AsksOfDisk AsksSyncs AsksSyncs (D.state disk.old) (D.state disk.new) result }
     ensures durable { OnOk result (HasDurableFolders (D.state disk.new)) }
     ensures refused { IfErr result (IsDueInStep ⊥ ⊥ ⊥) }
     ensures failures { IsCounted result (D.state disk.old) (D.state disk.new) }

@@ -10,13 +10,14 @@ use bag_disk::{Disk, Refusal, list_below};
 use bag_tree::{FileEntry, rest_within};
 use std::alloc::Global;
 
-/// Why nothing can be moved to where a folder stands: a file is in it, or none was found and it might be replaced. The files below
-/// the base folder are listed for that.
+/// Why nothing can be moved to where a folder stands: a file is in it, or none was found and it
+/// might be replaced. The files below the base folder are listed for that.
 pub(crate) fn folder_in_the_way<D: Disk>(disk: &mut D, alloc: Global, folder: &str) -> Refusal
     ensures looks { OnlyLooks (D.state disk.old) (D.state disk.new) }
     ensures refused { IsDueInMove ⊥ ⊥ (IsTrue (D.state disk.old).honest
         → step.has_within (bag_of (D.state disk.old).nodes) folder.now ≡ true) (Unit {0}) result }
-    ensures failures { (D.state disk.new).failures ≡ failures_after result (D.state disk.old).failures }
+    ensures failures { (D.state disk.new).failures
+        ≡ failures_after result (D.state disk.old).failures }
 {
     match list_below(disk, alloc) {
         Ok(listing) => {

@@ -2,7 +2,7 @@
 ghost use Rattle.std.specs.Prelude.{◌≡◌, ◌⊎◌, IfErr, IsTrue, OnErr, OnOk, is_some};
 ghost use Rattle.bag_text.specs.Path.{is_base_name};
 ghost use Rattle.bag_tree.specs.Asked.{AsksFile, MayBegin};
-ghost use Rattle.bag_store.specs.Asking.{FillsFile, FillsPart, HasAsked, HasFilled, WritesPieces};
+ghost use Rattle.bag_store.specs.Asking.{FillsFile, FillsPart, AsksOfDisk, HasFilled, WritesPieces};
 ghost use Rattle.bag_disk.specs.Disk.{OnlyLooks};
 ghost use Rattle.bag_store.specs.Changing.{IsNameTaken};
 ghost use Rattle.bag_disk.specs.Refusal.{IsCounted, IsDueInStep, MeetsSpecial};
@@ -18,9 +18,11 @@ pub(crate) fn create<D: WritableDisk>(disk: &mut D, name: &str, bytes: &[u8]) ->
     ensures made { OnOk result (Makes (D.state disk.old) (D.state disk.new) name.now bytes.now) }
     ensures begun { OnErr result (OnlyLooks (D.state disk.old) (D.state disk.new)
         ⊎ Begins (D.state disk.old) (D.state disk.new) name.now bytes.now) }
-    ensures asked { HasAsked (AsksFile name.now bytes.now) (MayBegin name.now)
+    ensures asked { AsksOfDisk (AsksFile name.now bytes.now) (MayBegin name.now)
         (D.state disk.old) (D.state disk.new) result }
-    ensures refused { IfErr result (IsDueInStep (MeetsSpecial (D.state disk.old)) ⊥ (IsNameTaken (D.state disk.old) name.now)) }
+    ensures refused { IfErr result
+        (IsDueInStep (MeetsSpecial (D.state disk.old)) ⊥
+        (IsNameTaken (D.state disk.old) name.now)) }
     ensures failures { IsCounted result (D.state disk.old) (D.state disk.new) }
 {
     match disk.create(name) {
@@ -32,8 +34,10 @@ pub(crate) fn create<D: WritableDisk>(disk: &mut D, name: &str, bytes: &[u8]) ->
 /// Writes the bytes of the file that is being written, and syncs it and the base folder.
 fn fill<D: WritableDisk>(disk: &mut D, bytes: &[u8]) -> Result<(), Refusal>
     requires { IsTrue (is_some (D.written disk.old)) }
-    ensures whole { OnOk result (HasWritten (D.state disk.old) (D.state disk.new) (D.written disk.old) bytes.now) }
-    ensures part { OnErr result (HasWrittenSome (D.state disk.old) (D.state disk.new) (D.written disk.old) bytes.now) }
+    ensures whole { OnOk result
+        (HasWritten (D.state disk.old) (D.state disk.new) (D.written disk.old) bytes.now) }
+    ensures part { OnErr result
+        (HasWrittenSome (D.state disk.old) (D.state disk.new) (D.written disk.old) bytes.now) }
     ensures asked { HasFilled (λ path. FillsFile path bytes.now) FillsPart
         (D.written disk.old) (D.state disk.old) (D.state disk.new) result }
     ensures refused { IfErr result (IsDueInStep ⊥ ⊥ ⊥) }
@@ -49,12 +53,14 @@ fn fill<D: WritableDisk>(disk: &mut D, bytes: &[u8]) -> Result<(), Refusal>
     }
 }
 
-/// Writes all bytes behind those of the file that is being written.
+/// Writes all bytes after those of the file that is being written.
 fn write_all<D: WritableDisk>(disk: &mut D, bytes: &[u8]) -> Result<(), Refusal>
     requires { IsTrue (is_some (D.written disk.old)) }
-    ensures whole { OnOk result (HasWritten (D.state disk.old) (D.state disk.new) (D.written disk.old) bytes.now) }
+    ensures whole { OnOk result
+        (HasWritten (D.state disk.old) (D.state disk.new) (D.written disk.old) bytes.now) }
     ensures same_file { D.written disk.new ≡ D.written disk.old }
-    ensures part { OnErr result (HasWrittenSome (D.state disk.old) (D.state disk.new) (D.written disk.old) bytes.now) }
+    ensures part { OnErr result
+        (HasWrittenSome (D.state disk.old) (D.state disk.new) (D.written disk.old) bytes.now) }
     ensures asked { HasFilled (λ path. WritesPieces path bytes.now) FillsPart
         (D.written disk.old) (D.state disk.old) (D.state disk.new) result }
     ensures refused { IfErr result (IsDueInStep ⊥ ⊥ ⊥) }

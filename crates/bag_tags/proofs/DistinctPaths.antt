@@ -1,5 +1,8 @@
 -- Paths are distinct just where they ascend once they are sorted.
-use Rattle.bag_tags.proofs.Common.{Bool, List, [], arith, bytes_eq, false, get_or, length, subst, sym, ℕ, ◌+◌, ◌<◌, ◌∙◌, ◌∷◌, ◌≡◌, get_or-map, length-map, IsDistinct-IsPermutation, IsDistinct-from_apart, IsDistinct-from_sorted, apart_from_distinct, sorted_from_all_adjacent, Bor, IsDistinct, ◌↔◌, Less, text_cmp, AreAscending, texts_of}
+use Rattle.bag_tags.proofs.Common.{Bool, List, [], arith, bytes_eq, false, get_or, length, subst, sym, ℕ, ◌+◌, ◌<◌, ◌∙◌}
+use Rattle.bag_tags.proofs.Common.{◌∷◌, ◌≡◌, get_or-map, length-map, IsDistinct-IsPermutation, IsDistinct-from_apart}
+use Rattle.bag_tags.proofs.Common.{IsDistinct-from_sorted, apart_from_distinct, sorted_from_all_adjacent, Bor}
+use Rattle.bag_tags.proofs.Common.{IsDistinct, ◌↔◌, Less, text_cmp, TextsAscend, lent_texts}
 use Rattle.std.specs.Cmp.Lexicographic.{nat_list_cmp_total, texts_ties}
 use Rattle.std.specs.List.Sorted.{IsPermutation, IsSortedBy}
 use Rattle.std.specs.declared.cmp.Ordering.{Ordering}
@@ -22,29 +25,42 @@ flips xs ys = texts_ties xs ys ∙ reversed_ties _ _ (nat_list_cmp_total.antisym
 ties : eq_by_cmp text_cmp ≡ bytes_eq
 ties = λ i xs ys. sym (texts_ties xs ys) i
 
-ascending_distinct : (lent : List Lent) → AreAscending lent → IsDistinct bytes_eq (texts_of lent)
+ascending_distinct : (lent : List Lent) → TextsAscend lent → IsDistinct bytes_eq (lent_texts lent)
 ascending_distinct [] up = IsDistinct-from_apart bytes_eq [] (λ i j d low high. absurd (omega (arith, high)))
 ascending_distinct (x ∷ xs) up =
     let lent : List Lent = x ∷ xs in
-    let rising = sorted_from_all_adjacent nat_list_cmp_total (texts_of lent) x.now (λ k h.
+    let rising = sorted_from_all_adjacent nat_list_cmp_total (lent_texts lent) x.now (λ k h.
     let within : k + 1 < length lent = omega (arith, length-map lent (λ (y : Lent). y.now), h) in
-    rw (get_or-map (λ (y : Lent). y.now) lent k x x.now (omega arith), get_or-map (λ (y : Lent). y.now) lent (k + 1) x x.now within) (up k x within)) in
-    subst (λ e. IsDistinct e (texts_of lent)) ties (IsDistinct-from_sorted text_cmp (texts_of lent) rising)
+    rw (
+      get_or-map (λ (y : Lent). y.now) lent k x x.now (omega arith),
+      get_or-map (λ (y : Lent). y.now) lent (k + 1) x x.now within,
+    ) (up k x within)) in
+    subst (λ e. IsDistinct e (lent_texts lent)) ties (IsDistinct-from_sorted text_cmp (lent_texts lent) rising)
 
 only_less : (o p : Ordering) → is_eq o ≡ false → is_lt p ≡ false → p ≡ ordering_reverse o → o ≡ Less
 only_less o p e h r = grind arith
 
-distinct_ascending : (lent : List Lent) → IsSortedBy lent_lt lent → IsDistinct bytes_eq (texts_of lent) → AreAscending lent
+distinct_ascending : (lent : List Lent) → IsSortedBy lent_lt lent → IsDistinct bytes_eq (lent_texts lent)
+    → TextsAscend lent
 distinct_ascending lent sorted distinct = λ k d within.
     let one = (get_or lent k d).now in
     let two = (get_or lent (k + 1) d).now in
-    let room : k + 1 < length (texts_of lent) = omega (arith, length-map lent (λ (y : Lent). y.now)) in
-    let other : bytes_eq one two ≡ false = rw (get_or-map (λ (y : Lent). y.now) lent k d d.now (omega arith), get_or-map (λ (y : Lent). y.now) lent (k + 1) d d.now within) at (apart_from_distinct bytes_eq (texts_of lent) k (k + 1) d.now distinct (omega arith) room) in
-    only_less (text_cmp one two) (text_cmp two one) (sym (texts_ties one two) ∙ other) (sorted k d (omega arith) within) (nat_list_cmp_total.antisymm two one)
+    let room : k + 1 < length (lent_texts lent) = omega (arith, length-map lent (λ (y : Lent). y.now)) in
+    let other : bytes_eq one two ≡ false =
+    rw (
+      get_or-map (λ (y : Lent). y.now) lent k d d.now (omega arith),
+      get_or-map (λ (y : Lent). y.now) lent (k + 1) d d.now within,
+    ) at
+    (apart_from_distinct bytes_eq (lent_texts lent) k (k + 1) d.now distinct (omega arith) room) in
+    only_less (text_cmp one two) (text_cmp two one) (sym (texts_ties one two) ∙ other) (sorted k d (omega arith) within)
+    (nat_list_cmp_total.antisymm two one)
 
-pub distinct_by_order : (lent sorted : List Lent) → IsPermutation lent sorted → IsSortedBy lent_lt sorted → AreAscending sorted ↔ IsDistinct bytes_eq (texts_of lent)
+pub distinct_by_order : (lent sorted : List Lent) → IsPermutation lent sorted → IsSortedBy lent_lt sorted
+    → TextsAscend sorted ↔ IsDistinct bytes_eq (lent_texts lent)
 distinct_by_order lent sorted perm up =
     let texts = IsPermutation-map (λ (y : Lent). y.now) lent sorted perm in (
-      λ rise. IsDistinct-IsPermutation bytes_eq flips (texts_of sorted) (texts_of lent) (IsPermutation-sym (texts_of lent) (texts_of sorted) texts) (ascending_distinct sorted rise),
-      λ distinct. distinct_ascending sorted up (IsDistinct-IsPermutation bytes_eq flips (texts_of lent) (texts_of sorted) texts distinct),
+      λ rise. IsDistinct-IsPermutation bytes_eq flips (lent_texts sorted) (lent_texts lent)
+          (IsPermutation-sym (lent_texts lent) (lent_texts sorted) texts) (ascending_distinct sorted rise),
+      λ distinct. distinct_ascending sorted up
+          (IsDistinct-IsPermutation bytes_eq flips (lent_texts lent) (lent_texts sorted) texts distinct),
     )

@@ -1,5 +1,10 @@
 -- Paths as they are written in manifests.
-use Rattle.bag_tags.proofs.Common.{Bool, List, None, Option, Some, [], ap, arith, codes, eqb, false, refl, subst, sym, true, ℕ, ◌++◌, ◌∙◌, ◌∷◌, ◌≡◌, ◌≢◌, eqb-true, true≢false, nat_tests, list_any-append, IsUtf8-append, IsUtf8-encode, IsUtf8-nil, IsScalar, list_any, IsUtf8, all_scalars, encode_utf8_all, both_true, BeginsUnblank, read_again, unescaped_plain, is_line_end, is_path, both, escape, escape_one, percent, unescaped_strictly, is_blank, begins_with_mark, false_from_ne_true}
+use Rattle.bag_tags.proofs.Common.{Bool, List, None, Option, Some, [], ap, arith, codes, eqb, false, refl, subst, sym}
+use Rattle.bag_tags.proofs.Common.{true, ℕ, ◌++◌, ◌∙◌, ◌∷◌, ◌≡◌, ◌≢◌, eqb-true, true≢false, nat_tests, list_any-append}
+use Rattle.bag_tags.proofs.Common.{IsUtf8-append, IsUtf8-encode, IsUtf8-nil, IsScalar, list_any, IsUtf8, all_scalars}
+use Rattle.bag_tags.proofs.Common.{encode_utf8_all, both_true, BeginsUnblank, read_again, unescaped_plain, is_line_end}
+use Rattle.bag_tags.proofs.Common.{is_path, both, escape, escape_one, percent, unescaped_strictly, is_blank}
+use Rattle.bag_tags.proofs.Common.{begins_with_mark, false_from_ne_true}
 use Rattle.std.specs.Char.{encode_utf8}
 use Rattle.std.proofs.lemmas.List.Concat.{flat_map-append}
 use Rattle.bag_text.proofs.Spellings.{escape-encode}
@@ -9,7 +14,8 @@ pub no_end_written : (path : List ℕ) → list_any is_line_end (escape path) �
 no_end_written [] = refl
 no_end_written (c ∷ path) = grind (arith, list_any-append, no_end_written path)
 
-one_utf8 : (c : ℕ) (feed back mark : Bool) → eqb c 10 ≡ feed → eqb c 13 ≡ back → eqb c 37 ≡ mark → IsScalar c → IsUtf8 (escape (encode_utf8 c))
+one_utf8 : (c : ℕ) (feed back mark : Bool) → eqb c 10 ≡ feed → eqb c 13 ≡ back → eqb c 37 ≡ mark → IsScalar c
+    → IsUtf8 (escape (encode_utf8 c))
 one_utf8 c true back mark f b m s = subst (λ x. IsUtf8 (escape (encode_utf8 x))) (sym (eqb-true c 10 f)) few_utf8.3
 one_utf8 c false true mark f b m s = subst (λ x. IsUtf8 (escape (encode_utf8 x))) (sym (eqb-true c 13 b)) few_utf8.4
 one_utf8 c false false true f b m s = subst (λ x. IsUtf8 (escape (encode_utf8 x))) (sym (eqb-true c 37 m)) few_utf8.5
@@ -20,18 +26,21 @@ chars_utf8 [] e = IsUtf8-nil
 chars_utf8 (c ∷ cs) e =
     let two = both_true _ (all_scalars cs) e in
     subst IsUtf8 (sym (flat_map-append escape_one (encode_utf8 c) (encode_utf8_all cs)))
-    (IsUtf8-append (escape (encode_utf8 c)) (escape (encode_utf8_all cs)) (one_utf8 c _ _ _ refl refl refl two.0) (chars_utf8 cs two.1))
+    (IsUtf8-append (escape (encode_utf8 c)) (escape (encode_utf8_all cs)) (one_utf8 c _ _ _ refl refl refl two.0)
+    (chars_utf8 cs two.1))
 
 -- a text that is written stays a text
 pub written_utf8 : (path : List ℕ) → IsUtf8 path → IsUtf8 (escape path)
 written_utf8 path (cs, (scalars, is)) = subst (λ t. IsUtf8 (escape t)) is (chars_utf8 cs scalars)
 
-plain_by : (h : ℕ) (path : List ℕ) (o : Option (List ℕ)) → both (Some h) o ≡ Some path → (rest : List ℕ) × (path ≡ h ∷ rest) × (o ≡ Some rest)
+plain_by : (h : ℕ) (path : List ℕ) (o : Option (List ℕ)) → both (Some h) o ≡ Some path
+    → (rest : List ℕ) × (path ≡ h ∷ rest) × (o ≡ Some rest)
 plain_by h path None e = cc
 plain_by h path (Some rest) e = (rest, let same : h ∷ rest ≡ path = cc in sym same, refl)
 
 -- a character at the front of a spelling that begins no escape is the first of the path
-plain_first : (h : ℕ) (more path : List ℕ) → h ≢ percent → unescaped_strictly (h ∷ more) ≡ Some path → (rest : List ℕ) × (path ≡ h ∷ rest) × (unescaped_strictly more ≡ Some rest)
+plain_first : (h : ℕ) (more path : List ℕ) → h ≢ percent → unescaped_strictly (h ∷ more) ≡ Some path
+    → (rest : List ℕ) × (path ≡ h ∷ rest) × (unescaped_strictly more ≡ Some rest)
 plain_first h more path other e = plain_by h path (unescaped_strictly more) (sym (unescaped_plain h more other) ∙ e)
 
 module _ (path : List ℕ) where
@@ -60,7 +69,8 @@ module _ (path : List ℕ) where
   -- nor with ./
   pub no_dot_slash : is_path path ≡ true → (more : List ℕ) → escape path ≢ codes "./" ++ more
   no_dot_slash safe more e =
-      let (behind, is, next) = plain_first 46 (47 ∷ more) path (λ same. omega (arith, same)) (spelled (46 ∷ 47 ∷ more) e) in
+      let (behind, is, next) =
+      plain_first 46 (47 ∷ more) path (λ same. omega (arith, same)) (spelled (46 ∷ 47 ∷ more) e) in
       let (rest, then, _) = plain_first 47 more behind (λ same. omega (arith, same)) next in
       let whole : path ≡ 46 ∷ 47 ∷ rest = is ∙ ap (λ t. 46 ∷ t) then in
       true≢false (sym safe ∙ ap is_path whole)

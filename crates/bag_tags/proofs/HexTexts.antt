@@ -1,10 +1,15 @@
 -- Texts of hex digits in lower case.
-use Rattle.bag_tags.proofs.Common.{Bool, List, [], arith, false, get_or, length, lit<, not, refl, true, ℕ, ◌++◌, ◌<◌, ◌∷◌, ◌≡◌, ◌≢◌, nat_tests, IsUtf8-from_ascii, is_ascii_hexdigit, list_all, list_any, IsUtf8, str_to_ascii_lowercase, not_false, or_false, both_true, is_line_end, has_mark, is_blank, Alg, is_bad_digest, is_lower_hex_digit, ◌-◌}
+use Rattle.bag_tags.proofs.Common.{Bool, List, [], arith, false, get_or, length, lit<, not, refl, true, ℕ, ◌++◌, ◌<◌}
+use Rattle.bag_tags.proofs.Common.{◌∷◌, ◌≡◌, ◌≢◌, nat_tests, IsUtf8-from_ascii, is_ascii_hexdigit, list_all, list_any}
+use Rattle.bag_tags.proofs.Common.{IsUtf8, str_to_ascii_lowercase, not_false, or_false, both_true, is_line_end}
+use Rattle.bag_tags.proofs.Common.{has_mark, is_blank, Alg, is_bad_digest, is_lower_hex_digit, ◌-◌}
 use Rattle.bag_text.specs.Alg.{hex_len}
 
-each_passes : (p q : ℕ → Bool) → ((c : ℕ) → p c ≡ true → q c ≡ true) → (t : List ℕ) → list_all p t ≡ true → list_all q t ≡ true
+each_passes : (p q : ℕ → Bool) → ((c : ℕ) → p c ≡ true → q c ≡ true) → (t : List ℕ) → list_all p t ≡ true
+    → list_all q t ≡ true
 each_passes p q more [] e = refl
-each_passes p q more (c ∷ t) e = let two = both_true (p c) (list_all p t) e in rw (more c two.0) (each_passes p q more t two.1)
+each_passes p q more (c ∷ t) e =
+    let two = both_true (p c) (list_all p t) e in rw (more c two.0) (each_passes p q more t two.1)
 
 small_at : (t : List ℕ) (i : ℕ) → list_all is_lower_hex_digit t ≡ true → get_or t i 0 < 128
 small_at [] i e = lit< tt

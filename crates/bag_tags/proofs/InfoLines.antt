@@ -1,5 +1,11 @@
 -- The line of an element that can be written, as it is read.
-use Rattle.bag_tags.proofs.Common.{Bool, List, Some, [], ap, append_assoc, arith, codes, drop, false, length, map, not, refl, true, ℕ, ◌++◌, ◌+◌, ◌∙◌, ◌∷◌, ◌≡◌, ◌≢◌, drop-append-add, nat_tests, list_any-append, IsUtf8-append, IsUtf8-from_is_utf8, AllByRecursion, after_first, before_first, list_all, list_any, position_or_len, empty_test, not_empty, or_false, begins_element, is_colon, is_label, leading_continuations, split, value_of_parts, is_line_end, IsText, has_mark, trim, V10, NewElement, has_outer_blank, info_line, is_bad_element}
+use Rattle.bag_tags.proofs.Common.{Bool, List, Some, [], ap, append_assoc, arith, codes, drop, false, length, map, not}
+use Rattle.bag_tags.proofs.Common.{refl, true, ℕ, ◌++◌, ◌+◌, ◌∙◌, ◌∷◌, ◌≡◌, ◌≢◌, drop-append-add, nat_tests}
+use Rattle.bag_tags.proofs.Common.{list_any-append, IsUtf8-append, IsUtf8-from_is_utf8, AllByRecursion, after_first}
+use Rattle.bag_tags.proofs.Common.{before_first, list_all, list_any, position_or_len, empty_test, not_empty, or_false}
+use Rattle.bag_tags.proofs.Common.{begins_element, is_colon, is_label, leading_continuations, split, value_of_parts}
+use Rattle.bag_tags.proofs.Common.{is_line_end, IsText, has_mark, trim, V10, NewElement, has_outer_blank, info_line}
+use Rattle.bag_tags.proofs.Common.{is_bad_element}
 use Rattle.bag_read.proofs.Fronts.{front_len, take_front}
 use Rattle.bag_tags.proofs.TrimmedTexts.{trimmed, trim_behind, first_unblank, ends_unblank}
 use Rattle.bag_tags.proofs.WrittenLines.{IsWritten, behind, few_utf8}
@@ -55,7 +61,7 @@ module _ (label value : List ℕ) where
     no_line_end : list_any is_line_end value ≡ false → list_any is_line_end (info_line element) ≡ false
     no_line_end e = grind (arith, list_any-append)
 
--- the value of a part that stands behind a colon and a space
+-- the value of a part that stands after a colon and a space
 pub value_again : (value : List ℕ) → has_outer_blank value ≡ false → value_of_parts ((32 ∷ value) ∷ []) ≡ value
 value_again value e = trim_behind value ∙ trimmed value e
 
@@ -78,15 +84,18 @@ module _ (e : NewElement) (good : IsGood e) where
 
   pub written : IsWritten info_line e
   written = (
-    IsUtf8-append (e.0 ++ codes ": ") e.1 (IsUtf8-append e.0 (codes ": ") (IsUtf8-from_is_utf8 e.0 good.1) few_utf8.1) (IsUtf8-from_is_utf8 e.1 good.2),
+    IsUtf8-append (e.0 ++ codes ": ") e.1 (IsUtf8-append e.0 (codes ": ") (IsUtf8-from_is_utf8 e.0 good.1) few_utf8.1)
+        (IsUtf8-from_is_utf8 e.1 good.2),
     no_line_end e.0 e.1 label_good value_good.0,
     marked_nowhere e.0 e.1 label_good,
   )
 
-each_begins : (elements : List NewElement) → AllByRecursion IsGood elements → AllByRecursion (λ line. begins_element line ≡ true) (map info_line elements)
+each_begins : (elements : List NewElement) → AllByRecursion IsGood elements
+    → AllByRecursion (λ line. begins_element line ≡ true) (map info_line elements)
 each_begins [] all = tt
 each_begins (e ∷ elements) all = (begins e all.0, each_begins elements all.1)
 
 -- no line goes on with the one above it
-pub no_continuation : (elements : List NewElement) (k : ℕ) → AllByRecursion IsGood elements → leading_continuations (drop k (map info_line elements)) ≡ []
+pub no_continuation : (elements : List NewElement) (k : ℕ) → AllByRecursion IsGood elements
+    → leading_continuations (drop k (map info_line elements)) ≡ []
 no_continuation elements k all = grind (arith, behind, each_begins)

@@ -1,5 +1,8 @@
 -- Texts that trimming leaves as they are.
-use Rattle.bag_tags.proofs.Common.{List, ap, arith, false, get_or, length, length-drop, length-take, reverse, ℕ, ◌-◌, ◌∙◌, ◌∷◌, ◌≡◌, ◌≤◌, get_or-reverse, length-reverse, slice_get-get_or, bytes_eq-Decides, prefix_len, suffix_len, not_false, ends_with_blank, is_blank, is_some_blank, trim, has_outer_blank}
+use Rattle.bag_tags.proofs.Common.{List, ap, arith, false, get_or, length, length-drop, length-take, reverse, ℕ, ◌-◌}
+use Rattle.bag_tags.proofs.Common.{◌∙◌, ◌∷◌, ◌≡◌, ◌≤◌, get_or-reverse, length-reverse, slice_get-get_or}
+use Rattle.bag_tags.proofs.Common.{bytes_eq-Decides, prefix_len, suffix_len, not_false, ends_with_blank, is_blank}
+use Rattle.bag_tags.proofs.Common.{is_some_blank, trim, has_outer_blank}
 use Rattle.std.proofs.lemmas.List.Sums.{prefix_len_stops, suffix_len-le-length}
 
 -- a text without a blank at its ends stays as it is

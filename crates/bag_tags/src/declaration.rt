@@ -7,7 +7,7 @@ use std::alloc::Global;
 
 const DECLARATION: &str = "BagIt-Version: 1.0\nTag-File-Character-Encoding: UTF-8\n";
 
-/// The bytes of `bagit.txt`: version 1.0 and UTF-8 (RFC 8493, 2.1.1). An error only for want of
+/// The bytes of `bagit.txt`: version 1.0 and UTF-8 (RFC 8493, 2.1.1). An error only when out of
 /// memory.
 pub fn write_declaration(alloc: Global) -> Result<Vec<u8>, WriteFault>
     ensures text { IfOk result (λ bytes. bytes.items ≡ declaration_text) }

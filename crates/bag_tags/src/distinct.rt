@@ -1,6 +1,6 @@
 //! Whether a list names each path once.
 ghost use Rattle.std.specs.Prelude.{◌≡◌, ◌↔◌, IfOk, IsTrue};
-ghost use Rattle.bag_tags.specs.Distinct.{AreAscending, texts_of};
+ghost use Rattle.bag_tags.specs.Distinct.{TextsAscend, lent_texts};
 ghost use Rattle.bag_tags.specs.Entry as spec;
 
 use bag_text::Text;
@@ -21,7 +21,7 @@ pub(crate) fn are_paths_distinct(
 
 /// The path of each entry.
 fn paths(alloc: Global, entries: &[(Text, Text)]) -> Result<Vec<&str>, AllocError>
-    ensures { IfOk result (λ paths. texts_of paths.items ≡ spec.paths entries.now) }
+    ensures { IfOk result (λ paths. lent_texts paths.items ≡ spec.paths entries.now) }
 {
     let mut paths = Vec::with_capacity(alloc, entries.len())?;
     for entry in entries {
@@ -32,7 +32,7 @@ fn paths(alloc: Global, entries: &[(Text, Text)]) -> Result<Vec<&str>, AllocErro
 
 /// Whether each text stands before the next.
 fn is_ascending(texts: &[&str]) -> bool
-    ensures { IsTrue result ↔ AreAscending texts.now }
+    ensures { IsTrue result ↔ TextsAscend texts.now }
 {
     for k in 1..texts.len() {
         if !texts[k - 1].cmp(texts[k]).is_lt() {

@@ -1,5 +1,9 @@
 -- Where a text may be cut beside blanks.
-use Rattle.bag_text.proofs.Common.{◌≡◌, ℕ, zero, suc, ◌+◌, ◌-◌, ◌<◌, true, not, nat_lt, List, length, get_or, reverse, subst, ap, ◌∙◌, refl, arith, prefix_len, suffix_len, IsUtf8, IsCharBoundary, nat_tests, get_or-reverse, prefix_len_passes, prefix_len_stops, prefix_len-le-length, suffix_len-le-length, IsCharBoundary-start, IsCharBoundary-end, IsCharBoundary-before_ascii, IsCharBoundary-after_ascii, is_blank}
+use Rattle.bag_text.proofs.Common.{◌≡◌, ℕ, zero, suc, ◌+◌, ◌-◌, ◌<◌, true, not, nat_lt, List, length, get_or, reverse}
+use Rattle.bag_text.proofs.Common.{subst, ap, ◌∙◌, refl, arith, prefix_len, suffix_len, IsUtf8, IsCharBoundary}
+use Rattle.bag_text.proofs.Common.{nat_tests, get_or-reverse, prefix_len_passes, prefix_len_stops, prefix_len-le-length}
+use Rattle.bag_text.proofs.Common.{suffix_len-le-length, IsCharBoundary-start, IsCharBoundary-end}
+use Rattle.bag_text.proofs.Common.{IsCharBoundary-before_ascii, IsCharBoundary-after_ascii, is_blank}
 
 blank_small : (c : ℕ) → is_blank c ≡ true → c < 128
 blank_small c e = grind (arith, nat_tests)
@@ -17,14 +21,17 @@ pub leading_boundary : (t : List ℕ) → IsUtf8 t → IsCharBoundary t (prefix_
 leading_boundary t u = after_blanks t _ u refl
 
 before_blanks : (t : List ℕ) (n : ℕ) → suffix_len is_blank t ≡ n → IsCharBoundary t (length t - n)
-before_blanks t zero e = let step : length t ≡ length t - 0 = omega arith in subst (IsCharBoundary t) step (IsCharBoundary-end t)
+before_blanks t zero e =
+    let step : length t ≡ length t - 0 = omega arith in subst (IsCharBoundary t) step (IsCharBoundary-end t)
 before_blanks t (suc k) e =
     let within = suffix_len-le-length is_blank t in
     let inside : k < length t = omega (arith, within) in
     let blank : is_blank (get_or (reverse t) k 0) ≡ true = prefix_len_passes is_blank (reverse t) k 0 (omega arith) in
     let step : length t - 1 - k ≡ length t - suc k = omega arith in
-    let same : get_or (reverse t) k 0 ≡ get_or t (length t - suc k) 0 = get_or-reverse t k 0 inside ∙ ap (λ i. get_or t i 0) step in
-    IsCharBoundary-before_ascii t (length t - suc k) (omega arith) (blank_small _ (subst (λ c. is_blank c ≡ true) same blank))
+    let same : get_or (reverse t) k 0 ≡ get_or t (length t - suc k) 0 =
+    get_or-reverse t k 0 inside ∙ ap (λ i. get_or t i 0) step in
+    IsCharBoundary-before_ascii t (length t - suc k) (omega arith)
+    (blank_small _ (subst (λ c. is_blank c ≡ true) same blank))
 
 -- and before those at the end
 pub trailing_boundary : (t : List ℕ) → IsCharBoundary t (length t - suffix_len is_blank t)

@@ -1,5 +1,7 @@
 -- Paths that are read byte by byte.
-use Rattle.bag_text.proofs.Common.{Bool, IsTrue, List, [], ap, append-nil, append_assoc, arith, cond, drop, eqb, false, get_or, length, not, refl, suc, true, ℕ, ◌&&◌, ◌++◌, ◌+◌, ◌<◌, ◌||◌, ◌∙◌, ◌∷◌, ◌≡◌, drop-cons, list_all, components, is_component, is_path, slash, Part, Empty, Name}
+use Rattle.bag_text.proofs.Common.{Bool, IsTrue, List, [], ap, append-nil, append_assoc, arith, cond, drop, eqb, false}
+use Rattle.bag_text.proofs.Common.{get_or, length, not, refl, suc, true, ℕ, ◌&&◌, ◌++◌, ◌+◌, ◌<◌, ◌||◌, ◌∙◌, ◌∷◌, ◌≡◌}
+use Rattle.bag_text.proofs.Common.{drop-cons, list_all, components, is_component, is_path, slash, Part, Empty, Name}
 use Rattle.bag_text.specs.PathPart.{part_of, with_byte, is_name}
 use Rattle.bag_text.proofs.Paths.{is_slash, some_component}
 
@@ -14,7 +16,7 @@ name_test : (p : List ℕ) → is_component p ≡ is_name (part_of p)
 name_test (x ∷ y ∷ z ∷ rest) = more_bytes (eqb x 46) (eqb y 46)
 name_test p = grind arith
 
--- the components of a text behind the front of its first one
+-- the components of a text after the front of its first one
 abbrev behind : List ℕ → List (List ℕ) → List (List ℕ)
 behind p [] = p ∷ []
 behind p (part ∷ parts) = (p ++ part) ∷ parts
@@ -38,21 +40,28 @@ read_start t = ([], refl, good_start t)
 at : (t : List ℕ) (k : ℕ) → k < length t → drop k t ≡ get_or t k 0 ∷ drop (k + 1) t
 at t k h = let step : suc k ≡ k + 1 = omega arith in drop-cons t k 0 h ∙ ap (λ j. get_or t k 0 ∷ drop j t) step
 
-pub read_byte : (part : Part) (t : List ℕ) (k : ℕ) → k < length t → is_slash (get_or t k 0) ≡ false → IsReadTo part t k → IsReadTo (with_byte part (get_or t k 0)) t (k + 1)
+pub read_byte : (part : Part) (t : List ℕ) (k : ℕ) → k < length t → is_slash (get_or t k 0) ≡ false → IsReadTo part t k
+    → IsReadTo (with_byte part (get_or t k 0)) t (k + 1)
 read_byte part t k h other (p, is, good) = grind (arith, part_more, at, good_byte)
 
-pub read_slash : (part : Part) (t : List ℕ) (k : ℕ) → k < length t → is_slash (get_or t k 0) ≡ true → is_name part ≡ true → IsReadTo part t k → IsReadTo Empty t (k + 1)
+pub read_slash : (part : Part) (t : List ℕ) (k : ℕ) → k < length t → is_slash (get_or t k 0) ≡ true
+    → is_name part ≡ true → IsReadTo part t k → IsReadTo Empty t (k + 1)
 read_slash part t k h slash name read = grind (arith, at, append-nil, name_test, good_start)
 
--- of components that don't begin with a dot, what is read where one begins or behind its first byte
-plain_byte : (begins is_end is_dot : Bool) (t : List ℕ) (k : ℕ) → k < length t → is_slash (get_or t k 0) ≡ is_end → eqb (get_or t k 0) 46 ≡ is_dot
-    → IsReadTo (cond begins Empty Name) t k → IsTrue (not (begins && (is_end || is_dot))) → IsReadTo (cond is_end Empty Name) t (k + 1)
+-- of components that don't begin with a dot, what is read where one begins or after its first byte
+plain_byte : (begins is_end is_dot : Bool) (t : List ℕ) (k : ℕ) → k < length t → is_slash (get_or t k 0) ≡ is_end
+    → eqb (get_or t k 0) 46 ≡ is_dot
+    → IsReadTo (cond begins Empty Name) t k → IsTrue (not (begins && (is_end || is_dot)))
+    → IsReadTo (cond is_end Empty Name) t (k + 1)
 plain_byte true false false t k h slash dot read w = grind (arith, read_byte Empty t k h slash read)
 plain_byte true is_end is_dot t k h slash dot read w = cc
 plain_byte false true is_dot t k h slash dot read w = read_slash Name t k h slash refl read
 plain_byte false false is_dot t k h slash dot read w = read_byte Name t k h slash read
 
-pub plain_more : (plain begins : Bool) (t : List ℕ) (k : ℕ) → k < length t → (IsTrue plain → IsReadTo (cond begins Empty Name) t k)
-    → IsTrue (plain && not (begins && (is_slash (get_or t k 0) || eqb (get_or t k 0) 46))) → IsReadTo (cond (is_slash (get_or t k 0)) Empty Name) t (k + 1)
-plain_more true begins t k h read w = plain_byte begins (is_slash (get_or t k 0)) (eqb (get_or t k 0) 46) t k h refl refl (read refl) w
+pub plain_more : (plain begins : Bool) (t : List ℕ) (k : ℕ) → k < length t
+    → (IsTrue plain → IsReadTo (cond begins Empty Name) t k)
+    → IsTrue (plain && not (begins && (is_slash (get_or t k 0) || eqb (get_or t k 0) 46)))
+    → IsReadTo (cond (is_slash (get_or t k 0)) Empty Name) t (k + 1)
+plain_more true begins t k h read w =
+    plain_byte begins (is_slash (get_or t k 0)) (eqb (get_or t k 0) 46) t k h refl refl (read refl) w
 plain_more false begins t k h read w = cc

@@ -1,5 +1,6 @@
 -- Why the flags of a set and the list of its members give each other back.
-use Rattle.std.proofs.Common.{◌≡◌, ◌+◌, ◌-◌, ℕ, suc, Bool, true, false, ◌&&◌, ◌==◌, List, [], ◌∷◌, length, drop, filter, map, refl, sym, ap, ◌∙◌, arith, Some, get_or}
+use Rattle.std.proofs.Common.{◌≡◌, ◌+◌, ◌-◌, ℕ, suc, Bool, true, false, ◌&&◌, ◌==◌, List, [], ◌∷◌}
+use Rattle.std.proofs.Common.{length, drop, filter, map, refl, sym, ap, ◌∙◌, arith, Some, get_or}
 use Rattle.std.specs.List.{slice_get}
 use Rattle.std.proofs.lemmas.Bool.{and_parts}
 use Rattle.std.proofs.lemmas.Bool.Decides.{nat_tests}
@@ -35,7 +36,9 @@ and_true false c e = refl
 
 -- the algorithms that pass a test are those that pass it
 pub has_member-filter : (p : Alg → Bool) (alg : Alg) → has_member (filter p algs) alg ≡ p alg
-has_member-filter p alg = any-filter_same (same_alg alg) p (p alg) (λ other same. ap p (sym (same_alg_same alg other same))) algs ∙ and_true (p alg) _ (has_each alg)
+has_member-filter p alg = any-filter_same (same_alg alg) p (p alg)
+    (λ other same. ap p (sym (same_alg_same alg other same))) algs
+    ∙ and_true (p alg) _ (has_each alg)
 
 -- these algorithms have the ranks that follow k
 abbrev ascends : ℕ → List Alg → Bool
@@ -43,13 +46,15 @@ ascends k [] = true
 ascends k (x ∷ xs) = (rank x == suc k) && ascends (suc k) xs
 
 -- the flags of the algorithms from one place on are the flags from there on
-flags_from : (flags : List Bool) (xs : List Alg) (k : ℕ) → ascends k xs ≡ true → length flags ≡ k + length xs
+flags_from : (flags : List Bool) (xs : List Alg) (k : ℕ) → ascends k xs ≡ true
+    → length flags ≡ k + length xs
     → map (λ alg. get_or flags (rank alg - 1) false) xs ≡ drop k flags
 flags_from flags [] k up long = sym (drop_all k flags (omega arith))
 flags_from flags (x ∷ xs) k up long =
     let both = and_parts (rank x == suc k) (ascends (suc k) xs) up in
     let here : rank x - 1 ≡ k = grind (arith, nat_tests, both.0) in
-    rw (flags_from flags xs (suc k) both.1 (omega arith), here) (sym (drop-cons flags k false (omega arith)))
+    rw (flags_from flags xs (suc k) both.1 (omega arith), here)
+    (sym (drop-cons flags k false (omega arith)))
 
 pub flags_are : (set : Inside) → IsTable set → map (flag set) algs ≡ set.flags
 flags_are set long = flags_from set.flags algs 0 refl long

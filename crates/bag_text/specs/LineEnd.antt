@@ -8,4 +8,5 @@ is_line_end c = c == line_feed || c == carriage_return
 
 -- how many bytes the line end at this place takes: two where it is CRLF
 abbrev pub end_len : List ℕ → ℕ → ℕ
-end_len t i = if slice_index t i == carriage_return && slice_index t (i + 1) == line_feed then 2 else 1
+end_len t i =
+    if slice_index t i == carriage_return && slice_index t (i + 1) == line_feed then 2 else 1

@@ -1,6 +1,7 @@
--- The rules of a version, and what of bag-info.txt they differ in (RFC 8493, 2.1.1 and 2.2.2). How they spell a path stands in
--- Spelling.
-use Rattle.std.specs.Prelude.{ℕ, ◌||◌, Bool, true, List, [], Option, Some, None, bytes_eq, codes, if◌then◌else◌}
+-- The rules of a version, and what of bag-info.txt they differ in (RFC 8493, 2.1.1 and 2.2.2). How
+-- they spell a path stands in Spelling.
+use Rattle.std.specs.Prelude.{ℕ, ◌||◌, Bool, true, List, [], Option, Some, None, bytes_eq, codes}
+use Rattle.std.specs.Prelude.{if◌then◌else◌}
 use Rattle.bag_text.specs.Text.{begins_with_blank, trim}
 use Rattle.bag_text.specs.declared.rules.Rules.{Rules}
 use Rattle.bag_text.specs.declared.rules.Rules.TheVariants.{V10, V097}
@@ -10,7 +11,8 @@ abbrev pub rules_of : Option (List ℕ) → Rules
 rules_of None = V10
 rules_of (Some version) = if bytes_eq version (codes "0.97") then V097 else V10
 
--- the label of what stands before the colon: by the rules of 0.97 blanks before the colon are dropped
+-- the label of what stands before the colon: by the rules of 0.97 blanks before the colon are
+-- dropped
 abbrev pub label_of : Rules → List ℕ → List ℕ
 label_of V10 t = t
 label_of V097 t = trim t

@@ -19,12 +19,13 @@ IsLongestFront front first second =
 
 -- the law: it is the longest
 abbrev pub CommonFrontIsTheLongest : Type 0
-CommonFrontIsTheLongest = (first second : List ℕ) → IsLongestFront (common_front first second) first second
+CommonFrontIsTheLongest = (first second : List ℕ)
+    → IsLongestFront (common_front first second) first second
 
--- sixteen bytes with zeros behind them where there are fewer
+-- sixteen bytes with zeros after them where there are fewer
 abbrev pub front_of_sixteen : List ℕ → List ℕ
 front_of_sixteen bytes = take 16 (bytes ++ replicate 16 0)
 
--- the number of the sixteen bytes behind the first n, the first worth most
-abbrev pub key_behind : List ℕ → ℕ → ℕ
-key_behind bytes skipped = from_be_bytes w128 (front_of_sixteen (drop skipped bytes))
+-- the number of the sixteen bytes after the first n, the first worth most
+abbrev pub key_after : List ℕ → ℕ → ℕ
+key_after bytes skipped = from_be_bytes w128 (front_of_sixteen (drop skipped bytes))

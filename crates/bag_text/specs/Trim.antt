@@ -14,7 +14,8 @@ EndsWithNoBlank t = (front : List ℕ) (c : ℕ) → t ≡ front ++ c ∷ [] →
 -- the text is blanks, what is left of it, and blanks; what is left neither begins nor ends with one
 abbrev pub IsTrimmed : List ℕ → List ℕ → Type 0
 IsTrimmed t left =
-    (front back : List ℕ) × (t ≡ front ++ left ++ back) × IsTrue (list_all is_blank front) × IsTrue (list_all is_blank back)
+    (front back : List ℕ) × (t ≡ front ++ left ++ back) × IsTrue (list_all is_blank front)
+    × IsTrue (list_all is_blank back)
     × BeginsWithNoBlank left × EndsWithNoBlank left
 
 -- the law: trimming takes the blanks at both ends, and nothing else

@@ -48,7 +48,8 @@ impl AlgSet {
     /// The set with one more member, which may be there already.
     pub fn with(self, alg: Alg) -> AlgSet
         ensures value { result ≡ with_member self alg }
-        ensures members { (member : Member) → Contains result member ↔ (Contains self member ⊎ (member ≡ alg)) }
+        ensures members { (member : Member)
+            → Contains result member ↔ (Contains self member ⊎ (member ≡ alg)) }
     {
         let mut set = self;
         set.flags[flag_index(alg)] = true;

@@ -23,7 +23,8 @@ pub fn is_blank_line(line: &str) -> bool
     leading_blanks(line.as_bytes()) == line.len()
 }
 
-/// What stands before the first space or tab, and what follows the spaces and tabs after it, as slices of the line.
+/// What stands before the first space or tab, and what follows the spaces and tabs after it, as
+/// slices of the line.
 #[tactic(auto, using(crate::proofs::Blanks::before_blank_boundary))]
 pub fn split_at_blanks(line: &str) -> (&str, &str)
     ensures front { result.0.now ≡ spec.before_blank line.now }

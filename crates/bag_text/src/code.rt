@@ -34,7 +34,8 @@ pub enum Code {
     OxumMalformed = 302,
     /// `Payload-Oxum` is given more than once (RFC 8493, 2.2.2).
     OxumAgain = 303,
-    /// The payload has another number of bytes or of files than `Payload-Oxum` says (RFC 8493, 2.2.2).
+    /// The payload has another number of bytes or of files than `Payload-Oxum` says (RFC 8493,
+    /// 2.2.2).
     OxumDiffers = 304,
     /// There is no `Payload-Oxum` to compare the payload with (RFC 8493, 2.2.2).
     NoOxum = 305,
@@ -72,25 +73,32 @@ pub enum Code {
     TagFileMissing = 602,
     /// A payload manifest doesn't name a payload file that is there (RFC 8493, 3).
     PayloadFileNotListed = 603,
-    /// The path differs from a lesser one of the payload only by Unicode normalization (RFC 8493, 6).
+    /// The path differs from a lesser one of the payload only by Unicode normalization (RFC 8493,
+    /// 6).
     NameClash = 604,
     /// A payload file hasn't the digest that a payload manifest gives it (RFC 8493, 3).
     PayloadSumDiffers = 701,
     /// A tag file hasn't the digest that a tag manifest gives it (RFC 8493, 3).
     TagSumDiffers = 702,
-    /// No `BagIt-Profile-Identifier` of `bag-info.txt` is the profile's (BagIt Profiles specification).
+    /// No `BagIt-Profile-Identifier` of `bag-info.txt` is the profile's (BagIt Profiles
+    /// specification).
     ProfileIdentifier = 801,
     /// `bag-info.txt` lacks a label that the profile requires (BagIt Profiles specification).
     LabelRequired = 802,
-    /// `bag-info.txt` repeats a label that the profile has only once (BagIt Profiles specification).
+    /// `bag-info.txt` repeats a label that the profile has only once (BagIt Profiles
+    /// specification).
     LabelRepeated = 803,
-    /// A value in `bag-info.txt` is none that the profile allows for its label (BagIt Profiles specification).
+    /// A value in `bag-info.txt` is none that the profile allows for its label (BagIt Profiles
+    /// specification).
     ValueNotAllowed = 804,
-    /// There is no payload manifest of an algorithm that the profile requires (BagIt Profiles specification).
+    /// There is no payload manifest of an algorithm that the profile requires (BagIt Profiles
+    /// specification).
     ManifestRequired = 805,
-    /// The profile doesn't allow the algorithm of a payload manifest (BagIt Profiles specification).
+    /// The profile doesn't allow the algorithm of a payload manifest (BagIt Profiles
+    /// specification).
     ManifestNotAllowed = 806,
-    /// There is no tag manifest of an algorithm that the profile requires (BagIt Profiles specification).
+    /// There is no tag manifest of an algorithm that the profile requires (BagIt Profiles
+    /// specification).
     TagmanifestRequired = 807,
     /// The profile doesn't allow the algorithm of a tag manifest (BagIt Profiles specification).
     TagmanifestNotAllowed = 808,
@@ -181,7 +189,8 @@ impl Code {
 
     /// The code of a number, or `None` where no code has it.
     pub fn from_number(number: u16) -> Option<Code>
-        ensures { MatchOption result ((code : Code) → spec.number code ≢ number) (λ code. spec.number code ≡ number) }
+        ensures { MatchOption result ((code : Code) → spec.number code ≢ number) (λ code.
+            spec.number code ≡ number) }
     {
         let Some((code, _)) = first_numbered(&CODES, number) else {
             return None;

@@ -5,7 +5,8 @@ ghost use Rattle.bag_text.specs.SortKey.{CommonFrontIsTheLongest};
 ghost use Rattle.bag_text.specs.Spelling.{EscapedIsReadAgain, UnescapedIsSpelled};
 ghost use Rattle.bag_text.specs.Trim.{TrimTakesOuterBlanks};
 ghost use Rattle.std.specs.Prelude.{◌≡◌};
-ghost use Rattle.bag_text.specs.Alg.{EachIsListed, ListAscends, NameIsReadAgain, NamesTellApart, RanksTellApart, algs};
+ghost use Rattle.bag_text.specs.Alg.{EachIsListed, ListAscends, NameIsReadAgain, NamesTellApart};
+ghost use Rattle.bag_text.specs.Alg.{RanksTellApart, algs};
 
 use crate::Alg;
 
@@ -29,7 +30,8 @@ pub fn escaped_is_read_again()
     ensures { EscapedIsReadAgain }
 {}
 
-/// A text is blanks, what trimming leaves, and blanks; and what it leaves neither begins nor ends with one.
+/// A text is blanks, what trimming leaves, and blanks; and what it leaves neither begins nor ends
+/// with one.
 pub fn trim_takes_outer_blanks()
     ensures { TrimTakesOuterBlanks }
 {}

@@ -1,4 +1,5 @@
-//! Texts, lines and paths of bags, the algorithms and fault codes by their names, and the program's own texts.
+//! Texts, lines and paths of bags, the algorithms and fault codes by their names, and the program's
+//! own texts.
 //!
 //! ```
 //! for (number, line) in lines(text_of(&bytes)?) {
@@ -8,13 +9,15 @@
 //! let alg = Alg::from_name("sha256")?;
 //! ```
 //!
-//! Of RFC 8493 it keeps how lines of tag files end (2.3), what a path is (2.1.2, 5.1), how manifests spell it (2.1.3), and the
-//! algorithms that can be computed (2.4); by the rules of either version where they differ (`Rules`). `Text` and `Items` own
-//! their memory; contracts see them as bytes and as items.
+//! Of RFC 8493 it keeps how lines of tag files end (2.3), what a path is (2.1.2, 5.1), how
+//! manifests spell it (2.1.3), and the algorithms that can be computed (2.4); by the rules of
+//! either version where they differ (`Rules`). `Text` and `Items` own their memory; contracts see
+//! them as bytes and as items.
 //!
-//! Each call of `Text` and `Items` is exact, by the bytes and items that contracts see; where memory runs out a list stays as
-//! it was. Codes and algorithms have their numbers and names, and are found by them; a set has its members and no others. Lines
-//! are the only cut of a text. A spelling spells one path at the most by the rules of 1.0, and just one by those of 0.97.
+//! Each call of `Text` and `Items` is exact, by the bytes and items that contracts see; where
+//! memory runs out a list stays as it was. Codes and algorithms have their numbers and names, and
+//! are found by them; a set has its members and no others. Lines are the only cut of a text. A
+//! spelling spells one path at the most by the rules of 1.0, and just one by those of 0.97.
 #![tactic(auto)]
 
 mod alg;
@@ -49,5 +52,5 @@ pub use path::{
 pub use pool::{Pool, Run};
 pub use read_text::{BYTE_ORDER_MARK, NotUtf8, lines, text_of};
 pub use rules::Rules;
-pub use sort_key::{common_front, key_behind};
+pub use sort_key::{common_front, key_after};
 pub use text::Text;

@@ -1,5 +1,6 @@
 //! The lines of a text, one by one.
-ghost use Rattle.std.specs.Prelude.{◌≡◌, ◌+◌, ◌<◌, ◌^◌, ◌≤◌, ◌∷◌, position, length, IfNone, All, false, not};
+ghost use Rattle.std.specs.Prelude.{◌≡◌, ◌+◌, ◌<◌, ◌^◌, ◌≤◌, ◌∷◌, position, length, IfNone, All};
+ghost use Rattle.std.specs.Prelude.{false, not};
 ghost use Rattle.std.specs.Iterator.{YieldsFirstBy, item_count};
 ghost use Rattle.std.specs.List.{enumerate_from, list_all};
 ghost use Rattle.bag_text.specs.LineEnd.{is_line_end, end_len};
@@ -115,7 +116,8 @@ fn len_without(a: u8, b: u8, bytes: &[u8]) -> usize
     end
 }
 
-/// Whether neither of two bytes is among these. It takes no branch for a byte, so that many are tested at once.
+/// Whether neither of two bytes is among these. It takes no branch for a byte, so that many are
+/// tested at once.
 fn has_neither(a: u8, b: u8, bytes: &[u8]) -> bool
     ensures { result ≡ list_all (λ c. not (is_byte2 a b c)) bytes.now }
 {

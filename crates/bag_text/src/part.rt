@@ -22,7 +22,8 @@ impl Model for Part {
 
     ghost view = { λ part. slice_range (rc_str_bytes part.whole) part.start part.end };
 
-    ghost invariant = { λ part. (part.start ≤ part.end) × IsCharBoundary (rc_str_bytes part.whole) part.start
+    ghost invariant = { λ part.
+        (part.start ≤ part.end) × IsCharBoundary (rc_str_bytes part.whole) part.start
         × IsCharBoundary (rc_str_bytes part.whole) part.end };
 }
 

@@ -1,5 +1,7 @@
 //! Paths of files in a bag, and how manifests and `fetch.txt` write them.
-ghost use Rattle.std.specs.Prelude.{◌≡◌, true, false, IsTrue, MatchResult, ◌≢◌, ◌==◌, ◌↔◌, ◌<◌, ◌≤◌, ◌∷◌, length, not, IfOk, IfSome, IsErrOf, MatchOption, string_bytes, encode_utf8};
+ghost use Rattle.std.specs.Prelude.{◌≡◌, true, false, IsTrue, MatchResult, ◌≢◌, ◌==◌, ◌↔◌, ◌<◌};
+ghost use Rattle.std.specs.Prelude.{◌≤◌, ◌∷◌, length, not, IfOk, IfSome, IsErrOf, MatchOption};
+ghost use Rattle.std.specs.Prelude.{string_bytes, encode_utf8};
 ghost use Rattle.std.specs.List.{list_all};
 ghost use Rattle.bag_text.specs.PathPart.{with_byte, is_name};
 ghost use Rattle.bag_text.specs.Path as spec;
@@ -9,7 +11,8 @@ use crate::{Rules, said};
 use std::alloc::{AllocError, Global};
 use thiserror::Error;
 
-/// The text is no path: it is empty, begins or ends with `/`, or has a component that is empty, `.` or `..`.
+/// The text is no path: it is empty, begins or ends with `/`, or has a component that is empty, `.`
+/// or `..`.
 #[derive(Clone, Copy, Debug, PartialEq, Eq, Error)]
 #[error("not a path inside the bag")]
 pub struct Unsafe;
@@ -54,9 +57,11 @@ impl Part {
     }
 }
 
-/// Whether a text is a path: components joined by `/`, none of them empty, `.` or `..` (RFC 8493, 2 and 5.1).
+/// Whether a text is a path: components joined by `/`, none of them empty, `.` or `..` (RFC 8493, 2
+/// and 5.1).
 pub fn check_path(text: &str) -> Result<(), Unsafe>
-    ensures { MatchResult result (λ _. spec.is_path text.now ≡ true) (λ _. spec.is_path text.now ≡ false) }
+    ensures { MatchResult result (λ _. spec.is_path text.now ≡ true) (λ _.
+        spec.is_path text.now ≡ false) }
 {
     if is_plain(text.as_bytes()) {
         return Ok(());
@@ -74,7 +79,8 @@ pub fn check_path(text: &str) -> Result<(), Unsafe>
     if part.is_name() { Ok(()) } else { Err(Unsafe) }
 }
 
-/// Whether these are a path in which no component begins with a dot, as in most paths. It takes no branch for a byte.
+/// Whether these are a path in which no component begins with a dot, as in most paths. It takes no
+/// branch for a byte.
 fn is_plain(bytes: &[u8]) -> bool
     ensures { IsTrue result → spec.is_path bytes.now ≡ true }
 {
@@ -88,8 +94,8 @@ fn is_plain(bytes: &[u8]) -> bool
     plain & !begins
 }
 
-/// Whether a text is the path of a payload file: one whose first component is `data`, and that has a second
-/// (RFC 8493, 2.1.2).
+/// Whether a text is the path of a payload file: one whose first component is `data`, and that has
+/// a second (RFC 8493, 2.1.2).
 pub fn is_payload(text: &str) -> bool
     ensures { result ≡ spec.is_payload_path text.now }
 {
@@ -121,8 +127,8 @@ impl From<AllocError> for PathFault {
     }
 }
 
-/// A path as it is written: LF, CR and `%` as `%0A`, `%0D` and `%25`, every other character as itself
-/// (RFC 8493, 2.1.3).
+/// A path as it is written: LF, CR and `%` as `%0A`, `%0D` and `%25`, every other character as
+/// itself (RFC 8493, 2.1.3).
 pub fn escape_path(alloc: Global, path: &str) -> Result<String, AllocError>
     ensures { IfOk result (λ text. string_bytes text ≡ spelled.escape path.now) }
 {
@@ -136,12 +142,13 @@ pub fn escape_path(alloc: Global, path: &str) -> Result<String, AllocError>
     Ok(text)
 }
 
-/// The path that is written so, by the rules of a version. By those of 1.0 hex digits of either case are read, and no other
-/// escapes than those of LF, CR and `%` (RFC 8493, 2.1.3); by those of 0.97 no other than those of LF and CR, and each other
-/// `%` is itself.
+/// The path that is written so, by the rules of a version. By those of 1.0 hex digits of either
+/// case are read, and no other escapes than those of LF, CR and `%` (RFC 8493, 2.1.3); by those of
+/// 0.97 no other than those of LF and CR, and each other `%` is itself.
 pub fn unescape_path(alloc: Global, rules: Rules, text: &str) -> Result<String, PathFault>
     ensures ok { IfOk result (λ path. spelled.unescaped rules text.now ≡ Some (string_bytes path)) }
-    ensures bad_escape { IsErrOf result PathFault.BadEscape ↔ (spelled.unescaped rules text.now ≡ None) }
+    ensures bad_escape { IsErrOf result PathFault.BadEscape
+        ↔ (spelled.unescaped rules text.now ≡ None) }
 {
     match rules {
         Rules::V10 => unescape_strictly(alloc, text),
@@ -149,8 +156,8 @@ pub fn unescape_path(alloc: Global, rules: Rules, text: &str) -> Result<String, 
     }
 }
 
-/// Whether a text is the path that it is written for: by the rules of 1.0 where it has no `%`. By those of 0.97 it isn't
-/// looked at.
+/// Whether a text is the path that it is written for: by the rules of 1.0 where it has no `%`. By
+/// those of 0.97 it isn't looked at.
 pub fn is_written_as_itself(rules: Rules, text: &str) -> bool
     ensures { IsTrue result → spelled.unescaped rules text.now ≡ Some text.now }
 {
@@ -160,10 +167,13 @@ pub fn is_written_as_itself(rules: Rules, text: &str) -> bool
     }
 }
 
-/// The path that is written so by the rules of 1.0. Judges the escapes before it takes memory, which it does once.
+/// The path that is written so by the rules of 1.0. Judges the escapes before it takes memory,
+/// which it does once.
 fn unescape_strictly(alloc: Global, text: &str) -> Result<String, PathFault>
-    ensures ok { IfOk result (λ path. spelled.unescaped_strictly text.now ≡ Some (string_bytes path)) }
-    ensures bad_escape { IsErrOf result PathFault.BadEscape ↔ (spelled.unescaped_strictly text.now ≡ None) }
+    ensures ok { IfOk result (λ path.
+        spelled.unescaped_strictly text.now ≡ Some (string_bytes path)) }
+    ensures bad_escape { IsErrOf result PathFault.BadEscape
+        ↔ (spelled.unescaped_strictly text.now ≡ None) }
 {
     if has_no_percent(text.as_bytes()) {
         return Ok(String::from_str(alloc, text)?);
@@ -174,7 +184,8 @@ fn unescape_strictly(alloc: Global, text: &str) -> Result<String, PathFault>
     Ok(decode(alloc, text)?)
 }
 
-/// Whether a text has no escape, as most have none. It takes no branch for a byte, so that many are tested at once.
+/// Whether a text has no escape, as most have none. It takes no branch for a byte, so that many are
+/// tested at once.
 fn has_no_percent(bytes: &[u8]) -> bool
     ensures { result ≡ list_all (λ c. not (c == spelled.percent)) bytes.now }
 {
@@ -220,7 +231,8 @@ fn decode(alloc: Global, text: &str) -> Result<String, AllocError>
 
 /// What is written for a character that isn't written as itself.
 fn escape_of(c: char) -> Option<&'static str>
-    ensures { MatchOption result (spelled.escape (encode_utf8 c) ≡ encode_utf8 c) (λ text. spelled.escape (encode_utf8 c) ≡ text.now) }
+    ensures { MatchOption result (spelled.escape (encode_utf8 c) ≡ encode_utf8 c) (λ text.
+        spelled.escape (encode_utf8 c) ≡ text.now) }
 {
     match c {
         '\n' => Some("%0A"),
@@ -232,7 +244,10 @@ fn escape_of(c: char) -> Option<&'static str>
 
 /// The character that the two digits after a `%` stand for, and what follows them.
 fn escaped_char(after: &str) -> Option<(char, &str)>
-    ensures value { MatchOption result (spelled.unescaped_strictly (spelled.percent ∷ after.now) ≡ None) (λ read. spelled.unescaped_strictly (spelled.percent ∷ after.now) ≡ spelled.both (Some read.0) (spelled.unescaped_strictly read.1.now)) }
+    ensures value { MatchOption result
+        (spelled.unescaped_strictly (spelled.percent ∷ after.now) ≡ None) (λ read.
+        spelled.unescaped_strictly (spelled.percent ∷ after.now)
+        ≡ spelled.both (Some read.0) (spelled.unescaped_strictly read.1.now)) }
     ensures ascii { IfSome result (λ read. read.0 < 128) }
     ensures shorter { IfSome result (λ read. length read.1.now < length after.now) }
 {
@@ -266,9 +281,11 @@ fn decode_line_ends(alloc: Global, text: &str) -> Result<String, AllocError>
     Ok(path)
 }
 
-/// The character that a `%` with this text behind it stands for, and what follows: the end of a line, or itself.
+/// The character that a `%` with this text after it stands for, and what follows: the end of a
+/// line, or itself.
 fn behind_percent(after: &str) -> (char, &str)
-    ensures value { spelled.with_line_ends (spelled.percent ∷ after.now) ≡ result.0 ∷ spelled.with_line_ends result.1.now }
+    ensures value { spelled.with_line_ends (spelled.percent ∷ after.now)
+        ≡ result.0 ∷ spelled.with_line_ends result.1.now }
     ensures ascii { result.0 < 128 }
     ensures shorter { length result.1.now ≤ length after.now }
 {

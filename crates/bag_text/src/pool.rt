@@ -8,18 +8,19 @@ use std::cell::Cell;
 use std::cmp::Ordering;
 use std::rc::RcStr;
 
-/// What stands behind each text of a pool.
+/// What stands after each text of a pool.
 const END: char = '\0';
 
 /// How often a search halves what is left: more often than any length can be.
 const STEPS: u32 = 64;
 
-/// Texts of which equal texts are parts: they stand in the order of their bytes, one behind another, in a few longer ones.
-/// Which texts it has decides nothing but how much memory is taken.
+/// Texts of which equal texts are parts: they stand in the order of their bytes, one after another,
+/// in a few longer ones. Which texts it has decides nothing but how much memory is taken.
 #[derive(Drop)]
 pub struct Pool {
     wholes: Vec<RcStr>,
-    /// Where a text is looked for first, behind the one that was found last: in which of the longer texts, and where in it.
+    /// Where a text is looked for first, after the one that was found last: in which of the longer
+    /// texts, and where in it.
     next: Cell<(usize, usize)>,
 }
 
@@ -32,7 +33,7 @@ impl Pool {
         }
     }
 
-    /// Adds the texts of a run, which stand behind those that it has.
+    /// Adds the texts of a run, which stand after those that it has.
     pub fn add(&mut self, run: Run) -> Result<(), AllocError> {
         let Run { whole } = run;
         self.wholes.push(RcStr::from_string(whole)?)?;
@@ -64,7 +65,7 @@ impl Pool {
         self.text_at(which, place, text)
     }
 
-    /// An equal text, where it stands at this place. The next is looked for behind it.
+    /// An equal text, where it stands at this place. The next is looked for after it.
     fn text_at(&self, which: usize, place: usize, text: &str) -> Option<Text>
         ensures { IfSome result (λ t. t ≡ text.now) }
     {

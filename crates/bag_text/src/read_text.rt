@@ -10,7 +10,8 @@ use super::line_cut::Lines;
 use std::str;
 use thiserror::Error;
 
-/// The character that may stand at the front of a text to say that it is Unicode: three bytes in UTF-8.
+/// The character that may stand at the front of a text to say that it is Unicode: three bytes in
+/// UTF-8.
 pub const BYTE_ORDER_MARK: &str = "\u{FEFF}";
 
 /// The bytes aren't UTF-8.
@@ -21,7 +22,8 @@ pub struct NotUtf8;
 /// The text of a tag file's bytes, without one leading byte order mark (RFC 8493, 2.1.1 and 2.3).
 #[tactic(auto, using(crate::proofs::Utf8::utf8_texts))]
 pub fn text_of(bytes: &[u8]) -> Result<&str, NotUtf8>
-    ensures text { MatchResult result (λ text. spec.text_of bytes.now ≡ Some text.now) (λ _. spec.text_of bytes.now ≡ None) }
+    ensures text { MatchResult result (λ text. spec.text_of bytes.now ≡ Some text.now) (λ _.
+        spec.text_of bytes.now ≡ None) }
     ensures utf8 { IfOk result (λ text. IsUtf8 text.now) }
 {
     match str::from_utf8(bytes) {
@@ -30,8 +32,8 @@ pub fn text_of(bytes: &[u8]) -> Result<&str, NotUtf8>
     }
 }
 
-/// The lines of a text with their numbers, from 1. A line ends in LF, CR or CRLF, and characters after the last end
-/// are a line (RFC 8493, 2.3). Copies nothing.
+/// The lines of a text with their numbers, from 1. A line ends in LF, CR or CRLF, and characters
+/// after the last end are a line (RFC 8493, 2.3). Copies nothing.
 #[tactic(auto, using(crate::proofs::FirstLine::lines_few))]
 pub fn lines(text: &str) -> Lines<'_>
     ensures rest { numbered_rest result ≡ enumerate_from 1 (cut.lines text.now) }

@@ -31,8 +31,8 @@ impl Rules {
         }
     }
 
-    /// The label of an element of the metadata, of what stands before the colon (RFC 8493, 2.2.2): all of that; by the rules
-    /// of 0.97 without the blanks before the colon.
+    /// The label of an element of the metadata, of what stands before the colon (RFC 8493, 2.2.2):
+    /// all of that; by the rules of 0.97 without the blanks before the colon.
     pub fn label_of(self, before: &str) -> &str
         ensures { result.now ≡ spec.label_of self before.now }
     {
@@ -42,8 +42,8 @@ impl Rules {
         }
     }
 
-    /// Whether this may follow the colon behind a label (RFC 8493, 2.2.2): nothing, or what begins with a blank; by the rules
-    /// of 0.97 anything.
+    /// Whether this may follow the colon after a label (RFC 8493, 2.2.2): nothing, or what begins
+    /// with a blank; by the rules of 0.97 anything.
     pub fn may_follow_colon(self, part: &str) -> bool
         ensures { result ≡ spec.may_follow_colon self part.now }
     {

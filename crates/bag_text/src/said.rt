@@ -12,7 +12,7 @@ pub const OUTPUT_REFUSED: &str = "output refused";
 /// A word of the command line isn't UTF-8: the whole line, since it is said as of clap.
 pub const WORD_NOT_UTF8: &str = "bagit: a word isn't UTF-8\n";
 
-/// Behind an option that is only for checks.
+/// After an option that is only for checks.
 pub const NEEDS_VALIDATE: &str = " needs --validate";
 
 /// More than one depth is given.
@@ -40,7 +40,7 @@ pub const WRONG_SHAPE: &str = "wrong shape: ";
 /// Before a key of a profile that isn't checked.
 pub const UNCHECKED: &str = "unchecked ";
 
-/// What is said behind the name of a bag that has no fault, by the depth of the check.
+/// What is said after the name of a bag that has no fault, by the depth of the check.
 pub const GOOD_DECLARATION: &str = " has a good declaration";
 
 pub const AGREES_WITH_OXUM: &str = " agrees with its oxum";
@@ -49,19 +49,19 @@ pub const COMPLETE: &str = " is complete";
 
 pub const VALID: &str = " is valid";
 
-/// What is said behind the name of a bag before the number of faults that were written.
+/// What is said after the name of a bag before the number of faults that were written.
 pub const HAS_FAULTS: &str = " has faults: ";
 
 pub const STOPPED: &str = " stopped, faults: ";
 
 pub const REST_DONE: &str = " rest done, faults: ";
 
-/// Behind the name of a bag that couldn't be read to its end, and behind the cause.
+/// After the name of a bag that couldn't be read to its end, and after the cause.
 pub const UNREAD: &str = " unread ";
 
 pub const FAULTS: &str = ", faults: ";
 
-/// Behind the name of a folder that was made a bag, and before the reason why another wasn't.
+/// After the name of a folder that was made a bag, and before the reason why another wasn't.
 pub const MADE: &str = " made";
 
 pub const NOT_MADE: &str = " not made: ";
@@ -73,7 +73,8 @@ pub const IN_THE_WAY: &str = ".bagit-new is there";
 
 pub const BAD_VALUE: &str = "bad value";
 
-/// Before the file of a making that couldn't be read, and before the place of a step that was refused.
+/// Before the file of a making that couldn't be read, and before the place of a step that was
+/// refused.
 pub const READ: &str = "read ";
 
 pub const STEP: &str = "step ";

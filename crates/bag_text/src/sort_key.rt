@@ -16,9 +16,10 @@ pub fn common_front<'a>(first: &'a [u8], second: &[u8]) -> &'a [u8]
     &first[..most]
 }
 
-/// The sixteen bytes behind the first `skipped`, as a number that stands in the order of the bytes; behind the last stand zeros.
-pub fn key_behind(bytes: &[u8], skipped: usize) -> u128
-    ensures { result ≡ spec.key_behind bytes.now skipped }
+/// The sixteen bytes after the first `skipped`, as a number that stands in the order of the bytes;
+/// after the last stand zeros.
+pub fn key_after(bytes: &[u8], skipped: usize) -> u128
+    ensures { result ≡ spec.key_after bytes.now skipped }
 {
     let rest = behind(bytes, skipped);
     match rest.first_chunk::<16>() {
@@ -27,7 +28,7 @@ pub fn key_behind(bytes: &[u8], skipped: usize) -> u128
     }
 }
 
-/// The bytes behind the first `skipped`, if any.
+/// The bytes after the first `skipped`, if any.
 fn behind(bytes: &[u8], skipped: usize) -> &[u8]
     ensures { result.now ≡ drop skipped bytes.now }
 {
@@ -37,7 +38,7 @@ fn behind(bytes: &[u8], skipped: usize) -> &[u8]
     }
 }
 
-/// The number of fewer bytes than sixteen, with zeros behind them.
+/// The number of fewer bytes than sixteen, with zeros after them.
 fn padded_key(bytes: &[u8]) -> u128
     requires { length bytes.now < 16 }
     ensures { result ≡ from_be_bytes w128 (spec.front_of_sixteen bytes.now) }

@@ -11,7 +11,8 @@ nothing_added P before after same none = record { now = []; trail = same ∙ sym
 pub no_syncs : (trail : List DeviceEvent) → Adds AsksSyncs trail trail
 no_syncs trail = record { now = []; trail = sym (append-nil trail); is = tt }
 
-pub one_sync : (e : DeviceEvent) → IsSync e → (before after : List DeviceEvent) → after ≡ before ++ e ∷ [] → Adds AsksSyncs before after
+pub one_sync : (e : DeviceEvent) → IsSync e → (before after : List DeviceEvent) → after ≡ before ++ e ∷ []
+    → Adds AsksSyncs before after
 one_sync e is before after added = record { now = e ∷ []; trail = added; is = (is, tt) }
 
 both_syncs : (xs ys : List DeviceEvent) → AreSyncs xs → AreSyncs ys → AreSyncs (xs ++ ys)

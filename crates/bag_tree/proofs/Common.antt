@@ -1,14 +1,21 @@
 -- The names that this crate's proofs cite, passed on from one place. Declares nothing.
-pub use Rattle.std.proofs.Common.{Bool, Contains, Err, IsTrue, IsUtf8, List, MutBor, None, Ok, Option, Result, Some, [], add-one, add_comm, ap, append-nil, append_assoc, arith, below_more, cond, drop, false, get_or, get_or-set_other, get_or-set_same, inl, inr, is_some, length, length-append, length-take-le, map, nat_eq, nat_lt, refl, rules, set, slice_index, subst, suc, sym, take, take-append-drop, true, unwrap_or, vec_len, zero, ℕ, ⊎_elim, ◌&&◌, ◌*◌, ◌++◌, ◌+◌, ◌-◌, ◌/◌, ◌<◌, ◌==◌, ◌^◌, ◌∙◌, ◌∷◌, ◌≡◌, ◌≢◌, ◌≤◌, ◌⊎◌}
+pub use Rattle.std.proofs.Common.{Bool, Contains, Err, IsTrue, IsUtf8, List, MutBor, None, Ok, Option, Result, Some, []}
+pub use Rattle.std.proofs.Common.{add-one, add_comm, ap, append-nil, append_assoc, arith, below_more, cond, drop, false}
+pub use Rattle.std.proofs.Common.{get_or, get_or-set_other, get_or-set_same, inl, inr, is_some, length, length-append}
+pub use Rattle.std.proofs.Common.{length-take-le, map, nat_eq, nat_lt, refl, rules, set, slice_index, subst, suc, sym}
+pub use Rattle.std.proofs.Common.{take, take-append-drop, true, unwrap_or, vec_len, zero, ℕ, ⊎_elim, ◌&&◌, ◌*◌, ◌++◌}
+pub use Rattle.std.proofs.Common.{◌+◌, ◌-◌, ◌/◌, ◌<◌, ◌==◌, ◌^◌, ◌∙◌, ◌∷◌, ◌≡◌, ◌≢◌, ◌≤◌, ◌⊎◌}
 pub use Rattle.std.proofs.Math.Dec.{T}
 pub use Rattle.std.proofs.lemmas.Bool.{and_from, and_parts, cases_lt, eqb-true, false≢true, lt-ltb, ltb-true, or_right}
 pub use Rattle.std.proofs.lemmas.Bool.Decides.{Decides-eqb, nat_tests}
 pub use Rattle.std.proofs.lemmas.Grind.{common_steps}
-pub use Rattle.std.proofs.lemmas.List.Elements.{All-append, All-cons, All-from_get_or, All-head, All-nil, All-tail, All-take}
+pub use Rattle.std.proofs.lemmas.List.Elements.{All-append, All-cons, All-from_get_or, All-head, All-nil, All-tail}
+pub use Rattle.std.proofs.lemmas.List.Elements.{All-take}
 pub use Rattle.std.proofs.lemmas.List.Prefix.{front_rest}
 pub use Rattle.std.proofs.lemmas.Slice.Eq.{bytes_eq-Decides, starts_is}
 pub use Rattle.std.specs.Cmp.Lexicographic.{nat_list_cmp_total}
-pub use Rattle.std.specs.FinMap.{IsAntisymmetric, entries_sorted, find, get-empty, get-entries, get-insert, is_sorted, nat_cmp-IsAntisymmetric, slice_cmp-IsAntisymmetric}
+pub use Rattle.std.specs.FinMap.{IsAntisymmetric, entries_sorted, find, get-empty, get-entries, get-insert, is_sorted}
+pub use Rattle.std.specs.FinMap.{nat_cmp-IsAntisymmetric, slice_cmp-IsAntisymmetric}
 pub use Rattle.std.specs.FinMap.Entries.{below_all, same_entries}
 pub use Rattle.std.specs.List.{AllByRecursion, before_first, position_or_len, starts_with}
 pub use Rattle.std.specs.Option.{option_map}
@@ -30,7 +37,8 @@ pub use denote.Steps.{closes, nothing, opens}
 pub use denote.Triple.Entry.{on_entry}
 pub use denote.Triple.Spec.{Meets, triple_of}
 pub use denote.Triple.Table.{entered}
-pub use denote.Triple.Walked.{Goes-none_slice, Goes-ref, Stays, ends_at, says, stay_none_slice, stay_ref, walk_Meets, walk_of, walked}
+pub use denote.Triple.Walked.{Goes-none_slice, Goes-ref, Stays, ends_at, says, stay_none_slice, stay_ref, walk_Meets}
+pub use denote.Triple.Walked.{walk_of, walked}
 pub use mir.Val.{Val, vcons, vnil, vptr, vstruct, vunit}
 pub use prog.Memory.{Memory}
 pub use prog.Routine.{Routine}
@@ -38,7 +46,8 @@ pub use prog.Wp.{Calls, Loops, Tables, WpFn}
 pub use seplogic.Ra.Ura.{Ura}
 pub use sound.WpLaws.{WpFn-mono}
 pub use types.ByLocal.{alloc_all, free_all, get, look_at, pass_all, sets}
-pub use types.Kit.{ !, by, done, feq_i, fjoin, fjoin3, frame, fsplit, fsplit3, join, keep, move, qed, raw, split, suffices, use1, ‵, ◌$◌, ◌∵◌, ◌⊛◌}
+pub use types.Kit.{ !, by, done, feq_i, fjoin, fjoin3, frame, fsplit, fsplit3, join, keep, move, qed, raw, split}
+pub use types.Kit.{suffices, use1, ‵, ◌$◌, ◌∵◌, ◌⊛◌}
 pub use types.Logic.{Logic}
 pub use types.Run.{and_then, enter, no_more, of_opd, returns, unit_lit}
 pub use Rattle.bag_tree.specs.Bag.{file, files_of}

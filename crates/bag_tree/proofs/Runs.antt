@@ -1,5 +1,6 @@
 -- How a run of events goes on.
-use Rattle.std.proofs.Common.{◌≡◌, ◌++◌, inl, inr, ⊎_elim, false, List, [], ◌∷◌, ◌⊎◌, refl, sym, ◌∙◌, subst, append-nil, append_assoc}
+use Rattle.std.proofs.Common.{◌≡◌, ◌++◌, inl, inr, ⊎_elim, false, List, [], ◌∷◌, ◌⊎◌, refl, sym, ◌∙◌, subst, append-nil}
+use Rattle.std.proofs.Common.{append_assoc}
 use Rattle.std.proofs.lemmas.Bool.{false_from_ne_true, false≢true}
 use Rattle.bag_tree.proofs.Events.{done_sync, durable_front, sync_durable, sync_lost}
 use Rattle.bag_tree.specs.Asked.{AreSyncs}
@@ -8,9 +9,12 @@ use Rattle.bag_tree.specs.Cut.{IsLost, IsPart, MayBecome, MayLeave, done, is_dur
 use Rattle.bag_tree.specs.declared.event.DeviceEvent.{DeviceEvent}
 
 -- What is left after these events has Q, by the events that come later: and at each moment it had P.
-pub record Reaches (P : Bag → Type 0) (bag : Bag) (trail : List DeviceEvent) (Q : List DeviceEvent → Bag → Type 0) : Type 0 where
-  pub each : (before after : List DeviceEvent) → trail ≡ before ++ after → (left : Bag) → MayLeave before bag left → P left
-  pub on : (later : List DeviceEvent) (left : Bag) → MayLeave (trail ++ later) bag left → (d : Bag) × Q later d × MayLeave later d left
+pub record Reaches (P : Bag → Type 0) (bag : Bag) (trail : List DeviceEvent)
+    (Q : List DeviceEvent → Bag → Type 0) : Type 0 where
+  pub each : (before after : List DeviceEvent) → trail ≡ before ++ after → (left : Bag) → MayLeave before bag left
+      → P left
+  pub on : (later : List DeviceEvent) (left : Bag) → MayLeave (trail ++ later) bag left
+      → (d : Bag) × Q later d × MayLeave later d left
   pub whole : (later : List DeviceEvent) (d : Bag) → Q later d → P d
 
 nothing_after : (before after : List DeviceEvent) → [] ≡ before ++ after → before ≡ []
@@ -18,7 +22,8 @@ nothing_after [] after e = refl
 nothing_after (x ∷ before) after e = cc
 
 -- a front of some events and one more is all of them, or a front of those
-split_last : (trail before after : List DeviceEvent) (e : DeviceEvent) → trail ++ e ∷ [] ≡ before ++ after → (before ≡ trail ++ e ∷ []) ⊎ ((rest : List DeviceEvent) × (trail ≡ before ++ rest))
+split_last : (trail before after : List DeviceEvent) (e : DeviceEvent) → trail ++ e ∷ [] ≡ before ++ after
+    → (before ≡ trail ++ e ∷ []) ⊎ ((rest : List DeviceEvent) × (trail ≡ before ++ rest))
 split_last trail [] after e is = inr (trail, refl)
 split_last [] (x ∷ before) after e is =
     let none : [] ≡ before ++ after = cc in
@@ -28,21 +33,27 @@ split_last [] (x ∷ before) after e is =
 split_last (y ∷ trail) (x ∷ before) after e is =
     let same : x ≡ y = cc in
     let rest_is : trail ++ e ∷ [] ≡ before ++ after = cc in
-    ⊎_elim (λ all. inl (λ i. same i ∷ all i)) (λ front. inr (front.0, λ i. sym same i ∷ front.1 i)) (split_last trail before after e rest_is)
+    ⊎_elim (λ all. inl (λ i. same i ∷ all i)) (λ front. inr (front.0, λ i. sym same i ∷ front.1 i))
+    (split_last trail before after e rest_is)
 
 module _ {P : Bag → Type 0} {bag : Bag} where
   -- before the first
-  pub started : (Q : List DeviceEvent → Bag → Type 0) → ((later : List DeviceEvent) → Q later bag) → ((later : List DeviceEvent) (d : Bag) → Q later d → P d) → Reaches P bag [] Q
+  pub started : (Q : List DeviceEvent → Bag → Type 0) → ((later : List DeviceEvent) → Q later bag)
+      → ((later : List DeviceEvent) (d : Bag) → Q later d → P d) → Reaches P bag [] Q
   started Q here whole = record {
-    each = λ before after is left may. whole [] left (subst (Q []) (sym (subst (λ es. MayLeave es bag left) (nothing_after before after is) may)) (here []));
+    each = λ before after is left may.
+        whole [] left (subst (Q []) (sym (subst (λ es. MayLeave es bag left) (nothing_after before after is) may))
+        (here []));
     on = λ later left may. (bag, here later, may);
     whole = whole;
   }
 
   -- one event more
-  pub one_more : (trail : List DeviceEvent) (Q R : List DeviceEvent → Bag → Type 0) (e : DeviceEvent) → Reaches P bag trail Q
+  pub one_more : (trail : List DeviceEvent) (Q R : List DeviceEvent → Bag → Type 0) (e : DeviceEvent)
+      → Reaches P bag trail Q
       → ((later : List DeviceEvent) (d : Bag) → Q (e ∷ later) d → R later (done e d))
-      → ((later : List DeviceEvent) (d part : Bag) → Q (e ∷ later) d → is_durable e later ≡ false → IsPart e d part → R later part)
+      → ((later : List DeviceEvent) (d part : Bag) → Q (e ∷ later) d → is_durable e later ≡ false → IsPart e d part
+      → R later part)
       → ((later : List DeviceEvent) (d left : Bag) → Q (e ∷ later) d → IsLost e d left → R later left)
       → ((later : List DeviceEvent) (d : Bag) → R later d → P d)
       → Reaches P bag (trail ++ e ∷ []) R
@@ -53,18 +64,24 @@ module _ {P : Bag → Type 0} {bag : Bag} where
       becomes later d next q (inr (inl (missing, is))) = part later d next q missing is
       becomes later d next q (inr (inr is)) = lost later d next q is
 
-      on : (later : List DeviceEvent) (left : Bag) → MayLeave ((trail ++ e ∷ []) ++ later) bag left → (d : Bag) × R later d × MayLeave later d left
+      on : (later : List DeviceEvent) (left : Bag) → MayLeave ((trail ++ e ∷ []) ++ later) bag left
+          → (d : Bag) × R later d × MayLeave later d left
       on later left may =
-          let from = so_far.on (e ∷ later) left (subst (λ es. MayLeave es bag left) (append_assoc trail (e ∷ []) later) may) in
+          let from =
+          so_far.on (e ∷ later) left (subst (λ es. MayLeave es bag left) (append_assoc trail (e ∷ []) later) may) in
           (from.2.0, becomes later from.0 from.2.0 from.1 from.2.1, from.2.2)
 
-      each : (before after : List DeviceEvent) → trail ++ e ∷ [] ≡ before ++ after → (left : Bag) → MayLeave before bag left → P left
+      each : (before after : List DeviceEvent) → trail ++ e ∷ [] ≡ before ++ after → (left : Bag)
+          → MayLeave before bag left → P left
       each before after is left may = ⊎_elim
-          (λ all. let from = on [] left (subst (λ es. MayLeave es bag left) (all ∙ sym (append-nil (trail ++ e ∷ []))) may) in subst P (sym from.2) (whole [] from.0 from.1))
+          (λ all. let from = on [] left
+          (subst (λ es. MayLeave es bag left) (all ∙ sym (append-nil (trail ++ e ∷ []))) may)
+          in subst P (sym from.2) (whole [] from.0 from.1))
           (λ front. so_far.each before front.0 front.1 left may)
           (split_last trail before after e is)
 
-  pub weaker : (trail : List DeviceEvent) (Q R : List DeviceEvent → Bag → Type 0) → Reaches P bag trail Q → ((later : List DeviceEvent) (d : Bag) → Q later d → R later d)
+  pub weaker : (trail : List DeviceEvent) (Q R : List DeviceEvent → Bag → Type 0) → Reaches P bag trail Q
+      → ((later : List DeviceEvent) (d : Bag) → Q later d → R later d)
       → ((later : List DeviceEvent) (d : Bag) → R later d → P d) → Reaches P bag trail R
   weaker trail Q R so_far more whole = record {
     each = so_far.each;
@@ -73,7 +90,8 @@ module _ {P : Bag → Type 0} {bag : Bag} where
   }
 
   -- events that change nothing
-  pub synced : (es trail : List DeviceEvent) (Q : List DeviceEvent → Bag → Type 0) → Reaches P bag trail Q → AreSyncs es → Reaches P bag (trail ++ es) (λ later d. Q (es ++ later) d)
+  pub synced : (es trail : List DeviceEvent) (Q : List DeviceEvent → Bag → Type 0) → Reaches P bag trail Q → AreSyncs es
+      → Reaches P bag (trail ++ es) (λ later d. Q (es ++ later) d)
   synced [] trail Q so_far are = subst (λ t. Reaches P bag t Q) (sym (append-nil trail)) so_far
   synced (e ∷ es) trail Q so_far are =
       let one = one_more trail Q (λ later d. Q (e ∷ later) d) e so_far
@@ -81,15 +99,21 @@ module _ {P : Bag → Type 0} {bag : Bag} where
       (λ later d part q missing is. absurd (sync_durable e later are.0 missing))
       (λ later d left q lost. absurd (sync_lost e d left are.0 lost))
       (λ later d q. so_far.whole (e ∷ later) d q) in
-      subst (λ t. Reaches P bag t (λ later d. Q (e ∷ (es ++ later)) d)) (append_assoc trail (e ∷ []) es) (synced es (trail ++ e ∷ []) (λ later d. Q (e ∷ later) d) one are.1)
+      subst (λ t. Reaches P bag t (λ later d. Q (e ∷ (es ++ later)) d)) (append_assoc trail (e ∷ []) es)
+      (synced es (trail ++ e ∷ []) (λ later d. Q (e ∷ later) d) one are.1)
 
 -- what is left after some events was left after the first of them, and then after the others
-pub left_between : (front back : List DeviceEvent) (first left : Bag) → MayLeave (front ++ back) first left → (d : Bag) × MayLeave front first d × MayLeave back d left
+pub left_between : (front back : List DeviceEvent) (first left : Bag) → MayLeave (front ++ back) first left
+    → (d : Bag) × MayLeave front first d × MayLeave back d left
 left_between [] back first left may = (first, refl, may)
 left_between (e ∷ front) back first left (next, becomes, may) =
     let more = left_between front back next left may in (more.0, (next, sooner becomes, more.1), more.2)
   where
     sooner : MayBecome e (front ++ back) first next → MayBecome e front first next
     sooner (inl all) = inl all
-    sooner (inr (inl (missing, part))) = inr (inl (false_from_ne_true _ (λ durable. false≢true (sym missing ∙ durable_front e front back durable)), part))
+    sooner (inr (inl (missing, part))) =
+        inr (inl (
+          false_from_ne_true _ (λ durable. false≢true (sym missing ∙ durable_front e front back durable)),
+          part,
+        ))
     sooner (inr (inr lost)) = inr (inr lost)

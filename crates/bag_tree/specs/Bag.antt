@@ -1,5 +1,6 @@
 -- A bag: files by their paths, and the folders of its base folder (RFC 8493, 2).
-use Rattle.std.specs.Prelude.{ℕ, ◌<◌, ◌≡◌, Bool, true, false, List, Option, Some, All, IsTrue, IsUtf8}
+use Rattle.std.specs.Prelude.{ℕ, ◌<◌, ◌≡◌, Bool, true, false, List, Option, Some, All, IsTrue}
+use Rattle.std.specs.Prelude.{IsUtf8}
 use Rattle.std.specs.FinMap as map
 use Rattle.std.specs.FinSet as set
 use Rattle.bag_text.specs.Text.{text_cmp}
@@ -33,6 +34,8 @@ files_of bag = map.entries bag.files
 -- what every tree's bag is: paths that are texts, and the folders that they need
 pub record IsBag (bag : Bag) : Type 0 where
   pub paths : (path : List ℕ) → HasFile bag path → IsTrue (is_path path) × IsUtf8 path
-  pub names : (name : List ℕ) → has_folder bag name ≡ true → IsTrue (is_base_name name) × IsUtf8 name
-  pub parents : (top rest : List ℕ) → IsTrue (is_base_name top) → HasFile bag (under top rest) → has_folder bag top ≡ true
+  pub names : (name : List ℕ) → has_folder bag name ≡ true
+      → IsTrue (is_base_name name) × IsUtf8 name
+  pub parents : (top rest : List ℕ) → IsTrue (is_base_name top) → HasFile bag (under top rest)
+      → has_folder bag top ≡ true
   pub bytes : (path content : List ℕ) → file bag path ≡ Some content → All (λ b. b < 256) content

@@ -31,6 +31,7 @@ abbrev pub sum_at : List (Option (List ℕ)) → Alg → Option (List ℕ)
 sum_at sums alg = slice_index_or sums (rank alg - 1) None
 
 -- these are the digests of the bytes: by each algorithm that was asked for, and by no other
-pub record AreSumsOf (asked : List Alg) (bytes : List ℕ) (sums : List (Option (List ℕ))) : Type 0 where
-  pub each : (alg : Alg) → Contains asked alg → sum_at sums alg ≡ Some (digest alg bytes)
-  pub no_other : (alg : Alg) → ¬ (Contains asked alg) → sum_at sums alg ≡ None
+pub record AreSumsOf (asked : List Alg) (bytes : List ℕ) (sums : List (Option (List ℕ))) : Type 0
+  where
+    pub each : (alg : Alg) → Contains asked alg → sum_at sums alg ≡ Some (digest alg bytes)
+    pub no_other : (alg : Alg) → ¬ (Contains asked alg) → sum_at sums alg ≡ None

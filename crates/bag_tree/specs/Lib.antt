@@ -1,6 +1,6 @@
 pub mod Asked
 pub mod Bag
-pub mod Calm
+pub mod NothingFailed
 pub mod Cause
 pub mod Changes
 pub mod Cut
@@ -9,7 +9,7 @@ pub mod FileSums
 pub mod Digests
 pub mod Hasher
 pub mod Heard
-pub mod LeftOut
+pub mod LeftOutSyncs
 pub mod Listing
 pub mod Moved
 pub mod Out

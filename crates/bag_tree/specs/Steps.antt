@@ -17,11 +17,16 @@ make_folder name bag = record { files = bag.files; folders = set.insert bag.fold
 
 -- the bag with what had a name in its base folder under a folder, with all that is below it
 abbrev pub move_in : List ℕ → List ℕ → Bag → Bag
-move_in top folder bag = record { files = moved top (under folder top) bag.files; folders = set.remove bag.folders top }
+move_in top folder bag =
+    record { files = moved top (under folder top) bag.files; folders = set.remove bag.folders top }
 
 -- the bag with another name for a folder of its base folder
 abbrev pub rename_folder : List ℕ → List ℕ → Bag → Bag
-rename_folder from to bag = record { files = moved from to bag.files; folders = set.remove (set.insert bag.folders to) from }
+rename_folder from to bag =
+    record {
+      files = moved from to bag.files;
+      folders = set.remove (set.insert bag.folders to) from;
+    }
 
 -- the bag with a file of these bytes
 abbrev pub create : List ℕ → List ℕ → Bag → Bag

@@ -7,9 +7,10 @@ use Rattle.bag_text.specs.declared.alg.Alg.{Alg}
 use Rattle.bag_tree.specs.Digest.{hash_len}
 use Rattle.bag_tree.specs.declared.sums.Sums.TheInside.{Inside}
 
--- the bytes of the digest by an algorithm, without the zeros behind them
+-- the bytes of the digest by an algorithm, without the zeros after them
 abbrev pub bytes_at : Inside → Alg → Option (List ℕ)
-bytes_at sums alg = option_map (take (hash_len alg)) (slice_index_or sums.digests (rank alg - 1) None)
+bytes_at sums alg =
+    option_map (take (hash_len alg)) (slice_index_or sums.digests (rank alg - 1) None)
 
 -- each digest in lower-case hex
 abbrev pub shown : Inside → List (Option (List ℕ))

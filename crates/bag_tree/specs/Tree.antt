@@ -1,10 +1,13 @@
 -- What the calls of a tree answer, and what they change.
-use Rattle.std.specs.Prelude.{◌≡◌, ℕ, ◌<◌, ◌≤◌, ◌↔◌, ◌⊎◌, zero, suc, Bool, true, false, IsTrue, List, [], ◌∷◌, ◌++◌, length, take, drop, Option, None, Some, is_some}
+use Rattle.std.specs.Prelude.{◌≡◌, ℕ, ◌<◌, ◌≤◌, ◌↔◌, ◌⊎◌, zero, suc, Bool, true, false, IsTrue}
+use Rattle.std.specs.Prelude.{List, [], ◌∷◌, ◌++◌, length, take, drop, Option, None, Some, is_some}
 use Rattle.std.specs.Option.{option_map}
 use Rattle.bag_tree.specs.Bag.{Bag, file}
 use Rattle.bag_tree.specs.declared.listing.FileEntry.{FileEntry}
 use Rattle.bag_tree.specs.declared.tree_fault.TreeFault.{TreeFault}
-use Rattle.bag_tree.specs.declared.tree_fault.TreeFault.TheVariants.{Device, Special, Name, NotFound, TooMany, Changed, NoneOpen, Memory, Exists}
+use Rattle.bag_tree.specs.declared.tree_fault.TreeFault.TheVariants.{Device, Special, Name}
+use Rattle.bag_tree.specs.declared.tree_fault.TreeFault.TheVariants.{NotFound, TooMany, Changed}
+use Rattle.bag_tree.specs.declared.tree_fault.TreeFault.TheVariants.{NoneOpen, Memory, Exists}
 use Rattle.bag_tree.specs.declared.event.DeviceEvent.{DeviceEvent}
 use Rattle.bag_tree.specs.declared.answer.Answer.{Answer}
 use Rattle.bag_tree.specs.declared.answer.Answer.TheVariants.{Given, AtEnd, Unlisted, Refused}
@@ -34,7 +37,7 @@ pub record TreeState : Type 0 where
   pub noted : Bool
 
 -- a call leaves the bag, what else stands there, and its honesty, and forgets no failure
-pub record Holds (old new : TreeState) : Type 0 where
+pub record LeavesBag (old new : TreeState) : Type 0 where
   pub bag : new.bag ≡ old.bag
   pub plain : new.plain ≡ old.plain
   pub honest : new.honest ≡ old.honest
@@ -56,13 +59,13 @@ pub record Keeps (old new : TreeState) : Type 0 where
 abbrev pub most_entries : ℕ
 most_entries = 16777216
 
--- the device failed, and of an honest tree something stands there that is no file and no folder, or has a name that
--- isn't UTF-8
+-- the device failed, and of an honest tree something stands there that is no file and no folder, or
+-- has a name that isn't UTF-8
 abbrev pub FailsOver : TreeState → TreeState → Type 0
 FailsOver old new = (old.failures < new.failures) × (IsTrue old.honest → old.plain ≡ false)
 
--- A call may answer this refusal: `absent` says when an honest tree may answer NotFound, and `closed` when no file is
--- open.
+-- A call may answer this refusal: `absent` says when an honest tree may answer NotFound, and
+-- `closed` when no file is open.
 abbrev pub MayRefuse : Type 0 → Type 0 → TreeState → TreeState → TreeFault → Type 0
 MayRefuse absent closed old new Device = old.failures < new.failures
 MayRefuse absent closed old new Special = FailsOver old new
@@ -84,7 +87,9 @@ IsOpen content rest = (bytes : List ℕ) × (content ≡ Some bytes) × (rest �
 
 -- a read of n bytes from the rest of a file, none exactly at the file's end
 pub record ReadsNext (rest after : Option (List ℕ)) (n : ℕ) (buffer : List ℕ) : Type 0 where
-  pub from_open : (bytes : List ℕ) → rest ≡ Some bytes → (take n buffer ≡ take n bytes) × (after ≡ Some (drop n bytes)) × (n ≤ length bytes) × ((n ≡ 0) ↔ (bytes ≡ []))
+  pub from_open : (bytes : List ℕ) → rest ≡ Some bytes
+      → (take n buffer ≡ take n bytes) × (after ≡ Some (drop n bytes)) × (n ≤ length bytes)
+      × ((n ≡ 0) ↔ (bytes ≡ []))
   pub some : (bytes : List ℕ) × (rest ≡ Some bytes)
 
 -- the entry is one of the bag's files
@@ -93,7 +98,8 @@ IsEntryOf bag entry = option_map length (file bag entry.path) ≡ Some entry.siz
 
 -- this file was opened, once at most, and no other
 abbrev pub OpensAtMost : TreeState → TreeState → List ℕ → Type 0
-OpensAtMost old new path = (new.openings ≡ old.openings) ⊎ (new.openings ≡ old.openings ++ path ∷ [])
+OpensAtMost old new path = (new.openings ≡ old.openings)
+    ⊎ (new.openings ≡ old.openings ++ path ∷ [])
 
 -- what a read of n bytes answers
 abbrev pub answer_of_read : ℕ → Answer
@@ -102,7 +108,8 @@ answer_of_read (suc n) = Given
 
 -- the reads of the open file gave more bytes than this size, or came to its end before it
 abbrev pub IsOtherSize : TreeState → ℕ → Type 0
-IsOtherSize state size = ((state.last ≡ Given) × (size < state.given)) ⊎ ((state.last ≡ AtEnd) × (state.given < size))
+IsOtherSize state size = ((state.last ≡ Given) × (size < state.given))
+    ⊎ ((state.last ≡ AtEnd) × (state.given < size))
 
 -- the fault with which a call was refused, be it a listing or another
 abbrev pub refusal_of : Answer → Option TreeFault
@@ -111,8 +118,8 @@ refusal_of AtEnd = None
 refusal_of (Unlisted fault) = Some fault
 refusal_of (Refused fault) = Some fault
 
--- Opening a file and reading it was answered so: the last call with this refusal, or with more or fewer bytes than a size.
--- Want of memory may be the caller's own.
+-- Opening a file and reading it was answered so: the last call with this refusal, or with more or
+-- fewer bytes than a size. Out of memory may be the caller's own.
 abbrev pub CameFromFile : TreeState → TreeFault → Type 0
 CameFromFile state Changed = (size : ℕ) × IsOtherSize state size
 CameFromFile state Memory = Unit {0}

@@ -6,19 +6,25 @@ use Rattle.bag_tree.specs.declared.listing.FileEntry.{FileEntry}
 use Rattle.bag_tree.specs.declared.tree_fault.TreeFault.{TreeFault}
 use Rattle.bag_tree.specs.declared.tree_fault.TreeFault.TheVariants.{Changed}
 
--- More or fewer bytes than were listed are Changed, which an honest tree shows only for a file of its bag that is listed
--- with another length; any other refusal but want of memory is the tree's own. The file that was opened stays open.
+-- More or fewer bytes than were listed are Changed, which an honest tree shows only for a file of
+-- its bag that is listed with another length; any other refusal but out of memory is the tree's
+-- own. The file that was opened stays open.
 abbrev pub MayRefuseWhole : TreeState → TreeState → FileEntry → TreeFault → Type 0
-MayRefuseWhole old new entry Changed = IsOtherSize new entry.size × (IsTrue old.honest → HasFile old.bag entry.path × (IsEntryOf old.bag entry → ⊥))
-MayRefuseWhole old new entry fault = MayRefuse (file old.bag entry.path ≡ None) ⊥ old new fault × CameFromFile new fault
+MayRefuseWhole old new entry Changed =
+    IsOtherSize new entry.size
+    × (IsTrue old.honest → HasFile old.bag entry.path × (IsEntryOf old.bag entry → ⊥))
+MayRefuseWhole old new entry fault =
+    MayRefuse (file old.bag entry.path ≡ None) ⊥ old new fault × CameFromFile new fault
 
--- The file was refused when these had been opened: either its opening, and no file is open, or a read of it, and it is still
--- open.
+-- The file was refused when these had been opened: either its opening, and no file is open, or a
+-- read of it, and it is still open.
 abbrev pub IsRefusedAt : List (List ℕ) → List ℕ → TreeState → Type 0
-IsRefusedAt opened path new = ((new.rest ≡ None) × (new.openings ≡ opened)) ⊎ (HasOpen new × (new.openings ≡ opened ++ path ∷ []))
+IsRefusedAt opened path new = ((new.rest ≡ None) × (new.openings ≡ opened))
+    ⊎ (HasOpen new × (new.openings ≡ opened ++ path ∷ []))
 
 -- these bytes of the file were read, and the rest follows
-pub record HasRead (content : Option (List ℕ)) (bytes : List ℕ) (rest : Option (List ℕ)) : Type 0 where
-  pub left : List ℕ
-  pub is_open : rest ≡ Some left
-  pub whole : content ≡ Some (bytes ++ left)
+pub record HasRead (content : Option (List ℕ)) (bytes : List ℕ) (rest : Option (List ℕ)) : Type 0
+  where
+    pub left : List ℕ
+    pub is_open : rest ≡ Some left
+    pub whole : content ≡ Some (bytes ++ left)

@@ -1,6 +1,6 @@
 //! The digests of a listed file.
 ghost use Rattle.std.specs.Prelude.{◌≡◌, ◌≢◌, ◌<◌, ◌∷◌, ◌++◌, [], length, IfOk, IfErr, OnOk, OnErr};
-ghost use Rattle.bag_tree.specs.Calm.{RefusesNothing};
+ghost use Rattle.bag_tree.specs.NothingFailed.{NothingFailed};
 ghost use Rattle.bag_tree.specs.Tree.{Keeps, OpensAtMost};
 ghost use Rattle.bag_tree.specs.Whole.{IsRefusedAt, MayRefuseWhole};
 ghost use Rattle.bag_tree.specs.declared.answer.Answer.TheVariants.{Refused};
@@ -12,8 +12,8 @@ use bag_text::AlgSet;
 
 /// The digests of a listed file by all algorithms of a set, in one pass (RFC 8493, 2.4).
 ///
-/// The file is opened once at most, and no other; it is read through the buffer. More or fewer bytes than it was listed with
-/// are `Changed`. No memory is taken but by the tree itself.
+/// The file is opened once at most, and no other; it is read through the buffer. More or fewer
+/// bytes than it was listed with are `Changed`. No memory is taken but by the tree itself.
 pub fn digest_file<T: Tree>(
     tree: &mut T,
     entry: &FileEntry,
@@ -22,13 +22,17 @@ pub fn digest_file<T: Tree>(
 ) -> Result<Sums, TreeFault>
     requires { 0 < length buffer.old }
     ensures keeps { Keeps (T.state tree.old) (T.state tree.new) }
-    ensures calm { OnOk result (RefusesNothing (T.state tree.old) (T.state tree.new)) }
+    ensures no_failure { OnOk result (NothingFailed (T.state tree.old) (T.state tree.new)) }
     ensures opens { OpensAtMost (T.state tree.old) (T.state tree.new) entry.now.path }
-    ensures opened { OnOk result ((T.state tree.new).openings ≡ (T.state tree.old).openings ++ entry.now.path ∷ []) }
+    ensures opened { OnOk result
+        ((T.state tree.new).openings ≡ (T.state tree.old).openings ++ entry.now.path ∷ []) }
     ensures sums { IfOk result (AreSumsOfFile (T.state tree.old) entry.now algs) }
-    ensures refused { IfErr result (MayRefuseWhole (T.state tree.old) (T.state tree.new) entry.now) }
-    ensures refused_at { OnErr result (IsRefusedAt (T.state tree.old).openings entry.now.path (T.state tree.new)) }
-    ensures answered { IfErr result (λ fault. fault ≢ Changed → (T.state tree.new).last ≡ Refused fault) }
+    ensures refused { IfErr result
+        (MayRefuseWhole (T.state tree.old) (T.state tree.new) entry.now) }
+    ensures refused_at { OnErr result
+        (IsRefusedAt (T.state tree.old).openings entry.now.path (T.state tree.new)) }
+    ensures answered { IfErr result (λ fault.
+        fault ≢ Changed → (T.state tree.new).last ≡ Refused fault) }
 {
     tree.open_file(entry.path.as_str())?;
     let mut digests = Digests::new(algs);

@@ -2,7 +2,7 @@
 ghost use Rattle.std.specs.Prelude.{◌≡◌, ℕ, List, [], ◌++◌, ◌≤◌, length, take};
 ghost use Rattle.bag_text.specs.declared.alg.Alg.{Alg as Named};
 ghost use Rattle.bag_tree.specs.Digest.{hash, hash_len};
-ghost use Rattle.bag_tree.specs.Hasher.{Holds};
+ghost use Rattle.bag_tree.specs.Hasher.{HoldsMessage};
 
 use bag_text::Alg;
 use md5::Md5;
@@ -26,7 +26,7 @@ pub(crate) enum Hasher {
 impl Hasher {
     /// A hasher of the empty message.
     pub(crate) fn new(alg: Alg) -> Hasher
-        ensures { Holds alg result [] }
+        ensures { HoldsMessage alg result [] }
     {
         match alg {
             Alg::Md5 => Hasher::Md5(md5::Digest::new()),
@@ -40,7 +40,8 @@ impl Hasher {
 
     /// Puts bytes at the end of the message.
     pub(crate) fn update(&mut self, bytes: &[u8])
-        ensures { (alg : Named) (message : List ℕ) → Holds alg self.old message → Holds alg self.new (message ++ bytes.now) }
+        ensures { (alg : Named) (message : List ℕ) → HoldsMessage alg self.old message
+            → HoldsMessage alg self.new (message ++ bytes.now) }
     {
         match self {
             Hasher::Md5(hasher) => md5::Digest::update(hasher, bytes),
@@ -52,9 +53,10 @@ impl Hasher {
         }
     }
 
-    /// The digest of the message, with zeros behind it.
+    /// The digest of the message, with zeros after it.
     pub(crate) fn finish(self) -> [u8; MOST_BYTES]
-        ensures { (alg : Named) (message : List ℕ) → Holds alg self message → take (hash_len alg) result ≡ hash alg message }
+        ensures { (alg : Named) (message : List ℕ) → HoldsMessage alg self message
+            → take (hash_len alg) result ≡ hash alg message }
     {
         match self {
             Hasher::Md5(hasher) => padded(&md5::Digest::finalize(hasher)),
@@ -67,7 +69,7 @@ impl Hasher {
     }
 }
 
-/// The bytes, with zeros behind them.
+/// The bytes, with zeros after them.
 fn padded(bytes: &[u8]) -> [u8; MOST_BYTES]
     requires { length bytes.now ≤ 64 }
     ensures { take (length bytes.now) result ≡ bytes.now }

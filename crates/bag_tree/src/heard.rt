@@ -4,8 +4,8 @@ ghost use Rattle.std.specs.Borrow.{ftrue};
 
 use std::marker::{Model, PhantomData};
 
-/// Bytes that were heard, as those that a writer answered that it took, after those that it held. Only clauses read them: it
-/// takes no memory.
+/// Bytes that were heard, as those that a writer answered that it took, after those that it held.
+/// Only clauses read them: it takes no memory.
 #[derive(Drop)]
 pub struct Heard {
     marker: PhantomData<u8>,
@@ -27,7 +27,7 @@ impl Heard {
         }
     }
 
-    /// Notes bytes behind those that were heard.
+    /// Notes bytes after those that were heard.
     pub fn note(&mut self, _bytes: &[u8])
         ensures { self.new.bytes ≡ self.old.bytes ++ _bytes.now }
     {}

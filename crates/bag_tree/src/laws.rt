@@ -1,15 +1,17 @@
 //! Laws of the definitions, each the contract of a function that does nothing.
 ghost use Rattle.bag_tree.specs.Listing.{ListingsAreOfTheBag};
 ghost use Rattle.std.specs.Prelude.{ℕ, List};
-ghost use Rattle.bag_tree.specs.LeftOut as left_out;
+ghost use Rattle.bag_tree.specs.LeftOutSyncs as left_out;
 ghost use Rattle.bag_tree.specs.Moved.{MovedIsThere};
 
-/// A listing of a bag, in the order of its paths, has the files of the bag and their sizes, and nothing else.
+/// A listing of a bag, in the order of its paths, has the files of the bag and their sizes, and
+/// nothing else.
 pub fn listings_are_of_the_bag()
     ensures { ListingsAreOfTheBag }
 {}
 
-/// A file that is moved stands at its new path then, and so do those below it, and no other is moved.
+/// A file that is moved stands at its new path then, and so do those below it, and no other is
+/// moved.
 pub fn moved_is_there()
     ensures { MovedIsThere (List ℕ) }
 {}

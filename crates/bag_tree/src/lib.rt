@@ -1,4 +1,5 @@
-//! What a tree of files is and how it can be changed, what takes the output, and the digests of files.
+//! What a tree of files is and how it can be changed, what takes the output, and the digests of
+//! files.
 //!
 //! ```
 //! let listing = tree.list()?;
@@ -9,14 +10,16 @@
 //! tree.move_in("readme.txt", "new")?;
 //! ```
 //!
-//! Of RFC 8493 it keeps the structure of a bag: files by path, and the payload folder (2, 2.1.2), and the checksum algorithms
-//! and how their values are spelled (2.4). With the steps of a `WriteTree` a folder is made a bag in place (2.1).
+//! Of RFC 8493 it keeps the structure of a bag: files by path, and the payload folder (2, 2.1.2),
+//! and the checksum algorithms and how their values are spelled (2.4). With the steps of a
+//! `WriteTree` a folder is made a bag in place (2.1).
 //!
-//! Over an honest tree what is listed or read is the bag, or a named refusal; over any tree each refusal is one that the call
-//! may answer, and openings and device failures are counted. An output tells what it took and whether it has refused. An
-//! answered step is its function on the bag of an honest tree; a refused one changes nothing, but that a refused `create` may
-//! leave a file of some first bytes. Digests are those of the joined bytes, by the algorithms asked for alone, however the
-//! reads are cut.
+//! Over an honest tree what is listed or read is the bag, or a named refusal; over any tree each
+//! refusal is one that the call may answer, and openings and device failures are counted. An output
+//! tells what it took and whether it has refused. An answered step is its function on the bag of an
+//! honest tree; a refused one changes nothing, but that a refused `create` may leave a file of some
+//! first bytes. Digests are those of the joined bytes, by the algorithms asked for alone, however
+//! the reads are cut.
 #![tactic(auto)]
 
 mod answer;

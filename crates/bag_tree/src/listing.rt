@@ -10,7 +10,8 @@ pub struct FileEntry {
     pub size: u64,
 }
 
-/// The files of a tree in the order of their paths, and whether its base folder has the folder `data`.
+/// The files of a tree in the order of their paths, and whether its base folder has the folder
+/// `data`.
 #[derive(Debug, Drop)]
 pub struct Listing {
     /// In the order of their paths by bytes.

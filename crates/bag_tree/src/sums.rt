@@ -1,5 +1,6 @@
 //! Digests that are done, and how they are spelled.
-ghost use Rattle.std.specs.Prelude.{◌≡◌, ◌≤◌, ◌↔◌, length, Some, None, MatchOption, IsTrue, IfOk, IsErrOf, string_bytes};
+ghost use Rattle.std.specs.Prelude.{◌≡◌, ◌≤◌, ◌↔◌, length, Some, None, MatchOption, IsTrue, IfOk};
+ghost use Rattle.std.specs.Prelude.{IsErrOf, string_bytes};
 ghost use Rattle.hex.specs.Hex.{encode_lower};
 ghost use Rattle.bag_tree.specs.Digest.{sum_at};
 ghost use Rattle.bag_tree.specs.Sums.{shown};
@@ -32,8 +33,8 @@ impl From<AllocError> for HexFault {
     }
 }
 
-/// The digests of bytes by the algorithms that were asked for. Contracts see them as a list with a place for each
-/// algorithm, in their order: its digest in lower-case hex, or nothing.
+/// The digests of bytes by the algorithms that were asked for. Contracts see them as a list with a
+/// place for each algorithm, in their order: its digest in lower-case hex, or nothing.
 #[derive(Debug, Drop)]
 pub struct Sums {
     digests: [Option<[u8; MOST_BYTES]>; Alg::ALL.len()],
@@ -49,7 +50,7 @@ impl Model for Sums {
 }
 
 impl Sums {
-    /// Digests by the algorithms in their order, each with zeros behind it.
+    /// Digests by the algorithms in their order, each with zeros after it.
     pub(crate) fn new(digests: [Option<[u8; MOST_BYTES]>; Alg::ALL.len()]) -> Sums
         ensures { result ≡ shown (record { digests = digests }) }
     {
@@ -67,8 +68,8 @@ impl Sums {
         }
     }
 
-    /// Whether the algorithm was asked for, and the text is its digest in lower-case hex. It takes no memory, so that a
-    /// digest that is right costs none.
+    /// Whether the algorithm was asked for, and the text is its digest in lower-case hex. It takes
+    /// no memory, so that a digest that is right costs none.
     pub fn is_spelled(&self, alg: Alg, text: &str) -> bool
         ensures { IsTrue result ↔ (sum_at self.now alg ≡ Some text.now) }
     {
@@ -90,7 +91,8 @@ impl Sums {
 
     /// The digest by this algorithm.
     fn bytes(&self, alg: Alg) -> Option<&[u8]>
-        ensures { MatchOption result (sum_at self.now alg ≡ None) (λ bytes. (length bytes.now ≤ 64) × (sum_at self.now alg ≡ Some (encode_lower bytes.now))) }
+        ensures { MatchOption result (sum_at self.now alg ≡ None) (λ bytes.
+            (length bytes.now ≤ 64) × (sum_at self.now alg ≡ Some (encode_lower bytes.now))) }
     {
         match &self.digests[usize::from(alg.rank()) - 1] {
             Some(digest) => Some(&digest[..alg.hex_len() / 2]),

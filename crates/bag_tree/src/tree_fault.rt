@@ -42,7 +42,7 @@ pub enum TreeFault {
 impl TreeFault {
     /// The word for this cause in the closing lines: ASCII, in lower case, with hyphens.
     pub fn word(self) -> &'static str
-        ensures { result.now ≡ spec.word self }
+        ensures { result.now ≡ spec.cause_word self }
     {
         match self {
             TreeFault::Device => said::DEVICE,
@@ -74,7 +74,8 @@ impl<T: Drop> From<AllocFailed<T>> for TreeFault {
     }
 }
 
-/// A refusal, and the file that it is about. The path is empty for a listing and for want of memory.
+/// A refusal, and the file that it is about. The path is empty for a listing and when out of
+/// memory.
 #[derive(Debug, Drop, Error)]
 #[error("{path} {cause}")]
 pub struct Stop {

@@ -1,7 +1,8 @@
 //! A whole file.
-ghost use Rattle.std.specs.Prelude.{◌≡◌, ◌≢◌, ◌<◌, ◌∷◌, ◌++◌, [], Some, IsTrue, IfOk, IfErr, OnOk, OnErr, length, vec_len};
+ghost use Rattle.std.specs.Prelude.{◌≡◌, ◌≢◌, ◌<◌, ◌∷◌, ◌++◌, [], Some, IsTrue, IfOk, IfErr, OnOk};
+ghost use Rattle.std.specs.Prelude.{OnErr, length, vec_len};
 ghost use Rattle.bag_tree.specs.Bag.{file};
-ghost use Rattle.bag_tree.specs.Calm.{MayTellMemory, RefusesNothing};
+ghost use Rattle.bag_tree.specs.NothingFailed.{MayReportMemory, NothingFailed};
 ghost use Rattle.bag_tree.specs.Tree.{Keeps, OpensAtMost};
 ghost use Rattle.bag_tree.specs.Whole.{IsRefusedAt, MayRefuseWhole};
 ghost use Rattle.bag_tree.specs.declared.tree_fault.TreeFault.TheVariants.{Memory};
@@ -12,24 +13,33 @@ use std::alloc::Global;
 /// How many bytes are read at once.
 const PIECE_BYTES: u64 = 65_536;
 
-/// The most bytes for which room is taken before they are read, as a listing may say more than is there.
+/// The most bytes for which room is taken before they are read, as a listing may say more than is
+/// there.
 const MOST_ROOM: u64 = 67_108_864;
 
-/// The bytes of a listed file, which is opened once at most. More or fewer bytes than it was listed with are `Changed`.
+/// The bytes of a listed file, which is opened once at most. More or fewer bytes than it was listed
+/// with are `Changed`.
 pub fn read_whole<T: Tree>(
     alloc: Global,
     tree: &mut T,
     entry: &FileEntry,
 ) -> Result<Vec<u8>, TreeFault>
     ensures keeps { Keeps (T.state tree.old) (T.state tree.new) }
-    ensures calm { OnOk result (RefusesNothing (T.state tree.old) (T.state tree.new)) }
+    ensures no_failure { OnOk result (NothingFailed (T.state tree.old) (T.state tree.new)) }
     ensures opens { OpensAtMost (T.state tree.old) (T.state tree.new) entry.now.path }
-    ensures opened { OnOk result ((T.state tree.new).openings ≡ (T.state tree.old).openings ++ entry.now.path ∷ []) }
+    ensures opened { OnOk result
+        ((T.state tree.new).openings ≡ (T.state tree.old).openings ++ entry.now.path ∷ []) }
     ensures size { IfOk result (λ bytes. vec_len bytes ≡ entry.now.size) }
-    ensures whole { IfOk result (λ bytes. IsTrue (T.state tree.old).honest → file (T.state tree.old).bag entry.now.path ≡ Some bytes.items) }
-    ensures refused { IfErr result (MayRefuseWhole (T.state tree.old) (T.state tree.new) entry.now) }
-    ensures refused_at { IfErr result (λ fault. fault ≢ Memory → IsRefusedAt (T.state tree.old).openings entry.now.path (T.state tree.new)) }
-    ensures wanting { IfErr result (λ fault. fault ≡ Memory → MayTellMemory (T.state tree.old) (T.state tree.new)) }
+    ensures whole { IfOk result (λ bytes.
+        IsTrue (T.state tree.old).honest
+        → file (T.state tree.old).bag entry.now.path ≡ Some bytes.items) }
+    ensures refused { IfErr result
+        (MayRefuseWhole (T.state tree.old) (T.state tree.new) entry.now) }
+    ensures refused_at { IfErr result (λ fault.
+        fault ≢ Memory → IsRefusedAt (T.state tree.old).openings entry.now.path
+        (T.state tree.new)) }
+    ensures wanting { IfErr result (λ fault.
+        fault ≡ Memory → MayReportMemory (T.state tree.old) (T.state tree.new)) }
 {
     let mut buffer = Vec::new(alloc);
     buffer.resize(piece_len(entry.size), 0)?;
@@ -38,7 +48,8 @@ pub fn read_whole<T: Tree>(
     read_pieces(tree, entry, bytes, buffer.as_mut_slice())
 }
 
-/// How many bytes of a file of a size are read at once: one more than it has, where it is small, which shows that it ends.
+/// How many bytes of a file of a size are read at once: one more than it has, where it is small,
+/// which shows that it ends.
 fn piece_len(size: u64) -> usize
     ensures { 0 < result }
 {
@@ -59,14 +70,20 @@ fn read_pieces<T: Tree>(
     requires empty { bytes.items ≡ [] }
     requires buffer { 0 < length buffer.old }
     ensures keeps { Keeps (T.state tree.old) (T.state tree.new) }
-    ensures calm { OnOk result (RefusesNothing (T.state tree.old) (T.state tree.new)) }
+    ensures no_failure { OnOk result (NothingFailed (T.state tree.old) (T.state tree.new)) }
     ensures opens { OpensAtMost (T.state tree.old) (T.state tree.new) entry.now.path }
-    ensures opened { OnOk result ((T.state tree.new).openings ≡ (T.state tree.old).openings ++ entry.now.path ∷ []) }
+    ensures opened { OnOk result
+        ((T.state tree.new).openings ≡ (T.state tree.old).openings ++ entry.now.path ∷ []) }
     ensures size { IfOk result (λ bytes. vec_len bytes ≡ entry.now.size) }
-    ensures whole { IfOk result (λ bytes. IsTrue (T.state tree.old).honest → file (T.state tree.old).bag entry.now.path ≡ Some bytes.items) }
-    ensures refused { IfErr result (MayRefuseWhole (T.state tree.old) (T.state tree.new) entry.now) }
-    ensures refused_at { OnErr result (IsRefusedAt (T.state tree.old).openings entry.now.path (T.state tree.new)) }
-    ensures wanting { IfErr result (λ fault. fault ≡ Memory → MayTellMemory (T.state tree.old) (T.state tree.new)) }
+    ensures whole { IfOk result (λ bytes.
+        IsTrue (T.state tree.old).honest
+        → file (T.state tree.old).bag entry.now.path ≡ Some bytes.items) }
+    ensures refused { IfErr result
+        (MayRefuseWhole (T.state tree.old) (T.state tree.new) entry.now) }
+    ensures refused_at { OnErr result
+        (IsRefusedAt (T.state tree.old).openings entry.now.path (T.state tree.new)) }
+    ensures wanting { IfErr result (λ fault.
+        fault ≡ Memory → MayReportMemory (T.state tree.old) (T.state tree.new)) }
 {
     tree.open_file(entry.path.as_str())?;
     loop {

@@ -1,7 +1,7 @@
 //! An output over a writer.
 ghost use Rattle.std.specs.Prelude.{◌≡◌, List, [], ℕ, Some, false};
 ghost use Rattle.std.specs.Option.{unwrap_or};
-ghost use Rattle.bag_tree.specs.Heard.{IsHeard, Tells};
+ghost use Rattle.bag_tree.specs.Heard.{HasReceived, ExposesBytes};
 
 use crate::heard::Heard;
 use crate::out::{Out, Refused};
@@ -9,21 +9,22 @@ use std::io::Write;
 
 /// Writes to a writer. After a write that it refuses, nothing more is written.
 ///
-/// The bytes that it took are those that the writer answered that it took, also where the writer tells nothing of itself,
-/// as the standard output. They come after those that the writer held at first, where it told them. A writer that
-/// always tells its bytes, as a `Vec`, holds exactly them.
+/// The bytes that it took are those that the writer answered that it took, also where the writer
+/// tells nothing of itself, as the standard output. They come after those that the writer held at
+/// first, where it told them. A writer that always tells its bytes, as a `Vec`, holds exactly them.
 #[derive(Drop)]
 pub struct WriterOut<W: Write> {
     writer: W,
     refused: bool,
     heard: Heard,
-    ghost told: { IsHeard W.contents writer heard.bytes },
+    ghost told: { HasReceived W.contents writer heard.bytes },
 }
 
 impl<W: Write> WriterOut<W> {
     /// An output over a writer, which hasn't refused.
     pub fn new(writer: W) -> WriterOut<W>
-        ensures taken { (⟦<WriterOut<W> as Out>⟧.state result).taken ≡ Some (unwrap_or (W.contents writer) []) }
+        ensures taken { (⟦<WriterOut<W> as Out>⟧.state result).taken
+            ≡ Some (unwrap_or (W.contents writer) []) }
         ensures ready { (⟦<WriterOut<W> as Out>⟧.state result).has_refused ≡ false }
     {
         WriterOut::holding(writer)
@@ -32,7 +33,7 @@ impl<W: Write> WriterOut<W> {
     /// An output over a writer that holds these bytes, where it tells.
     fn holding(writer: W) -> WriterOut<W>
         ghost held: { List ℕ }
-        requires { IsHeard W.contents writer held }
+        requires { HasReceived W.contents writer held }
         ensures taken { (⟦<WriterOut<W> as Out>⟧.state result).taken ≡ Some held }
         ensures ready { (⟦<WriterOut<W> as Out>⟧.state result).has_refused ≡ false }
     {
@@ -45,7 +46,8 @@ impl<W: Write> WriterOut<W> {
 
     /// The writer, which has what was taken.
     pub fn into_inner(self) -> W
-        ensures { Tells W.contents → W.contents result ≡ (⟦<WriterOut<W> as Out>⟧.state self).taken }
+        ensures { ExposesBytes W.contents
+            → W.contents result ≡ (⟦<WriterOut<W> as Out>⟧.state self).taken }
     {
         let WriterOut {
             writer,

@@ -1,18 +1,28 @@
 -- The names that this crate's proofs cite, passed on from one place. Declares nothing.
-pub use Rattle.std.proofs.Common.{Bool, Contains, IsSome, IsTrue, List, None, Option, Some, [], ap, append-nil, append_assoc, arith, codes, cond, drop, false, filter, get_or, inl, inr, is_some, length, length-drop, map, min, nat_le, nat_lt, not, refl, rules, slice_get, string_bytes, subst, suc, sym, take, take-append-drop, true, true≢false, unwrap_or, vec_len, zero, ℕ, ◌&&◌, ◌*◌, ◌++◌, ◌+◌, ◌-◌, ◌<◌, ◌==◌, ◌∙◌, ◌∷◌, ◌≡◌, ◌≢◌, ◌≤◌, ◌⊎◌}
+pub use Rattle.std.proofs.Common.{Bool, Contains, IsSome, IsTrue, List, None, Option, Some, [], ap, append-nil}
+pub use Rattle.std.proofs.Common.{append_assoc, arith, codes, cond, drop, false, filter, get_or, inl, inr, is_some}
+pub use Rattle.std.proofs.Common.{length, length-drop, map, min, nat_le, nat_lt, not, refl, rules, slice_get}
+pub use Rattle.std.proofs.Common.{string_bytes, subst, suc, sym, take, take-append-drop, true, true≢false, unwrap_or}
+pub use Rattle.std.proofs.Common.{vec_len, zero, ℕ, ◌&&◌, ◌*◌, ◌++◌, ◌+◌, ◌-◌, ◌<◌, ◌==◌, ◌∙◌, ◌∷◌, ◌≡◌, ◌≢◌, ◌≤◌, ◌⊎◌}
 pub use Rattle.std.proofs.Math.Seq.{take-append-add, take-append_seam}
-pub use Rattle.std.proofs.lemmas.Bool.{and_parts, and_right, cases_Bool, cases_lt, eq-eqb, eqb-true, false_from_ne_true, lt-ltb, ltb-true, not-true, or_cases, or_left, or_parts, or_right}
+pub use Rattle.std.proofs.lemmas.Bool.{and_parts, and_right, cases_Bool, cases_lt, eq-eqb, eqb-true, false_from_ne_true}
+pub use Rattle.std.proofs.lemmas.Bool.{lt-ltb, ltb-true, not-true, or_cases, or_left, or_parts, or_right}
 pub use Rattle.std.proofs.lemmas.Bool.Decides.{nat_tests}
 pub use Rattle.std.proofs.lemmas.Grind.{common_steps}
-pub use Rattle.std.proofs.lemmas.List.{append_cancel_left, drop-drop, drop-map, drop-take, drop_all, drop_at, drop_more, get_or_default, length-append, length-map, length-take-le, map-append, nil_from_length, same_from_push, take-map, take-take, take_all, take_at}
-pub use Rattle.std.proofs.lemmas.List.Elements.{All-append, All-contains, All-filter, All-from_recursion, All-get_or, All-nil, All-take, Contains-push, Contains-push_cases, filter-append, recursion_from_All}
+pub use Rattle.std.proofs.lemmas.List.{append_cancel_left, drop-drop, drop-map, drop-take, drop_all, drop_at, drop_more}
+pub use Rattle.std.proofs.lemmas.List.{get_or_default, length-append, length-map, length-take-le, map-append}
+pub use Rattle.std.proofs.lemmas.List.{nil_from_length, same_from_push, take-map, take-take, take_all, take_at}
+pub use Rattle.std.proofs.lemmas.List.Elements.{All-append, All-contains, All-filter, All-from_recursion, All-get_or}
+pub use Rattle.std.proofs.lemmas.List.Elements.{All-nil, All-take, Contains-push, Contains-push_cases, filter-append}
+pub use Rattle.std.proofs.lemmas.List.Elements.{recursion_from_All}
 pub use Rattle.std.proofs.lemmas.List.Filters.{length-filter_both}
 pub use Rattle.std.proofs.lemmas.List.Kept.{IsStrictlySortedBy-filter}
 pub use Rattle.std.proofs.lemmas.List.Sums.{sum_by-cons, sum_by-take-le, sum_by_more}
 pub use Rattle.std.proofs.lemmas.Option.{get_or_from_slice_get, slice_get-map, slice_get_within}
 pub use Rattle.std.proofs.lemmas.Map.Keys.{Less-from_sorted}
 pub use Rattle.std.proofs.lemmas.Map.Views.{All-before_last}
-pub use Rattle.std.proofs.lemmas.Result.{IfErr-weaker, IfOk-weaker, MatchResult-weaker, err_from_is_err_and, on_err_weaker, on_ok_weaker}
+pub use Rattle.std.proofs.lemmas.Result.{IfErr-weaker, IfOk-weaker, MatchResult-weaker, err_from_is_err_and}
+pub use Rattle.std.proofs.lemmas.Result.{on_err_weaker, on_ok_weaker}
 pub use Rattle.std.specs.Borrow.{Bor}
 pub use Rattle.std.specs.Cmp.{IsTotalOrder, nat_cmp_is}
 pub use Rattle.std.specs.Cmp.Lexicographic.{nat_list_cmp_total}
@@ -43,7 +53,8 @@ pub use Rattle.bag_facts.specs.declared.options.Depth.TheVariants.{Declaration, 
 pub use Rattle.bag_facts.specs.declared.options.Options.{Options}
 pub use Rattle.bag_profile.specs.Profile.{Profile}
 pub use Rattle.bag_read.specs.declared.kind.Kind.TheVariants.{Payload, Tag}
-pub use Rattle.bag_report.proofs.Asked.{asked_at_full, asked_clash, asked_is_reached, not_reached, reads_more, seven_not_reached}
+pub use Rattle.bag_report.proofs.Asked.{asked_at_full, asked_clash, asked_is_reached, not_reached, reads_more}
+pub use Rattle.bag_report.proofs.Asked.{seven_not_reached}
 pub use Rattle.bag_report.proofs.Filtered.{filtered_list}
 pub use Rattle.bag_report.proofs.Found.{is_of_completeness, is_of_validity, of_completeness, of_validity}
 pub use Rattle.bag_report.specs.Report.{Check, IsReport, IsReported, IsStageOf, above, first, is_above}
@@ -52,13 +63,16 @@ pub use Rattle.bag_stages.proofs.InFile.{less_by_path}
 pub use Rattle.bag_stages.proofs.NamesByKind.{names_by_kind}
 pub use Rattle.bag_stages.proofs.ValidityFaults.{validity_of_stage_seven}
 pub use Rattle.bag_stages.specs.ClashStage.{IsSoughtClash}
-pub use Rattle.bag_stages.specs.CompletenessFaults.{IsIncomplete, IsMissing, IsV10LeftOutByOne, IsV097LeftOutByAll, IsWrong}
+pub use Rattle.bag_stages.specs.CompletenessFaults.{IsIncomplete, IsMissing, IsV10LeftOutByOne, IsV097LeftOutByAll}
+pub use Rattle.bag_stages.specs.CompletenessFaults.{IsWrong}
 pub use Rattle.bag_stages.specs.SumFaults.{AreSumsBy, differing, differing_code, faults_of_bytes, sum_differs}
 pub use Rattle.bag_stages.specs.SummedFiles.{IsNamed, IsSummed}
 pub use Rattle.bag_stages.specs.TagFiles.{Names, named_in}
 pub use Rattle.bag_stages.specs.ValidityStage.{IsFaultOfFile, IsOfValidity}
 pub use Rattle.bag_stages.specs.declared.expected.Expected.{Expected}
-pub use Rattle.bag_text.proofs.ListOf.{contains_back, contains_behind, contains_cases, contains_either, contains_first, contains_front, contains_nothing, each_from_members, joined, member_has, nothing_listed, one_list, one_listed, same_lists, same_members}
+pub use Rattle.bag_text.proofs.ListOf.{contains_back, contains_behind, contains_cases, contains_either, contains_first}
+pub use Rattle.bag_text.proofs.ListOf.{contains_front, contains_nothing, each_from_members, joined, member_has}
+pub use Rattle.bag_text.proofs.ListOf.{nothing_listed, one_list, one_listed, same_lists, same_members}
 pub use Rattle.bag_text.specs.Alg.{algs}
 pub use Rattle.bag_text.specs.Code.{stage}
 pub use Rattle.bag_text.specs.Order.{IsListOf}
@@ -68,7 +82,7 @@ pub use Rattle.bag_text.specs.declared.code.Code.{Code}
 pub use Rattle.bag_text.specs.declared.code.Code.TheVariants.{NameClash}
 pub use Rattle.bag_tree.proofs.Calm.{memory_then, nothing_asked, nothing_then}
 pub use Rattle.bag_tree.specs.Bag.{Bag, HasFile, IsBag, file, has_file}
-pub use Rattle.bag_tree.specs.Calm.{MayTellMemory, RefusesNothing}
+pub use Rattle.bag_tree.specs.NothingFailed.{MayReportMemory, NothingFailed}
 pub use Rattle.bag_tree.specs.Out.{OutState}
 pub use Rattle.bag_tree.specs.Tree.{IsEntryOf, Keeps, OpensAtMost, TreeState}
 pub use Rattle.bag_tree.specs.Whole.{IsRefusedAt, MayRefuseWhole}
@@ -78,27 +92,35 @@ pub use Rattle.bag_tree.specs.declared.tree_fault.TreeFault.{TreeFault}
 pub use Rattle.bag_tree.specs.declared.tree_fault.TreeFault.TheVariants.{Changed, Memory}
 pub use Rattle.bag_walk.specs.Closing.{closing, count_of}
 pub use Rattle.bag_walk.specs.Completeness.{AreAbove, IsAbove, IsOfAlg, IsOfSomeAlg, IsStageAbove, TakesLeast}
-pub use Rattle.bag_walk.specs.Ending.{IsAnswered, IsCutAt, MayEnd, ReachesEnd, Wrote, ended, ideal, limit_of, lines_of_run, written, written_line}
+pub use Rattle.bag_walk.specs.Ending.{IsAnswered, IsCutAt, MayEnd, ReachesEnd, Wrote, ended, ideal, limit_of}
+pub use Rattle.bag_walk.specs.Ending.{lines_of_run, written, written_line}
 pub use Rattle.bag_walk.specs.Files.{AreToSum, IsNamedAhead, IsToSum, TellsItsFaults}
 pub use Rattle.bag_walk.specs.Filled.{awaits_second, is_both}
-pub use Rattle.bag_walk.specs.Lines.{IsLastLine, IsLastOf, cursor_behind}
+pub use Rattle.bag_walk.specs.Lines.{IsLastLine, IsLastOf, cursor_after}
 pub use Rattle.bag_walk.specs.Merge.{fronts, least_of, union, union_is}
-pub use Rattle.bag_walk.specs.Openings.{IsBeforeFile, IsReached, NoneBehind, NoneWaits, Opens, OpensAgain, OpensNoneBehind, StillWait}
+pub use Rattle.bag_walk.specs.Openings.{IsBeforeFile, IsReached, NoFaultBefore, NoFaultBeforeStop, Opens, OpensAgain}
+pub use Rattle.bag_walk.specs.Openings.{OpensNoFileEarly, StillWait}
 pub use Rattle.bag_walk.specs.Run.{AreFirst, EndsAt, IsAsked, IsRun, IsRunByReport, SeesOneBag, check_of}
-pub use Rattle.bag_walk.specs.RunOpenings.{AreEarly, IsListed, LooksNoFurther, OpensInRun, OpensInTurn, OpensListed, OpensNonePassed, OpensUpToSummed, StopsInTurn, written_before}
-pub use Rattle.bag_walk.specs.Segment.{ClosesSegment, EndsSegment, IfUnread, IsRead, IsSegment, MayStopRun, MayStopWalk, StopsAt, WritesCalmly, WroteFirst, looked_past, still_to_come}
-pub use Rattle.bag_walk.specs.SegmentOpenings.{AreListed, EachBagHasListedFiles, IsListedFile, OpensFew, OpensInSegment, not_passed}
+pub use Rattle.bag_walk.specs.RunOpenings.{AreEarly, IsListed, LooksNoFurther, OpensInRun, OpensInTurn, OpensListed}
+pub use Rattle.bag_walk.specs.RunOpenings.{OpensNonePassed, OpensUpToSummed, StopsInTurn, written_before}
+pub use Rattle.bag_walk.specs.Segment.{ClosesSegment, EndsSegment, IfUnread, IsRead, IsSegment, MayStopRun, MayStopWalk}
+pub use Rattle.bag_walk.specs.Segment.{StopsAt, WritesWithoutFailure, WroteFirst, looked_past, still_to_come}
+pub use Rattle.bag_walk.specs.SegmentOpenings.{AreListed, EachBagHasListedFiles, IsListedFile, OpensFew, OpensInSegment}
+pub use Rattle.bag_walk.specs.SegmentOpenings.{not_passed}
 pub use Rattle.bag_walk.specs.SegmentChain.{Chain, Progress, RunsInSegments, RunsSegment, before_segments}
-pub use Rattle.bag_walk.specs.Segments.{AreSegments, ForReport, ForReportFrom, ContinuesReport, IsStopped, MayLose, RunsOfSegments, SegmentsFrom, SegmentsJoin, WroteSegments, cost, is_last, outcome_at}
+pub use Rattle.bag_walk.specs.Segments.{AreSegments, ForReport, ForReportFrom, ContinuesReport, IsStopped, MayLose}
+pub use Rattle.bag_walk.specs.Segments.{RunsOfSegments, SegmentsFrom, SegmentsJoin, WroteSegments, cost, is_last}
+pub use Rattle.bag_walk.specs.Segments.{outcome_at}
 pub use Rattle.bag_walk.specs.Shown.{front_is, none_is}
 pub use Rattle.bag_walk.specs.Source.{AllBelow, MayStopAnyway, MayStopFilling, Sees, Where, first_of, rest_of}
 pub use Rattle.bag_walk.specs.Start.{AreAheadBefore, IsListedToOpen, IsStarted, IsToOpen}
-pub use Rattle.bag_walk.specs.Steps.{Gives, IsAhead, IsNextOf, LendsNext, MayStopStep, StandsAt, left, shown, shown_by, to_give, went}
+pub use Rattle.bag_walk.specs.Steps.{Gives, IsAhead, IsNextOf, LendsNext, MayStopStep, IsReportAfter, left, shown}
+pub use Rattle.bag_walk.specs.Steps.{shown_by, to_give, went}
 pub use Rattle.bag_walk.specs.Stops.{IfStopped, MayStop}
 pub use Rattle.bag_walk.specs.ToSum.{faults_at, faults_in, faults_of_files, paths_to_sum}
 pub use Rattle.bag_walk.specs.Union.{first_of_union, rest_alone, rest_equal, rest_greater, rest_less, rest_other}
 pub use Rattle.bag_walk.specs.Validity.{AreFilesOf, IsOfBag, is_passed}
-pub use Rattle.bag_walk.specs.Write.{IsCut, IsTaken, Writes, text_of}
+pub use Rattle.bag_walk.specs.Write.{IsCut, IsTaken, Writes, joined_pieces}
 pub use Rattle.bag_walk.specs.Writer.{Closes, WritesReport}
 pub use Rattle.bag_walk.specs.declared.outcome.Outcome.{Outcome}
 pub use Rattle.bag_walk.specs.declared.outcome.Outcome.TheVariants.{Stopped, Unread, Unwritten}

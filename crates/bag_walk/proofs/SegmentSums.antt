@@ -1,10 +1,14 @@
 -- What segments come to where none is unread, and what an answer says of those that are.
-use Rattle.bag_walk.proofs.Common.{◌≡◌, ◌≢◌, ◌<◌, ◌≤◌, ◌+◌, ◌-◌, ◌∷◌, inl, inr, ℕ, cond, List, [], None, length, min, take, nat_le, arith, sum, nat_tests, sum_by-cons, Fault, Stop, count_of, ended, IfStopped, Outcome, Stopped, Unread, Unwritten, SegmentsFrom, cost, MayLose, refl, sym, ap, ◌∙◌, subst}
+use Rattle.bag_walk.proofs.Common.{◌≡◌, ◌≢◌, ◌<◌, ◌≤◌, ◌+◌, ◌-◌, ◌∷◌, inl, inr, ℕ, cond, List, [], None, length, min}
+use Rattle.bag_walk.proofs.Common.{take, nat_le, arith, sum, nat_tests, sum_by-cons, Fault, Stop, count_of, ended}
+use Rattle.bag_walk.proofs.Common.{IfStopped, Outcome, Stopped, Unread, Unwritten, SegmentsFrom, cost, MayLose, refl}
+use Rattle.bag_walk.proofs.Common.{sym, ap, ◌∙◌, subst}
 use Rattle.bag_walk.specs.SegmentLaws.{AnswersTellUnread, SegmentsAddUp}
 
 abbrev AddUp : List Fault → ℕ → ℕ → ℕ → ℕ → Outcome → Type 0
 AddUp report all u u' n' outcome' =
-    (u' ≡ u) × (n' ≡ min all (length report)) × (outcome' ≡ cond (nat_le all (length report)) (Stopped all) (ended None (length report)))
+    (u' ≡ u) × (n' ≡ min all (length report))
+    × (outcome' ≡ cond (nat_le all (length report)) (Stopped all) (ended None (length report)))
 
 counts_ended : (n : ℕ) → count_of (ended None n) ≡ n
 counts_ended n = grind arith
@@ -14,15 +18,24 @@ module _ (report : List Fault) (Stops : Stop → Type 0) where
   past_end all u past = grind (arith, nat_le, nat_tests)
 
   -- each unread limit is short of one fault at least
-  short : (limits : List ℕ) (u r n : ℕ) (outcome : Outcome) (u' r' n' : ℕ) (outcome' : Outcome) → SegmentsFrom report Stops u r n outcome limits u' r' n' outcome'
+  short : (limits : List ℕ) (u r n : ℕ) (outcome : Outcome) (u' r' n' : ℕ) (outcome' : Outcome)
+      → SegmentsFrom report Stops u r n outcome limits u' r' n' outcome'
       → (r ≤ r') × (n' + r' ≤ n + (sum limits + r))
   short [] u r n outcome u' r' n' outcome' (lost, unread, count, last) = grind arith
   short (m ∷ limits) u r n outcome u' r' n' outcome' (inl (full, rest)) =
-      grind (arith, sum_by-cons (λ (x : ℕ). x) m limits, short limits u r (n + m) (Stopped (n + m)) u' r' n' outcome' rest)
+      grind (
+        arith,
+        sum_by-cons (λ (x : ℕ). x) m limits,
+        short limits u r (n + m) (Stopped (n + m)) u' r' n' outcome' rest,
+      )
   short (m ∷ limits) u r n outcome u' r' n' outcome' (inr (inl (less, lost, unread, count, last))) =
       grind (arith, sum_by-cons (λ (x : ℕ). x) m limits)
   short (m ∷ limits) u r n outcome u' r' n' outcome' (inr (inr (inl (j, stop, less, within, stops, rest)))) =
-      grind (arith, sum_by-cons (λ (x : ℕ). x) m limits, short limits (u + cost stop.cause) (r + 1) (n + j) (Unread (n + j) stop) u' r' n' outcome' rest)
+      grind (
+        arith,
+        sum_by-cons (λ (x : ℕ). x) m limits,
+        short limits (u + cost stop.cause) (r + 1) (n + j) (Unread (n + j) stop) u' r' n' outcome' rest,
+      )
   short (m ∷ limits) u r n outcome u' r' n' outcome' (inr (inr (inr (j, less, within, lost, unread, count, last)))) =
       grind (arith, sum_by-cons (λ (x : ℕ). x) m limits)
 
@@ -32,30 +45,38 @@ module _ (report : List Fault) (Stops : Stop → Type 0) where
   counts [] u r n outcome u' r' n' outcome' is (lost, unread, count, last) = ap count_of last ∙ is ∙ sym count
   counts (m ∷ limits) u r n outcome u' r' n' outcome' is (inl (full, rest)) =
       counts limits u r (n + m) (Stopped (n + m)) u' r' n' outcome' refl rest
-  counts (m ∷ limits) u r n outcome u' r' n' outcome' is (inr (inl (less, lost, unread, count, last))) = rw (last, count) (counts_ended (length report))
+  counts (m ∷ limits) u r n outcome u' r' n' outcome' is (inr (inl (less, lost, unread, count, last))) =
+      rw (last, count) (counts_ended (length report))
   counts (m ∷ limits) u r n outcome u' r' n' outcome' is (inr (inr (inl (j, stop, less, within, stops, rest)))) =
       counts limits (u + cost stop.cause) (r + 1) (n + j) (Unread (n + j) stop) u' r' n' outcome' refl rest
   counts (m ∷ limits) u r n outcome u' r' n' outcome' is (inr (inr (inr (j, less, within, lost, unread, count, last)))) = rw (last, count) refl
 
-  from : (limits : List ℕ) (u r n u' r' n' : ℕ) (outcome' : Outcome) → n ≤ length report → r' ≡ r → ((k : ℕ) → outcome' ≢ Unwritten k)
-      → SegmentsFrom report Stops u r n (Stopped n) limits u' r' n' outcome' → AddUp report (n + sum limits) u u' n' outcome'
+  from : (limits : List ℕ) (u r n u' r' n' : ℕ) (outcome' : Outcome) → n ≤ length report → r' ≡ r
+      → ((k : ℕ) → outcome' ≢ Unwritten k)
+      → SegmentsFrom report Stops u r n (Stopped n) limits u' r' n' outcome'
+      → AddUp report (n + sum limits) u u' n' outcome'
   from [] u r n u' r' n' outcome' within none written (lost, unread, count, last) = grind (arith, nat_le, nat_tests)
   from (m ∷ limits) u r n u' r' n' outcome' within none written (inl (full, rest)) =
       grind (arith, sum_by-cons (λ (x : ℕ). x) m limits, from limits u r (n + m) u' r' n' outcome')
   from (m ∷ limits) u r n u' r' n' outcome' within none written (inr (inl (less, lost, unread, count, last))) =
       grind (arith, past_end, sum_by-cons (λ (x : ℕ). x) m limits)
   from (m ∷ limits) u r n u' r' n' outcome' within none written (inr (inr (inl (j, stop, less, most, stops, rest)))) =
-      let more = short limits (u + cost stop.cause) (r + 1) (n + j) (Unread (n + j) stop) u' r' n' outcome' rest in absurd (omega (arith, none, more.0))
-  from (m ∷ limits) u r n u' r' n' outcome' within none written (inr (inr (inr unwritten))) = absurd (written _ unwritten.6)
+      let more =
+      short limits (u + cost stop.cause) (r + 1) (n + j) (Unread (n + j) stop) u' r' n' outcome' rest
+      in absurd (omega (arith, none, more.0))
+  from (m ∷ limits) u r n u' r' n' outcome' within none written (inr (inr (inr unwritten))) =
+      absurd (written _ unwritten.6)
 
   -- where the last limit alone isn't 0
-  alone : (m : ℕ) (limits : List ℕ) (u r n : ℕ) (outcome : Outcome) (u' r' n' : ℕ) (outcome' : Outcome) → sum (take (length limits) (m ∷ limits)) ≡ 0
+  alone : (m : ℕ) (limits : List ℕ) (u r n : ℕ) (outcome : Outcome) (u' r' n' : ℕ) (outcome' : Outcome)
+      → sum (take (length limits) (m ∷ limits)) ≡ 0
       → IfStopped outcome' (λ stop. ⊥) → SegmentsFrom report Stops u r n outcome (m ∷ limits) u' r' n' outcome' → r' ≡ r
   alone m [] u r n outcome u' r' n' outcome' none read (inl (full, (lost, unread, count, last))) = unread
   alone m [] u r n outcome u' r' n' outcome' none read (inr (inr (inl (j, stop, less, most, stops, (lost, unread, count, last))))) =
       absurd (subst (λ (o : Outcome). IfStopped o (λ stop. ⊥)) last read)
   alone m (next ∷ limits) u r n outcome u' r' n' outcome' none read (inl (full, rest)) =
-      alone next limits u r (n + m) (Stopped (n + m)) u' r' n' outcome' (omega (arith, none, sum_by-cons (λ (x : ℕ). x) m (take (length limits) (next ∷ limits)))) read rest
+      alone next limits u r (n + m) (Stopped (n + m)) u' r' n' outcome'
+      (omega (arith, none, sum_by-cons (λ (x : ℕ). x) m (take (length limits) (next ∷ limits)))) read rest
   alone m (next ∷ limits) u r n outcome u' r' n' outcome' none read (inr (inr (inl (j, stop, less, most, stops, rest)))) =
       absurd (omega (arith, less, none, sum_by-cons (λ (x : ℕ). x) m (take (length limits) (next ∷ limits))))
   alone m limits u r n outcome u' r' n' outcome' none read (inr (inl (less, lost, unread, count, last))) = unread
@@ -65,13 +86,15 @@ module _ (report : List Fault) (Stops : Stop → Type 0) where
       → IfStopped outcome (λ stop. ⊥) → SegmentsFrom report Stops 0 0 0 (Stopped 0) limits u r n outcome → r ≡ 0
   alone_of [] u r n outcome none read are = are.1
   alone_of (m ∷ limits) u r n outcome none read are =
-      let one_less : length (m ∷ limits) - 1 ≡ length limits = omega arith in alone m limits 0 0 0 (Stopped 0) u r n outcome (rw one_less at none) read are
+      let one_less : length (m ∷ limits) - 1 ≡ length limits =
+      omega arith in alone m limits 0 0 0 (Stopped 0) u r n outcome (rw one_less at none) read are
 
 pub segments_add_up : SegmentsAddUp
 segments_add_up options report limits old new before after outcome runs none written =
     let all : 0 + sum limits ≡ sum limits = omega arith in
     subst (λ n. AddUp report n 0 runs.lost runs.count outcome) all
-    (from report (MayLose options old new) limits 0 0 0 runs.lost runs.unread runs.count outcome (omega arith) none written runs.segments)
+    (from report (MayLose options old new) limits 0 0 0 runs.lost runs.unread runs.count outcome (omega arith) none
+    written runs.segments)
 
 pub answers_tell_unread : AnswersTellUnread
 answers_tell_unread options report limits old new before after outcome runs =
@@ -80,5 +103,6 @@ answers_tell_unread options report limits old new before after outcome runs =
     record {
       counts = counts report Stops limits 0 0 0 (Stopped 0) runs.lost runs.unread runs.count outcome refl runs.segments;
       short = omega (arith, few.1);
-      alone = λ none read. alone_of report Stops limits runs.lost runs.unread runs.count outcome none read runs.segments;
+      alone = λ none read.
+          alone_of report Stops limits runs.lost runs.unread runs.count outcome none read runs.segments;
     }

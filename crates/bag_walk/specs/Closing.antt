@@ -1,6 +1,6 @@
 -- The line that ends a report, and the exit status.
 use Rattle.std.specs.Prelude.{ℕ, List, [], ◌++◌, codes, decimal, if◌then◌else◌}
-use Rattle.bag_tree.specs.Cause.{word}
+use Rattle.bag_tree.specs.Cause.{cause_word}
 use Rattle.bag_tree.specs.declared.tree_fault.Stop.{Stop}
 use Rattle.bag_facts.specs.FaultLine.{field}
 use Rattle.bag_facts.specs.declared.options.Depth.{Depth}
@@ -28,7 +28,7 @@ about_count name text n = field name ++ (text ++ (decimal n ++ codes "\n"))
 -- the file and the cause of a stop, and a number of faults
 abbrev pub stopped_at : Stop → ℕ → List ℕ
 stopped_at stop n =
-    field stop.path ++ (codes " " ++ (word stop.cause
+    field stop.path ++ (codes " " ++ (cause_word stop.cause
     ++ (codes ", faults: " ++ (decimal n ++ codes "\n"))))
 
 -- the line for a refused read

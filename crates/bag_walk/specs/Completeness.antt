@@ -33,7 +33,8 @@ IsOfAlg bag alg f = IsWrong bag alg f ⊎ IsMissing bag Tag alg f
 abbrev pub IsOfSomeAlg : Bag → Fault → Type 0
 IsOfSomeAlg bag f = (alg : Alg) × IsOfAlg bag alg f
 
--- where the depth has stage 6: the faults that are looked for in it, of completeness or of names, above a cursor
+-- where the depth has stage 6: the faults that are looked for in it, of completeness or of names,
+-- above a cursor
 abbrev pub AreSought : Facts → Option Fault → List Fault → Type 0
 AreSought facts after faults = ForBagOf facts (λ bag. reaches facts.options.depth 6 ≡ true
     → AreAbove after (IsSoughtInStageSix facts.options.clashes bag) faults)

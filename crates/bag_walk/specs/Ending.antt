@@ -41,8 +41,8 @@ abbrev pub TookPart : ℕ → List (List ℕ) → OutState → OutState → Type
 TookPart n lines before after = (after.has_refused ≡ true)
     × ((bytes : List ℕ) × IsCutAt n lines bytes × Appends before.taken after.taken bytes)
 
--- The run wrote all of its text and answered so; or the output refused, and took n whole lines of that text and a
--- proper part of the next.
+-- The run wrote all of its text and answered so; or the output refused, and took n whole lines of
+-- that text and a proper part of the next.
 abbrev pub Wrote : Request → List Fault → Outcome → OutState → OutState → Outcome → Type 0
 Wrote request shown ending before after (Unwritten n) =
     TookPart n (lines_of_run request shown ending) before after
@@ -52,7 +52,8 @@ Wrote request shown ending before after outcome =
 abbrev pub limit_of : Request → ℕ
 limit_of request = unwrap_or request.limit 18446744073709551615
 
--- How a run may end that shows n faults, if the output takes all: at the limit, at the end of the report, or at a stop.
+-- How a run may end that shows n faults, if the output takes all: at the limit, at the end of the
+-- report, or at a stop.
 abbrev pub MayEnd : Request → ℕ → (Stop → Type 0) → Outcome → Type 0
 MayEnd request n Stops Clean = (n ≡ 0) × (0 < limit_of request) × (request.after ≡ None)
 MayEnd request n Stops (Faults m) =

@@ -20,7 +20,8 @@ ForBagOf facts Holds = (bag : Bag) → IsFactsOf bag facts → Holds bag
 abbrev pub ForBagAtFull : Facts → (Bag → Type 0) → Type 0
 ForBagAtFull facts Holds = ForBagOf facts (λ bag. facts.options.depth ≡ Full → Holds bag)
 
--- for the check of that bag, by a profile or without one, with the options with which they were read
+-- for the check of that bag, by a profile or without one, with the options with which they were
+-- read
 abbrev pub ForCheckOf : Facts → Option Profile → (Check → Type 0) → Type 0
 ForCheckOf facts profile Holds =
     ForBagOf facts (λ bag. Holds (check_with bag profile facts.options))

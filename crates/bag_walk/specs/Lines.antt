@@ -5,9 +5,9 @@ use Rattle.bag_facts.specs.declared.fault.Fault.{Fault}
 use Rattle.bag_walk.specs.Ending.{written_line}
 
 -- the last of the first n faults, from which a segment goes on: none where there is none yet
-abbrev pub cursor_behind : ℕ → List Fault → Option Fault
-cursor_behind zero report = None
-cursor_behind (suc n) report = slice_get report n
+abbrev pub cursor_after : ℕ → List Fault → Option Fault
+cursor_after zero report = None
+cursor_after (suc n) report = slice_get report n
 
 -- it is this fault's line, or nothing where there is none
 abbrev pub IsLastLine : Option Fault → List ℕ → Type 0

@@ -24,14 +24,15 @@ use Rattle.bag_walk.specs.Closing.{count_of}
 use Rattle.bag_walk.specs.Ending.{limit_of}
 use Rattle.bag_walk.specs.declared.outcome.Outcome.{Outcome}
 use Rattle.bag_walk.specs.declared.outcome.Request.{Request}
-use Rattle.bag_walk.specs.Openings.{NoneBehind}
+use Rattle.bag_walk.specs.Openings.{NoFaultBefore}
 use Rattle.bag_walk.specs.Start.{AreToOpen}
 use Rattle.bag_walk.specs.Validity.{is_passed}
 use Rattle.bag_walk.specs.Run.{check_of, ForReportAsked, IsAsked}
 use Rattle.bag_walk.specs.Stops.{IfStopped}
 
--- Tag files were read, each once at most and in path order, and then at depth Full files were summed, each once at most and
--- in path order: files that are there and that manifests name, where the tree is honest.
+-- Tag files were read, each once at most and in path order, and then at depth Full files were
+-- summed, each once at most and in path order: files that are there and that manifests name, where
+-- the tree is honest.
 pub record OpensInRun (options : Options) (old new : TreeState) : Type 0 where
   pub read : List (List ℕ)
   pub summed : List (List ℕ)
@@ -46,8 +47,8 @@ pub record OpensInRun (options : Options) (old new : TreeState) : Type 0 where
 abbrev pub IsListed : Bag → List ℕ → Type 0
 IsListed bag path = (alg : Alg) × Names bag Payload alg path
 
--- Of the payload those files were opened that payload manifests name, each once at most and in path order, and no other;
--- below depth Full none (RFC 8493, 2.1.2).
+-- Of the payload those files were opened that payload manifests name, each once at most and in path
+-- order, and no other; below depth Full none (RFC 8493, 2.1.2).
 pub record OpensListed (options : Options) (old new : TreeState) : Type 0 where
   pub paths : List (List ℕ)
   pub opened : new.openings ≡ old.openings ++ paths
@@ -56,29 +57,32 @@ pub record OpensListed (options : Options) (old new : TreeState) : Type 0 where
   pub are_listed : IsTrue old.honest
       → All (λ path. is_payload_path path ≡ true → IsListed old.bag path) paths
 
--- of the payload no file was opened that the cursor has passed: none before the file of a fault of the seventh stage, and
--- where it is of a later stage none
+-- of the payload no file was opened that the cursor has passed: none before the file of a fault of
+-- the seventh stage, and where it is of a later stage none
 abbrev pub OpensNonePassed : Option Fault → TreeState → TreeState → Type 0
 OpensNonePassed after old new =
     (opened : List (List ℕ)) → new.openings ≡ old.openings ++ opened
     → All (λ path. is_passed after path ≡ false) (filter is_payload_path opened)
 
--- how many faults were written when a run looked for the last: all that it wrote, but fewer than its limit
+-- how many faults were written when a run looked for the last: all that it wrote, but fewer than
+-- its limit
 abbrev pub written_before : Request → Outcome → ℕ
 written_before request outcome = min (count_of outcome) (limit_of request - 1)
 
--- The lines of faults were written before the next file was opened: of the payload no file was opened before which a fault
--- stands whose line wasn't written, and where the limit was reached none behind the file of the last line.
+-- The lines of faults were written before the next file was opened: of the payload no file was
+-- opened before which a fault stands whose line wasn't written, and where the limit was reached
+-- none after the file of the last line.
 abbrev pub OpensInTurn : TreeState → TreeState → Option Profile → Request → Outcome → Type 0
 OpensInTurn old new profile request outcome = ForReportAsked old profile request (λ report.
     (read : List (List ℕ)) × (summed : List (List ℕ))
     × (new.openings ≡ old.openings ++ (read ++ summed))
     × IsStrictlySortedBy text_cmp read × All (IsWanted request.options) read
-    × NoneBehind (drop (written_before request outcome) (above request.after report)) summed)
+    × NoFaultBefore (drop (written_before request outcome) (above request.after report)) summed)
 
--- The run stopped at a file whose digests were to be compared, when n faults had been written: it was refused when all the tag
--- files that are wanted had been read, and then of those files the ones before it had been opened, each once and in path order,
--- and no other; and each fault that stands before it had been written, as those of earlier stages.
+-- The run stopped at a file whose digests were to be compared, when n faults had been written: it
+-- was refused when all the tag files that are wanted had been read, and then of those files the
+-- ones before it had been opened, each once and in path order, and no other; and each fault that
+-- stands before it had been written, as those of earlier stages.
 pub record OpensUpToSummed (old new : TreeState) (profile : Option Profile) (request : Request)
     (n : ℕ) (path : List ℕ) : Type 0 where
   pub read : List (List ℕ)
@@ -92,10 +96,10 @@ pub record OpensUpToSummed (old new : TreeState) (profile : Option Profile) (req
       → AreToOpen (check_of old.bag profile request) request.after (before ++ path ∷ behind)
   pub refused : IsRefusedAt (old.openings ++ (read ++ before)) path new
   pub written : ForReportAsked old profile request (λ report.
-      NoneBehind (drop n (above request.after report)) (path ∷ []))
+      NoFaultBefore (drop n (above request.after report)) (path ∷ []))
 
--- A run that is answered with the file at which it stopped has opened those before it: the tag files that are read, or also
--- those whose digests are compared.
+-- A run that is answered with the file at which it stopped has opened those before it: the tag
+-- files that are read, or also those whose digests are compared.
 abbrev pub StopsInTurn : TreeState → TreeState → Option Profile → Request → Outcome → Type 0
 StopsInTurn old new profile request outcome =
     IfStopped outcome (λ stop. stop.path ≢ []
@@ -107,7 +111,8 @@ abbrev pub AreEarly : Bag → Option Profile → Request → List Fault → Type
 AreEarly bag profile request faults =
     IsListOf fault_cmp (λ f. IsAsked bag profile request f × (stage f.code < 7)) faults
 
--- where the faults of stages 1 to 6 that the request asks for reach its limit, tag files alone were read
+-- where the faults of stages 1 to 6 that the request asks for reach its limit, tag files alone were
+-- read
 abbrev pub LooksNoFurther : TreeState → TreeState → Option Profile → Request → Type 0
 LooksNoFurther old new profile request =
     IsTrue old.honest → (early : List Fault) → AreEarly old.bag profile request early

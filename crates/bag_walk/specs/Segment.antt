@@ -1,6 +1,6 @@
 -- A segment of a report: the lines of its first faults.
 use Rattle.std.specs.Prelude.{ℕ, ◌-◌, ◌<◌, ◌≤◌, ◌≡◌, ⊤, ◌⊎◌, List, [], length, take, drop}
-use Rattle.bag_tree.specs.Calm.{MayTellMemory, RefusesNothing}
+use Rattle.bag_tree.specs.NothingFailed.{MayReportMemory, NothingFailed}
 use Rattle.bag_tree.specs.Out.{OutState}
 use Rattle.bag_tree.specs.Tree.{TreeState, CameFromFile}
 use Rattle.bag_tree.specs.declared.tree_fault.Stop.{Stop}
@@ -24,7 +24,8 @@ EndsSegment faults limit n AtEnd = (n < limit) × (n ≡ length faults)
 EndsSegment faults limit n (Unread stop) = (n < limit) × (n ≤ length faults)
 EndsSegment faults limit n Unwritten = (n < limit) × (n < length faults)
 
--- the lines of the first n faults were written, and where the output refused a proper part of the next line
+-- the lines of the first n faults were written, and where the output refused a proper part of the
+-- next line
 abbrev pub WroteFirst : List Fault → ℕ → OutState → OutState → SegmentEnd → Type 0
 WroteFirst faults n before after Unwritten = TookPart n (written faults) before after
 WroteFirst faults n before after end = TookAll (written (take n faults)) before after
@@ -45,16 +46,16 @@ abbrev pub IfUnread : SegmentEnd → (Stop → Type 0) → Type 0
 IfUnread (Unread stop) Stops = Stops stop
 IfUnread end Stops = ⊤
 
--- memory ran out: no file is named, and the tree told it or refused nothing
-abbrev pub RunsOut : TreeState → TreeState → Stop → Type 0
-RunsOut old new stop = IsOutOfMemory stop × MayTellMemory old new
+-- memory ran out: no file is named, and the tree reported it or refused nothing
+abbrev pub RanOutOfMemory : TreeState → TreeState → Stop → Type 0
+RanOutOfMemory old new stop = IsOutOfMemory stop × MayReportMemory old new
 
--- Why a walk stops: for want of memory, or at the next file to be opened, and more is said where its source is of an honest
--- tree's bag.
+-- Why a walk stops: when out of memory, or at the next file to be opened, and more is said where
+-- its source is of an honest tree's bag.
 abbrev pub MayStopWalk : Type 0 → List (List ℕ) → List (List ℕ)
     → TreeState → TreeState → Stop → Type 0
 MayStopWalk IsOf todo left old new stop =
-    RunsOut old new stop
+    RanOutOfMemory old new stop
     ⊎ (IsReached todo old new stop.path × (IsOf → MayStopFilling left old new stop))
 
 -- how many faults are less than the one that was looked for last, where n were written
@@ -62,8 +63,8 @@ abbrev pub looked_past : SegmentEnd → ℕ → ℕ
 looked_past Full n = n - 1
 looked_past end n = n
 
--- The faults that were still to come when a segment had looked furthest: behind those that it wrote, and at its limit the
--- last that it wrote too.
+-- The faults that were still to come when a segment had looked furthest: after those that it wrote,
+-- and at its limit the last that it wrote too.
 abbrev pub still_to_come : Segment → List Fault → List Fault
 still_to_come segment faults = drop (looked_past segment.end segment.written) faults
 
@@ -71,27 +72,30 @@ still_to_come segment faults = drop (looked_past segment.end segment.written) fa
 abbrev pub StopsAt : Segment → Stop → Type 0
 StopsAt segment stop = segment.end ≡ Unread stop
 
--- the lines of the first of these faults and a closing line were written, which tells of a stop that the segment tells of
+-- the lines of the first of these faults and a closing line were written, which tells of a stop
+-- that the segment tells of
 abbrev pub ClosesSegment : Request → List Fault → Segment → OutState → OutState → Outcome → Type 0
 ClosesSegment request faults segment before after outcome =
     (writes : WritesReport request faults (StopsAt segment) before after outcome)
     × (IsAnswered writes.ending → IsRead segment.end)
 
--- Why a run over a walk stops whose source is of an honest tree's bag: at a file that was to be opened, or for want of
--- memory.
+-- Why a run over a walk stops whose source is of an honest tree's bag: at a file that was to be
+-- opened, or when out of memory.
 pub record StopsWalk (todo : List (List ℕ)) (old new : TreeState) (stop : Stop) : Type 0 where
   pub cause : MayRefuseFacts old new stop.cause
   pub answered : CameFromFile new stop.cause
   pub path : IsOutOfMemory stop ⊎ IsReached todo old new stop.path
   pub memory : stop.cause ≡ Memory → stop.path ≡ []
-  pub wanting : stop.cause ≡ Memory → MayTellMemory old new
+  pub wanting : stop.cause ≡ Memory → MayReportMemory old new
 
 abbrev pub MayStopRun : Type 0 → List (List ℕ) → TreeState → TreeState → Stop → Type 0
-MayStopRun IsOf todo old new stop = RunsOut old new stop ⊎ (IsOf → StopsWalk todo old new stop)
+MayStopRun IsOf todo old new stop = RanOutOfMemory old new stop
+    ⊎ (IsOf → StopsWalk todo old new stop)
 
--- the lines of the first of these faults and a closing line were written, and nothing was refused where the run was answered
-abbrev pub WritesCalmly : Request → List Fault → (Stop → Type 0)
+-- the lines of the first of these faults and a closing line were written, and nothing was refused
+-- where the run was answered
+abbrev pub WritesWithoutFailure : Request → List Fault → (Stop → Type 0)
     → TreeState → TreeState → OutState → OutState → Outcome → Type 0
-WritesCalmly request faults Stops old new before after outcome =
+WritesWithoutFailure request faults Stops old new before after outcome =
     (writes : WritesReport request faults Stops before after outcome)
-    × (IsAnswered writes.ending → RefusesNothing old new)
+    × (IsAnswered writes.ending → NothingFailed old new)

@@ -1,6 +1,6 @@
 -- Segments of a report, each a run of its own between two states of the tree and of the output.
 use Rattle.std.specs.Prelude.{ℕ, ◌≡◌, ◌⊎◌, ◌+◌, true, false, List, [], ◌∷◌, Option, drop}
-use Rattle.bag_tree.specs.Calm.{RefusesNothing}
+use Rattle.bag_tree.specs.NothingFailed.{NothingFailed}
 use Rattle.bag_tree.specs.Out.{OutState}
 use Rattle.bag_tree.specs.Tree.{Keeps, TreeState}
 use Rattle.bag_facts.specs.declared.fault.Fault.{Fault}
@@ -37,7 +37,7 @@ pub record RunsSegment (profile : Option Profile) (options : Options) (limit : �
   pub keeps : Keeps old.tree new.tree
   pub untouched : limit ≡ 0 → new.tree ≡ old.tree
   -- where it isn't unread the tree refused it nothing, and else a refusal of its own stopped it
-  pub calm : IsRead segment.end → RefusesNothing old.tree new.tree
+  pub no_failure : IsRead segment.end → NothingFailed old.tree new.tree
   pub stop : IfUnread segment.end (MayStop options old.tree new.tree)
   -- it wrote lines of faults, and over an honest tree the next ones of the report
   pub wrote : (faults : List Fault) × IsSegment faults limit old.out new.out segment

@@ -9,15 +9,15 @@ use Rattle.bag_tree.specs.Tree.{TreeState}
 use Rattle.bag_facts.specs.declared.fault.Fault.{Fault}
 use Rattle.bag_facts.specs.declared.options.Depth.TheVariants.{Full}
 use Rattle.bag_facts.specs.declared.options.Options.{Options}
-use Rattle.bag_walk.specs.Lines.{cursor_behind}
-use Rattle.bag_walk.specs.Openings.{NoneBehind}
+use Rattle.bag_walk.specs.Lines.{cursor_after}
+use Rattle.bag_walk.specs.Openings.{NoFaultBefore}
 use Rattle.bag_walk.specs.Validity.{is_passed}
 use Rattle.bag_walk.specs.RunOpenings.{IsListed}
 use Rattle.bag_walk.specs.Segment.{still_to_come}
 use Rattle.bag_walk.specs.declared.segment.Segment.{Segment}
 
--- A payload file whose digests are compared: at depth Full one that is there and that a payload manifest names (RFC 8493,
--- 2.1.3).
+-- A payload file whose digests are compared: at depth Full one that is there and that a payload
+-- manifest names (RFC 8493, 2.1.3).
 abbrev pub IsListedFile : Options → Bag → List ℕ → Type 0
 IsListedFile options bag path =
     (options.depth ≡ Full) × (is_payload_path path ≡ true) × HasFile bag path × IsListed bag path
@@ -43,9 +43,9 @@ pub record OpensInSegment (listed : List (List ℕ)) (report : List Fault) (n : 
   pub opened : List (List ℕ)
   pub openings : new.openings ≡ old.openings ++ opened
   pub rest : List (List ℕ)
-  pub first : not_passed (cursor_behind n report) listed ≡ filter is_payload_path opened ++ rest
+  pub first : not_passed (cursor_after n report) listed ≡ filter is_payload_path opened ++ rest
   pub in_turn :
-      NoneBehind (still_to_come segment (drop n report)) (filter is_payload_path opened)
+      NoFaultBefore (still_to_come segment (drop n report)) (filter is_payload_path opened)
 
 -- What this number of segments open of the payload: listed files alone. They make at most as many
 -- openings as files are listed, one more for each segment but the first, and as many as files are

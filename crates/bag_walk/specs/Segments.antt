@@ -2,7 +2,7 @@
 use Rattle.std.specs.Prelude.{ℕ, ◌+◌, ◌-◌, ◌<◌, ◌≤◌, ◌≡◌, ◌⊎◌, ◌++◌, Bool, true, false, IsTrue}
 use Rattle.std.specs.Prelude.{List, [], ◌∷◌, length, drop, sum, Option, None}
 use Rattle.std.specs.List.Sorted.{IsStrictlySortedBy}
-use Rattle.bag_tree.specs.Calm.{MayTellMemory}
+use Rattle.bag_tree.specs.NothingFailed.{MayReportMemory}
 use Rattle.bag_tree.specs.Out.{OutState}
 use Rattle.bag_tree.specs.Tree.{TreeState}
 use Rattle.bag_tree.specs.declared.tree_fault.Stop.{Stop}
@@ -10,14 +10,14 @@ use Rattle.bag_tree.specs.declared.tree_fault.TreeFault.{TreeFault}
 use Rattle.bag_tree.specs.declared.tree_fault.TreeFault.TheVariants.{Device, Special, Name, Memory}
 use Rattle.bag_facts.specs.FaultOrder.{fault_cmp}
 use Rattle.bag_facts.specs.declared.fault.Fault.{Fault}
-use Rattle.bag_facts.specs.Stops.{IsRefusedFile, MayRefuseFacts, TellsAnswer}
+use Rattle.bag_facts.specs.Stops.{IsRefusedFile, MayRefuseFacts, ReportsAnswer}
 use Rattle.bag_facts.specs.declared.options.Options.{Options}
 use Rattle.bag_profile.specs.Profile.{Profile}
 use Rattle.bag_report.specs.Report.{IsReport, above, first}
 use Rattle.bag_walk.specs.Ending.{ended, written, TookAll, TookPart}
 use Rattle.bag_walk.specs.declared.outcome.Outcome.{Outcome}
 use Rattle.bag_walk.specs.declared.outcome.Outcome.TheVariants.{Stopped, Unread, Unwritten}
-use Rattle.bag_walk.specs.Lines.{IsLastLine, cursor_behind}
+use Rattle.bag_walk.specs.Lines.{IsLastLine, cursor_after}
 use Rattle.bag_walk.specs.Segment.{IsSegment}
 use Rattle.bag_walk.specs.SegmentOpenings.{AreListed, OpensFew}
 use Rattle.bag_walk.specs.Stops.{IfStopped, IsOfSummed}
@@ -25,11 +25,11 @@ use Rattle.bag_walk.specs.declared.segment.Segment.{Segment}
 use Rattle.bag_walk.specs.declared.segment.SegmentEnd.{SegmentEnd}
 use Rattle.bag_walk.specs.declared.segment.SegmentEnd.TheVariants as end_of
 
--- the law: a segment of n faults and one of m behind it are the first n + m faults
+-- the law: a segment of n faults and one of m after it are the first n + m faults
 abbrev pub SegmentsJoin : Type 0
 SegmentsJoin =
     (report : List Fault) (n m : ℕ) → IsStrictlySortedBy fault_cmp report → n ≤ length report
-    → first n report ++ first m (above (cursor_behind n report) report) ≡ first (n + m) report
+    → first n report ++ first m (above (cursor_after n report) report) ≡ first (n + m) report
 
 -- how many limits a refusal costs that only a failure of the device brings
 abbrev pub cost : TreeFault → ℕ
@@ -38,8 +38,9 @@ cost Special = 1
 cost Name = 1
 cost other = 0
 
--- From where r limits were unread, u of them lost to the device, and n faults written, and the last segment ended so, the
--- segments of these limits lead to u', r', n' and outcome'. Each limit is in order one of four.
+-- From where r limits were unread, u of them lost to the device, and n faults written, and the last
+-- segment ended so, the segments of these limits lead to u', r', n' and outcome'. Each limit is in
+-- order one of four.
 abbrev pub SegmentsFrom : List Fault → (Stop → Type 0)
     → ℕ → ℕ → ℕ → Outcome → List ℕ → ℕ → ℕ → ℕ → Outcome → Type 0
 SegmentsFrom report Stops u r n outcome [] u' r' n' outcome' =
@@ -51,7 +52,7 @@ SegmentsFrom report Stops u r n outcome (m ∷ limits) u' r' n' outcome' =
     -- the end: fewer are left, and no further limit is looked at
     ⊎ ((length report - n < m) × (u' ≡ u) × (r' ≡ r)
     × (n' ≡ length report) × (outcome' ≡ ended None (length report)))
-    -- unread: the tree or memory refused behind fewer faults
+    -- unread: the tree or memory refused after fewer faults
     ⊎ ((j : ℕ) × (stop : Stop) × (j < m) × (n + j ≤ length report) × Stops stop
     × SegmentsFrom report Stops (u + cost stop.cause) (r + 1) (n + j) (Unread (n + j) stop)
     limits u' r' n' outcome')
@@ -59,29 +60,32 @@ SegmentsFrom report Stops u r n outcome (m ∷ limits) u' r' n' outcome' =
     ⊎ ((j : ℕ) × (j < m) × (n + j < length report) × (u' ≡ u) × (r' ≡ r)
     × (n' ≡ n + j) × (outcome' ≡ Unwritten (n + j)))
 
--- The segments of these limits write n faults of the report, r of them are unread and u of these lost to the device, and the
--- last ends so.
+-- The segments of these limits write n faults of the report, r of them are unread and u of these
+-- lost to the device, and the last ends so.
 abbrev pub AreSegments : List Fault → (Stop → Type 0) → List ℕ → ℕ → ℕ → ℕ → Outcome → Type 0
 AreSegments report Stops limits u r n outcome =
     SegmentsFrom report Stops 0 0 0 (Stopped 0) limits u r n outcome
 
--- the lines of the first n faults were written, and where the output refused a proper part of the next line
+-- the lines of the first n faults were written, and where the output refused a proper part of the
+-- next line
 abbrev pub WroteSegments : ℕ → List Fault → OutState → OutState → Outcome → Type 0
 WroteSegments n report before after (Unwritten k) = TookPart n (written report) before after
 WroteSegments n report before after outcome = TookAll (written (first n report)) before after
 
--- why a segment may stop, by what the tree was before all of them and after: it names a file that a run reads, or none
+-- why a segment may stop, by what the tree was before all of them and after: it names a file that a
+-- run reads, or none
 pub record MayLose (options : Options) (old new : TreeState) (stop : Stop) : Type 0 where
   pub cause : MayRefuseFacts old new stop.cause
   pub path : (stop.path ≡ []) ⊎ IsRefusedFile options old stop ⊎ IsOfSummed options old stop
   pub memory : stop.cause ≡ Memory → stop.path ≡ []
 
--- The stop of the last segment, whatever the tree, behind those of the limits before it. Its cause is the tree's own answer,
--- but for want of memory; where these limits are all 0 want of memory is told only where the tree told it or refused nothing.
+-- The stop of the last segment, whatever the tree, after those of the limits before it. Its cause
+-- is the tree's own answer, but for out of memory; where these limits are all 0 out of memory is
+-- reported only where the tree reported it or refused nothing.
 abbrev pub IsStopped : Options → List ℕ → TreeState → TreeState → Outcome → Type 0
 IsStopped options before old new outcome =
-    IfStopped outcome (λ stop. MayLose options old new stop × TellsAnswer new stop
-    × (sum before ≡ 0 → stop.cause ≡ Memory → MayTellMemory old new))
+    IfStopped outcome (λ stop. MayLose options old new stop × ReportsAnswer new stop
+    × (sum before ≡ 0 → stop.cause ≡ Memory → MayReportMemory old new))
 
 -- What the segments of these limits write of a report, how the last ends, and which payload files
 -- they open. Each failure of the device costs one limit at most.
@@ -110,11 +114,12 @@ outcome_at n end_of.AtEnd = ended None n
 outcome_at n (end_of.Unread stop) = Unread n stop
 outcome_at n end_of.Unwritten = Unwritten n
 
--- A segment behind the first n faults of a report, which leaves the line of the last fault that was written.
+-- A segment after the first n faults of a report, which leaves the line of the last fault that was
+-- written.
 pub record ContinuesReport (report : List Fault) (n limit : ℕ) (before after : OutState)
     (line : List ℕ) (segment : Segment) : Type 0 where
   pub writes : IsSegment (drop n report) limit before after segment
-  pub last : IsLastLine (cursor_behind (n + segment.written) report) line
+  pub last : IsLastLine (cursor_after (n + segment.written) report) line
 
 -- so it is for the report of an honest tree's bag
 abbrev pub ForReport : TreeState → Option Profile → Options → (List Fault → Type 0) → Type 0
@@ -128,4 +133,4 @@ abbrev pub ForReportFrom : TreeState → Option Profile → Options → List ℕ
     → (List Fault → ℕ → Type 0) → Type 0
 ForReportFrom old profile options line Holds =
     ForReport old profile options (λ report.
-    (n : ℕ) → n ≤ length report → IsLastLine (cursor_behind n report) line → Holds report n)
+    (n : ℕ) → n ≤ length report → IsLastLine (cursor_after n report) line → Holds report n)

@@ -3,7 +3,7 @@ use Rattle.std.specs.Prelude.{ℕ, ⊤, ◌≡◌, ◌⊎◌, ◌∷◌, Bool, t
 use Rattle.std.specs.Prelude.{List, [], Contains, Option, None, Some}
 use Rattle.std.specs.declared.cmp.Ordering.TheVariants.{Less}
 use Rattle.bag_tree.specs.Bag.{Bag, HasFile}
-use Rattle.bag_tree.specs.Calm.{MayTellMemory}
+use Rattle.bag_tree.specs.NothingFailed.{MayReportMemory}
 use Rattle.bag_tree.specs.Tree.{TreeState, CameFromFile}
 use Rattle.bag_tree.specs.declared.tree_fault.Stop.{Stop}
 use Rattle.bag_tree.specs.declared.tree_fault.TreeFault.{TreeFault}
@@ -16,7 +16,7 @@ abbrev pub first_of : {A : Type 0} → List A → Option A
 first_of [] = None
 first_of (x ∷ xs) = Some x
 
--- what stands behind the first
+-- what stands after the first
 abbrev pub rest_of : {A : Type 0} → List A → List A
 rest_of [] = []
 rest_of (x ∷ xs) = xs
@@ -51,25 +51,27 @@ abbrev pub IsNext : List (List ℕ) → TreeState → List ℕ → Type 0
 IsNext todo old path =
     ((rest : List (List ℕ)) × (todo ≡ path ∷ rest)) × (IsTrue old.honest → HasFile old.bag path)
 
--- Finding the first fault stopped: at the next file, or for want of memory. The cause is the tree's own answer, but for want
--- of memory, which is told only where the tree told it or refused nothing.
+-- Finding the first fault stopped: at the next file, or when out of memory. The cause is the tree's
+-- own answer, but for out of memory, which is reported only where the tree reported it or refused
+-- nothing.
 pub record MayStopFilling (todo : List (List ℕ)) (old new : TreeState) (stop : Stop) : Type 0 where
   pub cause : MayRefuseFacts old new stop.cause
   pub answered : CameFromFile new stop.cause
   pub path : IsOutOfMemory stop ⊎ IsNext todo old stop.path
   pub memory : stop.cause ≡ Memory → stop.path ≡ []
-  pub wanting : stop.cause ≡ Memory → MayTellMemory old new
+  pub wanting : stop.cause ≡ Memory → MayReportMemory old new
 
--- Why a file may be refused, whatever the tree and whatever files are asked for: one may not be there or have another size.
+-- Why a file may be refused, whatever the tree and whatever files are asked for: one may not be
+-- there or have another size.
 abbrev pub MayRefuseAnyway : TreeState → TreeState → TreeFault → Type 0
 MayRefuseAnyway old new NotFound = ⊤
 MayRefuseAnyway old new Changed = ⊤
 MayRefuseAnyway old new cause = MayRefuseFacts old new cause
 
--- Finding the first fault stopped, over any tree: at the next file, or for want of memory.
+-- Finding the first fault stopped, over any tree: at the next file, or when out of memory.
 pub record MayStopAnyway (todo : List (List ℕ)) (old new : TreeState) (stop : Stop) : Type 0 where
   pub cause : MayRefuseAnyway old new stop.cause
   pub answered : CameFromFile new stop.cause
   pub path : IsOutOfMemory stop ⊎ ((rest : List (List ℕ)) × (todo ≡ stop.path ∷ rest))
   pub memory : stop.cause ≡ Memory → stop.path ≡ []
-  pub wanting : stop.cause ≡ Memory → MayTellMemory old new
+  pub wanting : stop.cause ≡ Memory → MayReportMemory old new

@@ -8,7 +8,7 @@ use Rattle.bag_text.specs.Text.{text_cmp}
 use Rattle.bag_text.specs.declared.alg.Alg.{Alg}
 use Rattle.bag_read.specs.declared.kind.Kind.TheVariants.{Payload}
 use Rattle.bag_tree.specs.Bag.{Bag, HasFile, IsBag}
-use Rattle.bag_tree.specs.Calm.{RefusesNothing}
+use Rattle.bag_tree.specs.NothingFailed.{NothingFailed}
 use Rattle.bag_tree.specs.Tree.{TreeState}
 use Rattle.bag_tree.specs.declared.tree.Tree as Tree
 use Rattle.bag_tree.specs.declared.tree_fault.Stop.{Stop}
@@ -26,7 +26,7 @@ use Rattle.bag_stages.specs.SummedFiles.{IsSummed}
 use Rattle.bag_walk.specs.FactsOf.{check_with, ForBagOf, ForCheckOf}
 use Rattle.bag_walk.specs.declared.source.Source as Source
 use Rattle.bag_walk.specs.declared.steps.Steps.{Steps}
-use Rattle.bag_walk.specs.Steps.{left, to_open, IsAhead, StandsAt}
+use Rattle.bag_walk.specs.Steps.{left, to_open, IsAhead, IsReportAfter}
 use Rattle.bag_walk.specs.Validity.{is_passed}
 
 -- the part of a report that is of the stages before this one and above a cursor
@@ -34,8 +34,8 @@ abbrev pub AreAheadBefore : Check → ℕ → Option Fault → List Fault → Ty
 AreAheadBefore check k after faults =
     IsListOf fault_cmp (λ f. IsAhead check after f × (stage f.code < k)) faults
 
--- A file whose digests are still to be compared: at depth Full one that is there and that a manifest names, and that the
--- cursor hasn't passed.
+-- A file whose digests are still to be compared: at depth Full one that is there and that a
+-- manifest names, and that the cursor hasn't passed.
 abbrev pub IsToOpen : Check → Option Fault → List ℕ → Type 0
 IsToOpen check after path =
     (check.options.depth ≡ Full) × IsSummed check.bag path × (is_passed after path ≡ false)
@@ -53,8 +53,9 @@ IsListedToOpen check after path =
 abbrev pub AreListedToOpen : Check → Option Fault → List (List ℕ) → Type 0
 AreListedToOpen check after files = IsListOf text_cmp (IsListedToOpen check after) files
 
--- A walk has given nothing yet: what its source holds is of a bag that was seen, which is an honest tree's; what is left is
--- the report of that bag above the cursor, and the files still to be opened are in path order those that it needs.
+-- A walk has given nothing yet: what its source holds is of a bag that was seen, which is an honest
+-- tree's; what is left is the report of that bag above the cursor, and the files still to be opened
+-- are in path order those that it needs.
 pub record IsStarted (old : TreeState) (profile : Option Profile) (options : Options)
     (after : Option Fault) (IsOf : Bag → Type 0) (left : Bag → List Fault)
     (todo : List (List ℕ)) : Type 0 where
@@ -62,7 +63,7 @@ pub record IsStarted (old : TreeState) (profile : Option Profile) (options : Opt
   pub is_bag : IsBag seen
   pub honest : IsTrue old.honest → seen ≡ old.bag
   pub of : IsOf seen
-  pub stands : StandsAt (check_with seen profile options) after (left seen)
+  pub stands : IsReportAfter (check_with seen profile options) after (left seen)
   pub files : AreToOpen (check_with seen profile options) after todo
   pub payload : AreListedToOpen (check_with seen profile options) after
       (filter is_payload_path todo)
@@ -86,13 +87,13 @@ abbrev pub state_after : {T S : Type 0} → Tree.Ghosts T → Result (Steps T S)
 state_after tree (Ok walk) = tree.state walk.tree
 state_after tree (Err refused) = tree.state refused.0
 
--- These sources hold the faults of a bag of which these are the facts, above a cursor: what is left of
--- them is what stands above it, and the files that they open are those still to be opened.
+-- These sources hold the faults of a bag of which these are the facts, above a cursor: what is left
+-- of them is what stands above it, and the files that they open are those still to be opened.
 pub record AreSources {T S : Type 0} (source : Source.Ghosts S T)
     (facts : Facts) (profile : Option Profile) (after : Option Fault) (sources : S) : Type 0 where
   pub of : ForBagOf facts (λ bag. source.is_of bag sources)
   pub stands : ForCheckOf facts profile (λ check.
-      StandsAt check after (source.remaining check.bag sources))
+      IsReportAfter check after (source.remaining check.bag sources))
   pub files : ForCheckOf facts profile (λ check. AreToOpen check after (source.todo sources))
 
 -- a walk over the faults of a tree's bag above a cursor, which has given nothing yet
@@ -102,20 +103,20 @@ StartsAt source old profile options after walk =
     IsStarted old profile options after
     (λ bag. source.is_of bag walk.source) (λ bag. left source bag walk) (to_open source walk)
 
--- A walk was started: nothing was refused, all the tag files that are to be read were opened, and of an
--- honest tree it is known that only files and folders stand there. It has given nothing yet, and has all
--- faults of the report above the cursor still to give.
+-- A walk was started: nothing was refused, all the tag files that are to be read were opened, and
+-- of an honest tree it is known that only files and folders stand there. It has given nothing yet,
+-- and has all faults of the report above the cursor still to give.
 pub record Starts {T S : Type 0} (tree : Tree.Ghosts T) (source : Source.Ghosts S T)
     (old : TreeState) (profile : Option Profile) (options : Options) (after : Option Fault)
     (walk : Steps T S) : Type 0 where
-  pub calm : RefusesNothing old (tree.state walk.tree)
+  pub no_failure : NothingFailed old (tree.state walk.tree)
   pub plain : IsTrue old.honest → IsTrue old.plain
   pub opened : OpensAllListed options old (tree.state walk.tree)
   pub shown : walk.is_shown ≡ false
   pub started : StartsAt source old profile options after walk
 
--- Or none was, and the tree comes back: of the tag files the first were opened, and where a file was
--- refused those up to it; and it stopped as reading the facts may.
+-- Or none was, and the tree comes back: of the tag files the first were opened, and where a file
+-- was refused those up to it; and it stopped as reading the facts may.
 pub record IsNotStarted {T : Type 0} (tree : Tree.Ghosts T) (options : Options) (old : TreeState)
     (refused : T × Stop) : Type 0 where
   pub opened_first : OpensNoneOrFirst options old (tree.state refused.0)

@@ -7,7 +7,7 @@ use Rattle.std.specs.Option.{option_copied}
 use Rattle.std.specs.declared.cmp.Ordering.TheVariants.{Less}
 use Rattle.bag_text.specs.Order.{IsListOf}
 use Rattle.bag_tree.specs.Bag.{Bag}
-use Rattle.bag_tree.specs.Calm.{RefusesNothing}
+use Rattle.bag_tree.specs.NothingFailed.{NothingFailed}
 use Rattle.bag_tree.specs.Tree.{TreeState, Keeps}
 use Rattle.bag_tree.specs.declared.tree.Tree as Tree
 use Rattle.bag_tree.specs.declared.tree_fault.Stop.{Stop}
@@ -15,8 +15,8 @@ use Rattle.bag_facts.specs.FaultOrder.{fault_cmp}
 use Rattle.bag_facts.specs.declared.fault.Fault.{Fault}
 use Rattle.bag_report.specs.Report.{Check, IsReported, is_above}
 use Rattle.bag_facts.specs.Stops.{IsOutOfMemory}
-use Rattle.bag_walk.specs.Openings.{IsReached, NoneWaits, Opens, OpensAgain}
-use Rattle.bag_walk.specs.Openings.{OpensNoneBehind, StillWait}
+use Rattle.bag_walk.specs.Openings.{IsReached, NoFaultBeforeStop, Opens, OpensAgain}
+use Rattle.bag_walk.specs.Openings.{OpensNoFileEarly, StillWait}
 use Rattle.bag_walk.specs.Source.{first_of, rest_of, MayStopAnyway, MayStopFilling, Sees}
 use Rattle.bag_walk.specs.declared.source.Source as Source
 use Rattle.bag_walk.specs.declared.steps.Steps.{Steps}
@@ -35,8 +35,8 @@ abbrev pub IsAhead : Check → Option Fault → Fault → Type 0
 IsAhead check position f = IsReported check f × (is_above position f ≡ true)
 
 -- what is still to be given is what stands above this position
-abbrev pub StandsAt : Check → Option Fault → List Fault → Type 0
-StandsAt check position faults = IsListOf fault_cmp (IsAhead check position) faults
+abbrev pub IsReportAfter : Check → Option Fault → List Fault → Type 0
+IsReportAfter check position faults = IsListOf fault_cmp (IsAhead check position) faults
 
 -- it is the least fault above the position, or none stands above it
 abbrev pub IsNextOf : Check → Option Fault → Option Fault → Type 0
@@ -50,18 +50,19 @@ abbrev pub next_position : Option Fault → Option Fault → Option Fault
 next_position position None = position
 next_position position (Some f) = Some f
 
--- The least fault above the position was given, and is the position now; or none is above it, and the position stays.
+-- The least fault above the position was given, and is the position now; or none is above it, and
+-- the position stays.
 abbrev pub Gives : Check → Option Fault → Option Fault → List Fault → Type 0
 Gives check position given faults =
-    IsNextOf check position given × StandsAt check (next_position position given) faults
+    IsNextOf check position given × IsReportAfter check (next_position position given) faults
 
 -- whether a call was refused, whatever it gives
 abbrev pub went : {A : Type 0} → Result A Stop → Result (Unit {0}) Stop
 went (Ok x) = Ok tt
 went (Err stop) = Err stop
 
--- A step of a walk may stop so: at one of the files that were to be opened, after those before it, or for want of memory.
--- More is said where the source is of an honest tree's bag.
+-- A step of a walk may stop so: at one of the files that were to be opened, after those before it,
+-- or when out of memory. More is said where the source is of an honest tree's bag.
 pub record MayStopStep (todo : List (List ℕ)) (old : TreeState) (IsOf : Type 0) (stop : Stop)
     : Type 0 where
   pub new : TreeState
@@ -106,8 +107,8 @@ module _ {T S : Type 0} (tree : Tree.Ghosts T) (source : Source.Ghosts S T) wher
       → Holds bag
 
   -- if its tree is honest, its source is of that tree's bag
-  abbrev pub IsOfHonest : Steps T S → Type 0
-  IsOfHonest walk = IsTrue (state walk).honest → source.is_of (state walk).bag walk.source
+  abbrev pub WalkIsOfHonest : Steps T S → Type 0
+  WalkIsOfHonest walk = IsTrue (state walk).honest → source.is_of (state walk).bag walk.source
 
   -- it opened the first of its files, each once and in their order, and no other
   abbrev pub OpensNext : Steps T S → Steps T S → Type 0
@@ -118,22 +119,23 @@ module _ {T S : Type 0} (tree : Tree.Ghosts T) (source : Source.Ghosts S T) wher
   MayReopenLast old new =
       OpensAgain (to_open source old) (to_open source new) (state old) (state new)
 
-  -- it stopped for want of memory, or at a file of its own when those before it had been opened
+  -- it stopped when out of memory, or at a file of its own when those before it had been opened
   abbrev pub IsStoppedInTurn : Steps T S → Steps T S → Stop → Type 0
   IsStoppedInTurn old new stop =
       IsOutOfMemory stop ⊎ IsReached (to_open source old) (state old) (state new) stop.path
 
   -- no fault that it has to give stands before the file at which it stopped
-  abbrev pub StopsBehindNone : Steps T S → Stop → Type 0
-  StopsBehindNone old stop = ForEachBag old (λ bag. NoneWaits (left source bag old) stop.path)
+  abbrev pub StopsBeforeRemaining : Steps T S → Stop → Type 0
+  StopsBeforeRemaining old stop =
+      ForEachBag old (λ bag. NoFaultBeforeStop (left source bag old) stop.path)
 
   -- no fault that it has to give stands before a file that it opened
-  abbrev pub OpensBehindNone : Steps T S → Steps T S → Type 0
-  OpensBehindNone old new =
-      ForEachBag old (λ bag. OpensNoneBehind (left source bag old) (state old) (state new))
+  abbrev pub WalkOpensNoFileEarly : Steps T S → Steps T S → Type 0
+  WalkOpensNoFileEarly old new =
+      ForEachBag old (λ bag. OpensNoFileEarly (left source bag old) (state old) (state new))
 
-  -- The first fault that it had to give is the one at which it stands, and no more to be given; after a refusal
-  -- it stands at none, and has the same faults to give as before.
+  -- The first fault that it had to give is the one at which it stands, and no more to be given;
+  -- after a refusal it stands at none, and has the same faults to give as before.
   abbrev pub GivesFirst : Steps T S → Steps T S → Result (Unit {0}) Stop → Type 0
   GivesFirst old new result = ForEachBag old (λ bag.
       let before = left source bag old in
@@ -145,23 +147,24 @@ module _ {T S : Type 0} (tree : Tree.Ghosts T) (source : Source.Ghosts S T) wher
   -- a step from here may stop so: over an honest tree of its bag, and over any
   abbrev pub MayStopHere : Steps T S → Steps T S → Stop → Type 0
   MayStopHere old new stop =
-      IsOfHonest old → MayStopFilling (to_open source new) (state old) (state new) stop
+      WalkIsOfHonest old → MayStopFilling (to_open source new) (state old) (state new) stop
 
   abbrev pub MayStopOverAny : Steps T S → Steps T S → Stop → Type 0
   MayStopOverAny old new stop = MayStopAnyway (to_open source new) (state old) (state new) stop
 
-  -- One step of a walk. It goes to the least fault of the report above its position, which becomes the position; after a
-  -- refusal the position is the same. It opens the first of the files that were to be opened, each once, of which after a
-  -- refusal the last may be left too. A file before which a fault stands that was to be given waits on.
+  -- One step of a walk. It goes to the least fault of the report above its position, which becomes
+  -- the position; after a refusal the position is the same. It opens the first of the files that
+  -- were to be opened, each once, of which after a refusal the last may be left too. A file before
+  -- which a fault stands that was to be given waits on.
   pub record GoesOn (old new : Steps T S) (answer : Result (Unit {0}) Stop) : Type 0 where
     pub keeps : Keeps (state old) (state new)
-    pub calm : OnOk answer (RefusesNothing (state old) (state new))
+    pub no_failure : OnOk answer (NothingFailed (state old) (state new))
     pub over : (bag : Bag) → IsOver bag old → source.is_of bag new.source
     pub position : (check : Check) (position : Option Fault)
-        → IsOver check.bag old → StandsAt check position (left source check.bag old)
+        → IsOver check.bag old → IsReportAfter check position (left source check.bag old)
         → MatchResult answer
         (λ _. Gives check position (shown source new) (left source check.bag new))
-        (λ _. StandsAt check position (left source check.bag new))
+        (λ _. IsReportAfter check position (left source check.bag new))
     pub opens : OnOk answer (OpensNext old new)
     pub again : OnErr answer (MayReopenLast old new)
     pub ended : OnOk answer (IsDone source new)
@@ -173,7 +176,7 @@ module _ {T S : Type 0} (tree : Tree.Ghosts T) (source : Source.Ghosts S T) wher
 
   -- a step from here may stop so, whatever it leaves
   abbrev pub MayStopNext : Steps T S → Stop → Type 0
-  MayStopNext old stop = MayStopStep (to_open source old) (state old) (IsOfHonest old) stop
+  MayStopNext old stop = MayStopStep (to_open source old) (state old) (WalkIsOfHonest old) stop
 
   -- the fault at which the walk stands after a step is lent
   abbrev pub LendsNext : Steps T S → Steps T S → Result (Option (Bor Fault)) Stop → Type 0
@@ -184,5 +187,5 @@ module _ {T S : Type 0} (tree : Tree.Ghosts T) (source : Source.Ghosts S T) wher
   abbrev pub LendsLeast : Steps T S → Result (Option (Bor Fault)) Stop → Type 0
   LendsLeast old answer = (check : Check) (position : Option Fault)
       → source.is_of check.bag old.source → Sees (state old) (to_open source old) check.bag
-      → StandsAt check position (left source check.bag old)
+      → IsReportAfter check position (left source check.bag old)
       → IfOk answer (λ given. IsNextOf check position (option_copied given))

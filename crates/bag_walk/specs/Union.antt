@@ -32,7 +32,8 @@ unfolding IsStrictlySortedBy
 least_is_first x [] s c least = absurd (contains_nothing x c)
 least_is_first x (y ∷ u) s c least = elim (contains_cases y u x c) [
   | inl e ↦ ap Some e
-  | inr behind ↦ (let less : fault_cmp y x ≡ Less = member_has (λ z. fault_cmp y z ≡ Less) u x s.0 behind in
+  | inr behind ↦ (let less : fault_cmp y x
+      ≡ Less = member_has (λ z. fault_cmp y z ≡ Less) u x s.0 behind in
       elim (least y (contains_first y u)) [
         | inl e ↦ ap Some (sym e)
         | inr more ↦ absurd (not_both fault_cmp_total x y more less)
@@ -150,7 +151,7 @@ module _ (fs gs more others : List Fault) (x : Fault) where
         );
       })
 
--- a list behind its first
+-- a list after its first
 behind_is_other : (x : Fault) (xs : List Fault) → IsStrictlySortedBy fault_cmp (x ∷ xs)
     → (z : Fault) → Contains xs z → z ≢ x
 unfolding IsStrictlySortedBy
@@ -175,7 +176,10 @@ module _ (x y : Fault) (xs ys : List Fault) (p : IsStrictlySortedBy fault_cmp (x
       rest_of_union (x ∷ xs) (y ∷ ys) xs (y ∷ ys) x (first_of_two x y xs ys Less e p q)
       (λ z c. elim c [
         | inl a ↦ (inl (contains_behind x xs z a), behind_is_other x xs p z a)
-        | inr b ↦ (inr b, less_is_other x (y ∷ ys) (λ w d. less_up_to x y w e (up_to_each y ys q w d)) z b)
+        | inr b ↦ (
+          inr b,
+          less_is_other x (y ∷ ys) (λ w d. less_up_to x y w e (up_to_each y ys q w d)) z b,
+        )
       ])
       (λ z c other. elim c [ inl a ↦ inl (still_behind x xs z a other) | inr b ↦ inr b ])
 
@@ -184,7 +188,10 @@ module _ (x y : Fault) (xs ys : List Fault) (p : IsStrictlySortedBy fault_cmp (x
       let less : fault_cmp y x ≡ Less = fault_cmp_total.antisymm y x ∙ ap ordering_reverse e in
       rest_of_union (x ∷ xs) (y ∷ ys) (x ∷ xs) ys y (first_of_two x y xs ys Greater e p q)
       (λ z c. elim c [
-        | inl a ↦ (inl a, less_is_other y (x ∷ xs) (λ w d. less_up_to y x w less (up_to_each x xs p w d)) z a)
+        | inl a ↦ (
+          inl a,
+          less_is_other y (x ∷ xs) (λ w d. less_up_to y x w less (up_to_each x xs p w d)) z a,
+        )
         | inr b ↦ (inr (contains_behind y ys z b), behind_is_other y ys q z b)
       ])
       (λ z c other. elim c [ inl a ↦ inl a | inr b ↦ inr (still_behind y ys z b other) ])

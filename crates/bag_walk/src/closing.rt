@@ -2,7 +2,7 @@
 ghost use Rattle.std.specs.Prelude.{◌≡◌, ◌++◌};
 ghost use Rattle.bag_facts.specs.FaultLine.{field};
 ghost use Rattle.bag_walk.specs.Closing as spec;
-ghost use Rattle.bag_walk.specs.Write.{Writes, text_of};
+ghost use Rattle.bag_walk.specs.Write.{Writes, joined_pieces};
 
 use crate::segment::{put_all, put_pieces};
 use crate::{Outcome, Request};
@@ -91,7 +91,7 @@ fn put_cause<W: Out>(stop: &Stop, count: u64, out: &mut W) -> Result<(), Refused
 /// Hands a text to the output as a field of a line, and then the pieces. It takes no memory.
 pub fn put_line<W: Out>(text: &str, pieces: &[&str], out: &mut W) -> Result<(), Refused>
     ensures { Writes (W.state out.old) (W.state out.new)
-        (field text.now ++ text_of pieces.now) result }
+        (field text.now ++ joined_pieces pieces.now) result }
 {
     put_field(text, out)?;
     put_pieces(out, pieces)

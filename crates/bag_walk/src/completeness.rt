@@ -17,21 +17,21 @@ use crate::fixed::{above, merged};
 use crate::{Fixed, InOrder, Quiet, Source};
 use bag_facts::{Facts, Fault};
 use bag_read::Kind;
-use bag_stages::{clashes_asked, is_exact, missing_of, left_out_by_all, left_out_by_one};
+use bag_stages::{clashes_asked, is_exact, left_out_by_all, left_out_by_one, missing_of};
 use bag_text::Alg;
 use bag_tree::{Stop, Tree};
 use std::alloc::{AllocError, Global};
 
-/// What keeps a bag from being complete (RFC 8493, 3), and where they are asked for clashes of names, above a cursor. Opens no
-/// file.
+/// What keeps a bag from being complete (RFC 8493, 3), and where they are asked for clashes of
+/// names, above a cursor. Opens no file.
 #[derive(Debug, Drop)]
 pub struct Completeness {
     list: Fixed,
 }
 
 impl Completeness {
-    /// Those of a bag of which these facts were read. There are none where the depth doesn't have them. Fails only where memory
-    /// runs out.
+    /// Those of a bag of which these facts were read. There are none where the depth doesn't have
+    /// them. Fails only where memory runs out.
     pub fn new(
         alloc: Global,
         facts: &Facts,
@@ -66,8 +66,8 @@ fn asked(alloc: Global, facts: &Facts, after: Option<&Fault>) -> Result<Vec<Faul
     }
 }
 
-/// The faults of completeness above a cursor, of facts read for more than the declaration, and where the options ask for them
-/// the clashes of names.
+/// The faults of completeness above a cursor, of facts read for more than the declaration, and
+/// where the options ask for them the clashes of names.
 fn sought(alloc: Global, facts: &Facts, after: Option<&Fault>) -> Result<Vec<Fault>, AllocError>
     ensures { IfOk result (λ faults. OfBag facts.now (λ bag.
         AreAbove (option_copied after.entry)
@@ -78,8 +78,8 @@ fn sought(alloc: Global, facts: &Facts, after: Option<&Fault>) -> Result<Vec<Fau
     merged(alloc, of_files, of_names)
 }
 
-/// The faults above a cursor that files are missing or aren't listed: those of each manifest, and those of all payload
-/// manifests at once, which a bag has by the rules of 0.97.
+/// The faults above a cursor that files are missing or aren't listed: those of each manifest, and
+/// those of all payload manifests at once, which a bag has by the rules of 0.97.
 fn of_files(alloc: Global, facts: &Facts, after: Option<&Fault>) -> Result<Vec<Fault>, AllocError>
     ensures { IfOk result (λ faults. OfBag facts.now (λ bag.
         AreAbove (option_copied after.entry) (IsIncomplete bag) faults.items)) }
@@ -117,7 +117,8 @@ fn of_alg(
     merged(alloc, of_payload, of_tags)
 }
 
-/// Those of the payload manifest of an algorithm. Most have none, which one look at both lists shows.
+/// Those of the payload manifest of an algorithm. Most have none, which one look at both lists
+/// shows.
 fn of_payload(
     alloc: Global,
     facts: &Facts,

@@ -16,8 +16,8 @@ use std::alloc::{AllocError, Global};
 /// The stage of faults of digests.
 const STAGE: u8 = 7;
 
-/// The listed files that a manifest names, with what manifests give for them, in path order: those that a cursor hasn't
-/// passed. There are none below the depth `Full`.
+/// The listed files that a manifest names, with what manifests give for them, in path order: those
+/// that a cursor hasn't passed. There are none below the depth `Full`.
 pub(crate) fn files_to_sum(
     alloc: Global,
     facts: &Facts,
@@ -66,7 +66,7 @@ fn to_sum_of(
     }))
 }
 
-/// Whether a cursor is behind all faults of digests that a file may have.
+/// Whether a cursor is after all faults of digests that a file may have.
 fn is_passed(after: Option<&Fault>, path: &Text) -> bool
     ensures { result ≡ is_passed (option_copied after.entry) path.now }
 {

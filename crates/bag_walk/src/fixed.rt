@@ -1,4 +1,4 @@
-//! Faults that are at hand, lists of faults in their order, and one source behind another.
+//! Faults that are at hand, lists of faults in their order, and one source after another.
 ghost use Rattle.std.specs.Prelude.{◌≡◌, ⊤, ◌↔◌, ◌+◌, ◌<◌, [], ◌++◌, length, true, Bool};
 ghost use Rattle.std.specs.Prelude.{IsTrue, IsSome, IfOk, OnSome, if◌then◌else◌};
 ghost use Rattle.std.specs.List.Sorted.{IsStrictlySortedBy};
@@ -8,7 +8,7 @@ ghost use Rattle.bag_walk.specs.Source.{first_of, rest_of, AllBelow, Where};
 ghost use Rattle.bag_report.specs.Report.{above};
 ghost use Rattle.bag_walk.specs.Completeness.{TakesLeast};
 ghost use Rattle.bag_walk.specs.Merge.{union, IfBothAscend};
-ghost use Rattle.bag_walk.specs.Openings.{NoneBehind};
+ghost use Rattle.bag_walk.specs.Openings.{NoFaultBefore};
 ghost use Rattle.bag_walk.specs.Lists.{front_ascends, first_of_both};
 
 use crate::merge::order;
@@ -139,7 +139,8 @@ pub(crate) fn above(mut faults: Vec<Fault>, after: Option<&Fault>) -> Vec<Fault>
     faults
 }
 
-/// The faults of two ascending lists in their order, and equal ones once. Takes memory only where both have some.
+/// The faults of two ascending lists in their order, and equal ones once. Takes memory only where
+/// both have some.
 pub(crate) fn merged(
     alloc: Global,
     faults: Vec<Fault>,
@@ -195,8 +196,8 @@ fn take_least(faults: &mut VecDeque<Fault>, others: &mut VecDeque<Fault>) -> Opt
     }
 }
 
-/// The faults of a source, and then those of another. Each fault of the first is less than each of the second, which is filled
-/// only once nothing is left of the first.
+/// The faults of a source, and then those of another. Each fault of the first is less than each of
+/// the second, which is filled only once nothing is left of the first.
 #[derive(Debug, Drop)]
 pub struct Then<A, B> {
     first: A,
@@ -220,7 +221,7 @@ impl<A, B> Then<A, B> {
 impl<T: Tree, A: Source<T>, B: Source<T>> Source<T> for Then<A, B> {
     ghost is_of = { λ bag s. Where s.in_first (A.is_of bag s.first
         × AllBelow (A.remaining bag s.first) (B.remaining bag s.second)
-        × (A.in_order → NoneBehind (B.remaining bag s.second) (A.todo s.first)))
+        × (A.in_order → NoFaultBefore (B.remaining bag s.second) (A.todo s.first)))
         × B.is_of bag s.second };
 
     ghost remaining = { λ bag s.

@@ -9,7 +9,7 @@ pub fn cursor_cuts_list()
     ensures { CursorCutsList }
 {}
 
-/// A segment of n faults and one of m behind it are the first n + m faults.
+/// A segment of n faults and one of m after it are the first n + m faults.
 pub fn segments_join()
     ensures { SegmentsJoin }
 {}

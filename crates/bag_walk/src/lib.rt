@@ -5,17 +5,20 @@
 //! let exit = status(&outcome);
 //! ```
 //!
-//! A `Source` gives faults in their order, and opens a file only when its faults are asked for. Sources are put together by
-//! `Then`, one behind the other, and by `Merge`, both at once. A walk, `Steps`, owns a tree and a source of its bag, and gives
-//! one fault after the other; `Walk` is the walk over the report of a bag. After a refusal it has the same faults still to give,
-//! and asked again it begins with the file that was refused.
+//! A `Source` gives faults in their order, and opens a file only when its faults are asked for.
+//! Sources are put together by `Then`, one after the other, and by `Merge`, both at once. A walk,
+//! `Steps`, owns a tree and a source of its bag, and gives one fault after the other; `Walk` is the
+//! walk over the report of a bag. After a refusal it has the same faults still to give, and asked
+//! again it begins with the file that was refused.
 //!
-//! A run says which lines are written, which files are opened before each, and how it ended. `run_segments` writes a report in
-//! segments, of which each goes on behind the last line that was written.
+//! A run says which lines are written, which files are opened before each, and how it ended.
+//! `run_segments` writes a report in segments, of which each goes on after the last line that was
+//! written.
 //!
-//! What a run writes, and how it ends, is the theorem of the whole: exactly the faults above the cursor, up to the limit, then
-//! the closing line, or a proper prefix. A source gives the faults that are left, the least first; a file is opened when its
-//! faults are asked for, once for all its algorithms, and none behind the fault that is given. Segments add up to one report.
+//! What a run writes, and how it ends, is the theorem of the whole: exactly the faults above the
+//! cursor, up to the limit, then the closing line, or a proper prefix. A source gives the faults
+//! that are left, the least first; a file is opened when its faults are asked for, once for all its
+//! algorithms, and none after the fault that is given. Segments add up to one report.
 #![tactic(auto)]
 
 mod closing;

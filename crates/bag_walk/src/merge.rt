@@ -1,7 +1,7 @@
 //! Two sources at once.
 ghost use Rattle.std.specs.Prelude.{◌≡◌, ◌++◌, [], None, false, IfErr, OnOk, OnErr, if◌then◌else◌};
 ghost use Rattle.std.specs.Option.{option_copied};
-ghost use Rattle.bag_tree.specs.Calm.{RefusesNothing};
+ghost use Rattle.bag_tree.specs.NothingFailed.{NothingFailed};
 ghost use Rattle.bag_tree.specs.Tree.{Keeps};
 ghost use Rattle.bag_walk.specs.Filled.{awaits_second, is_both};
 ghost use Rattle.bag_walk.specs.declared.merge.Filled.TheVariants.{Neither};
@@ -37,8 +37,8 @@ impl Filled {
 
 /// The faults of two sources in their order, and equal ones once.
 ///
-/// Both are filled before a fault is shown, so one of them may open files that stand behind that fault. A merge of two sources
-/// that open no file opens none.
+/// Both are filled before a fault is shown, so one of them may open files that stand after that
+/// fault. A merge of two sources that open no file opens none.
 #[derive(Debug, Drop)]
 pub struct Merge<A, B> {
     first: A,
@@ -130,7 +130,7 @@ fn fill_unless<T: Tree, S: Source<T>>(
     tree: &mut T,
 ) -> Result<(), Stop>
     ensures keeps { Keeps (T.state tree.old) (T.state tree.new) }
-    ensures calm { OnOk result (RefusesNothing (T.state tree.old) (T.state tree.new)) }
+    ensures no_failure { OnOk result (NothingFailed (T.state tree.old) (T.state tree.new)) }
     ensures quiet { S.in_order → S.todo source.old ≡ [] →
         ((T.state tree.new).openings ≡ (T.state tree.old).openings) }
     ensures same { ForEachSeen S.is_of S.todo (T.state tree.old) source.old (λ bag.

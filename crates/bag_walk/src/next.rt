@@ -11,11 +11,13 @@ use bag_facts::Fault;
 use bag_tree::{Stop, Tree};
 
 impl<T: Tree, S: InOrder<T>> Steps<T, S> {
-    /// The least fault of the report above its position, which becomes the position; none where none is above it. After a
-    /// refusal the position is the same. The walk after the call is as `go_on` leaves it.
+    /// The least fault of the report above its position, which becomes the position; none where
+    /// none is above it. After a refusal the position is the same. The walk after the call is as
+    /// `go_on` leaves it.
     ///
-    /// The check tells a caller nothing of what a result that owns memory was lent by, and a `Stop` owns its path. So a caller
-    /// whose proof goes by the walk after the call makes the two calls that this one makes, `go_on` and `shown`.
+    /// The check tells a caller nothing of what a result that owns memory was lent by, and a `Stop`
+    /// owns its path. So a caller whose proof goes by the walk after the call makes the two calls
+    /// that this one makes, `go_on` and `shown`.
     pub fn next(&mut self) -> Result<Option<&Fault>, Stop>
         ensures* behind { sem 𝓛 (follows_so (the_row T.row S.row) (the_row T.row S.row)
             self.entry.ghost_name none (λ _ _. ⊤)

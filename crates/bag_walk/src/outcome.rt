@@ -33,7 +33,8 @@ pub enum Outcome {
     Rest(u64),
     /// The tree or memory refused.
     Unread(u64, Stop),
-    /// The output refused: it took this number of whole fault lines, and then a proper prefix of the next line.
+    /// The output refused: it took this number of whole fault lines, and then a proper prefix of
+    /// the next line.
     Unwritten(u64),
 }
 

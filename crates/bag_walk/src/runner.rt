@@ -5,10 +5,10 @@ ghost use Rattle.bag_tree.specs.Tree.{Keeps};
 ghost use Rattle.bag_facts.specs.declared.fault.Fault.{Fault as Spoken};
 ghost use Rattle.bag_walk.specs.Closing.{count_of};
 ghost use Rattle.bag_walk.specs.Ending.{limit_of};
-ghost use Rattle.bag_walk.specs.Openings.{NoneWaits, OpensAgain, OpensNoneBehind};
-ghost use Rattle.bag_walk.specs.Steps.{left, to_open, ForEachBag, IsOfHonest};
+ghost use Rattle.bag_walk.specs.Openings.{NoFaultBeforeStop, OpensAgain, OpensNoFileEarly};
+ghost use Rattle.bag_walk.specs.Steps.{left, to_open, ForEachBag, WalkIsOfHonest};
 ghost use Rattle.bag_walk.specs.RunOpenings.{written_before};
-ghost use Rattle.bag_walk.specs.Segment.{MayStopRun, WritesCalmly};
+ghost use Rattle.bag_walk.specs.Segment.{MayStopRun, WritesWithoutFailure};
 ghost use Rattle.bag_walk.specs.Stops.{IfStopped};
 ghost use Rattle.bag_walk.specs.WholeRun.{IsRunOver};
 
@@ -19,13 +19,14 @@ use bag_report::{Fault, Profile};
 use bag_tree::{Out, Tree};
 use std::alloc::Global;
 
-/// Writes the faults of a tree's bag that the request asks for, one line each, and a closing line. Without a profile the
-/// bag has to conform to none.
+/// Writes the faults of a tree's bag that the request asks for, one line each, and a closing line.
+/// Without a profile the bag has to conform to none.
 ///
-/// A fault's line is handed to the output before the next file is opened. Each line ends in LF, and is one write where the
-/// output takes it whole; the closing line takes no memory. At depth `Full` each file that a manifest names and that the
-/// cursor hasn't passed is opened once at most, for all its algorithms together, after the lines of stages 1 to 6 were written;
-/// where these reach the limit, none is. The tree comes back, with the last file that was read open.
+/// A fault's line is handed to the output before the next file is opened. Each line ends in LF, and
+/// is one write where the output takes it whole; the closing line takes no memory. At depth `Full`
+/// each file that a manifest names and that the cursor hasn't passed is opened once at most, for
+/// all its algorithms together, after the lines of stages 1 to 6 were written; where these reach
+/// the limit, none is. The tree comes back, with the last file that was read open.
 pub fn run<T: Tree, W: Out>(
     alloc: Global,
     tree: T,
@@ -62,20 +63,20 @@ fn run_of_walk<T: Tree, S: InOrder<T> + Drop, W: Out>(
     ensures opens { (files : List (List ℕ)) ×
         OpensAgain (to_open S.Source walk) files (T.state walk.tree) (T.state result.0) }
     ensures behind { ForEachBag T.Tree S.Source walk (λ bag.
-        OpensNoneBehind (drop (written_before request.now result.1) (left S.Source bag walk))
+        OpensNoFileEarly (drop (written_before request.now result.1) (left S.Source bag walk))
         (T.state walk.tree) (T.state result.0)) }
     ensures seen { ForEachBag T.Tree S.Source walk (λ bag.
-        WritesCalmly request.now (left S.Source bag walk)
-        (MayStopRun (IsOfHonest T.Tree S.Source walk) (to_open S.Source walk)
+        WritesWithoutFailure request.now (left S.Source bag walk)
+        (MayStopRun (WalkIsOfHonest T.Tree S.Source walk) (to_open S.Source walk)
         (T.state walk.tree) (T.state result.0))
         (T.state walk.tree) (T.state result.0) (W.state out.old) (W.state out.new) result.1) }
-    ensures unseen { (faults : List Spoken) × WritesCalmly request.now faults
-        (MayStopRun (IsOfHonest T.Tree S.Source walk) (to_open S.Source walk)
+    ensures unseen { (faults : List Spoken) × WritesWithoutFailure request.now faults
+        (MayStopRun (WalkIsOfHonest T.Tree S.Source walk) (to_open S.Source walk)
         (T.state walk.tree) (T.state result.0))
         (T.state walk.tree) (T.state result.0) (W.state out.old) (W.state out.new) result.1 }
     ensures waits { IfStopped result.1 (λ stop. ForEachBag T.Tree S.Source walk (λ bag.
-        NoneWaits (drop (count_of result.1) (left S.Source bag walk)) stop.path)) }
-    ensures stop { IfStopped result.1 (MayStopRun (IsOfHonest T.Tree S.Source walk)
+        NoFaultBeforeStop (drop (count_of result.1) (left S.Source bag walk)) stop.path)) }
+    ensures stop { IfStopped result.1 (MayStopRun (WalkIsOfHonest T.Tree S.Source walk)
         (to_open S.Source walk) (T.state walk.tree) (T.state result.0)) }
 {
     let mut walk = walk;

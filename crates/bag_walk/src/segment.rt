@@ -2,22 +2,22 @@
 ghost use Rattle.std.specs.Prelude.{ℕ, ◌≡◌, List, [], drop, string_bytes};
 ghost use Rattle.std.specs.Prelude.{IfOk, IsTrue, OnOk, Option};
 ghost use Rattle.std.specs.Option.{option_copied};
-ghost use Rattle.bag_tree.specs.Calm.{RefusesNothing};
+ghost use Rattle.bag_tree.specs.NothingFailed.{NothingFailed};
 ghost use Rattle.bag_tree.specs.Out.{OutState};
 ghost use Rattle.bag_tree.specs.Tree.{Keeps};
 ghost use Rattle.bag_facts.specs.declared.fault.Fault.{Fault as Spoken};
 ghost use Rattle.bag_facts.specs.Stops.{IsOutOfMemory};
 ghost use Rattle.bag_walk.specs.Closing.{count_of};
 ghost use Rattle.bag_walk.specs.Ending.{limit_of, written_line, ended};
-ghost use Rattle.bag_walk.specs.Openings.{NoneWaits, OpensNoneBehind};
-ghost use Rattle.bag_walk.specs.Steps.{left, to_open, ForEachBag, IsOfHonest, MayReopenLast};
+ghost use Rattle.bag_walk.specs.Openings.{NoFaultBeforeStop, OpensNoFileEarly};
+ghost use Rattle.bag_walk.specs.Steps.{left, to_open, ForEachBag, WalkIsOfHonest, MayReopenLast};
 ghost use Rattle.bag_walk.specs.Lines.{IsLastOf, IsLastLine};
 ghost use Rattle.bag_walk.specs.Segment.{ClosesSegment, IfUnread, IsRead, IsSegment};
 ghost use Rattle.bag_walk.specs.Segment.{MayStopWalk, StopsAt, still_to_come};
 ghost use Rattle.bag_walk.specs.Stops.{IfStopped};
 ghost use Rattle.bag_facts.specs.FaultOrder.{IsFault};
 ghost use Rattle.bag_walk.specs.Writer.{Closes};
-ghost use Rattle.bag_walk.specs.Write.{Writes, text_of};
+ghost use Rattle.bag_walk.specs.Write.{Writes, joined_pieces};
 
 use crate::closing::put_closing;
 use crate::{InOrder, Outcome, Request, Steps};
@@ -47,12 +47,12 @@ pub(crate) struct Segment {
     pub(crate) end: SegmentEnd,
 }
 
-/// Writes a line for each fault that a walk has still to give, up to the limit. Each line is handed to the output before the
-/// next fault is looked for.
+/// Writes a line for each fault that a walk has still to give, up to the limit. Each line is handed
+/// to the output before the next fault is looked for.
 ///
-/// Each line ends in LF, and is one write where the output takes it whole. Where memory for a line runs out, the segment is
-/// `Unread` with a stop that names no file; where the output refuses, nothing more is written. The last line that was
-/// written is kept.
+/// Each line ends in LF, and is one write where the output takes it whole. Where memory for a line
+/// runs out, the segment is `Unread` with a stop that names no file; where the output refuses,
+/// nothing more is written. The last line that was written is kept.
 pub(crate) fn write_faults<T: Tree, S: InOrder<T>, W: Out>(
     alloc: Global,
     walk: &mut Steps<T, S>,
@@ -61,14 +61,14 @@ pub(crate) fn write_faults<T: Tree, S: InOrder<T>, W: Out>(
     out: &mut W,
 ) -> Segment
     ensures keeps { Keeps (T.state walk.old.tree) (T.state walk.new.tree) }
-    ensures calm { IsRead result.end →
-        RefusesNothing (T.state walk.old.tree) (T.state walk.new.tree) }
+    ensures no_failure { IsRead result.end →
+        NothingFailed (T.state walk.old.tree) (T.state walk.new.tree) }
     ensures opens { MayReopenLast T.Tree S.Source walk.old walk.new }
     ensures behind { ForEachBag T.Tree S.Source walk.old (λ bag.
-        OpensNoneBehind (still_to_come result (left S.Source bag walk.old))
+        OpensNoFileEarly (still_to_come result (left S.Source bag walk.old))
         (T.state walk.old.tree) (T.state walk.new.tree)) }
     ensures waits { IfUnread result.end (λ stop. ForEachBag T.Tree S.Source walk.old (λ bag.
-        NoneWaits (drop result.written (left S.Source bag walk.old)) stop.path)) }
+        NoFaultBeforeStop (drop result.written (left S.Source bag walk.old)) stop.path)) }
     ensures seen { ForEachBag T.Tree S.Source walk.old (λ bag.
         IsSegment (left S.Source bag walk.old) limit (W.state out.old) (W.state out.new) result) }
     ensures last { ForEachBag T.Tree S.Source walk.old (λ bag.
@@ -76,7 +76,7 @@ pub(crate) fn write_faults<T: Tree, S: InOrder<T>, W: Out>(
         (string_bytes lines.old.last) (string_bytes lines.new.last)) }
     ensures unseen { (faults : List Spoken) ×
         IsSegment faults limit (W.state out.old) (W.state out.new) result }
-    ensures stop { IfUnread result.end (MayStopWalk (IsOfHonest T.Tree S.Source walk.old)
+    ensures stop { IfUnread result.end (MayStopWalk (WalkIsOfHonest T.Tree S.Source walk.old)
         (to_open S.Source walk.old) (to_open S.Source walk.new)
         (T.state walk.old.tree) (T.state walk.new.tree)) }
 {
@@ -190,8 +190,8 @@ impl Lines {
     }
 }
 
-/// Puts a fault's line with its end, an LF, in place of what the buffer held. It takes memory only where the line is longer
-/// than the buffer.
+/// Puts a fault's line with its end, an LF, in place of what the buffer held. It takes memory only
+/// where the line is longer than the buffer.
 pub(crate) fn fill_line(line: &mut String, fault: &Fault) -> Result<(), AllocError>
     ensures { OnOk result (string_bytes line.new ≡ written_line fault.now) }
 {
@@ -211,8 +211,8 @@ pub(crate) fn end_of_report(after: Option<&Fault>, written: u64) -> Outcome
     }
 }
 
-/// Writes the closing line of an outcome, and answers how the run ended: so, or `Unwritten` with the same number of
-/// fault lines. It takes no memory.
+/// Writes the closing line of an outcome, and answers how the run ended: so, or `Unwritten` with
+/// the same number of fault lines. It takes no memory.
 pub(crate) fn close<W: Out>(request: &Request, ending: Outcome, out: &mut W) -> Outcome
     ensures { Closes request.now ending (W.state out.old) (W.state out.new) result }
 {
@@ -237,7 +237,7 @@ pub(crate) fn put_all<W: Out>(out: &mut W, bytes: &[u8]) -> Result<(), Refused>
 
 /// Hands the pieces of a text to the output. It takes no memory.
 pub fn put_pieces<W: Out>(out: &mut W, pieces: &[&str]) -> Result<(), Refused>
-    ensures { Writes (W.state out.old) (W.state out.new) (text_of pieces.now) result }
+    ensures { Writes (W.state out.old) (W.state out.new) (joined_pieces pieces.now) result }
 {
     for piece in pieces {
         put_all(out, piece.as_bytes())?;

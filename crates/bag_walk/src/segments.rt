@@ -1,11 +1,11 @@
 //! A report in segments, each with a limit of its own.
 ghost use Rattle.std.specs.Prelude.{◌≡◌, ◌<◌, ◌≤◌, ◌^◌, ℕ, List, sum, string_bytes};
 ghost use Rattle.std.specs.Option.{option_copied};
-ghost use Rattle.bag_tree.specs.Calm.{RefusesNothing};
+ghost use Rattle.bag_tree.specs.NothingFailed.{NothingFailed};
 ghost use Rattle.bag_tree.specs.Tree.{Keeps};
 ghost use Rattle.bag_facts.specs.declared.fault.Fault.{Fault as Spoken};
-ghost use Rattle.bag_walk.specs.Openings.{OpensAgain, OpensNoneBehind};
-ghost use Rattle.bag_walk.specs.Steps.{left, to_open, ForEachBag, IsOfHonest};
+ghost use Rattle.bag_walk.specs.Openings.{OpensAgain, OpensNoFileEarly};
+ghost use Rattle.bag_walk.specs.Steps.{left, to_open, ForEachBag, WalkIsOfHonest};
 ghost use Rattle.bag_walk.specs.Lines.{IsLastOf};
 ghost use Rattle.bag_walk.specs.Segment.{IfUnread, IsRead, IsSegment, MayStopRun, still_to_come};
 ghost use Rattle.bag_walk.specs.SegmentChain.{RunsInSegments};
@@ -44,16 +44,17 @@ impl SegmentEnd {
     }
 }
 
-/// Writes a report in segments, one for each limit, and no closing line. The first begins at the first fault, and each
-/// other behind the last fault that was written.
+/// Writes a report in segments, one for each limit, and no closing line. The first begins at the
+/// first fault, and each other after the last fault that was written.
 ///
-/// It ends with the first segment that comes to the end of the report or whose output refuses. One whose reading is refused
-/// is followed by the next. The outcome counts the lines of all segments; the tree comes back. For a limit of 0 it isn't
-/// looked at.
+/// It ends with the first segment that comes to the end of the report or whose output refuses. One
+/// whose reading is refused is followed by the next. The outcome counts the lines of all segments;
+/// the tree comes back. For a limit of 0 it isn't looked at.
 ///
-/// Each segment goes on with the file of the last fault that was written, which it may open again, and with none before it. So
-/// each file that payload manifests name is opened once at most, and for each segment but the first at most one of them once
-/// more. A segment whose reading is refused may have opened files without writing a line; the next opens these again.
+/// Each segment goes on with the file of the last fault that was written, which it may open again,
+/// and with none before it. So each file that payload manifests name is opened once at most, and
+/// for each segment but the first at most one of them once more. A segment whose reading is refused
+/// may have opened files without writing a line; the next opens these again.
 pub fn run_segments<T: Tree, W: Out>(
     alloc: Global,
     tree: T,
@@ -86,7 +87,8 @@ pub fn run_segments<T: Tree, W: Out>(
     (tree, outcome)
 }
 
-/// Writes the lines of one segment: of the faults behind the last line that was written, up to a limit.
+/// Writes the lines of one segment: of the faults after the last line that was written, up to a
+/// limit.
 fn write_segment<T: Tree, W: Out>(
     alloc: Global,
     tree: T,
@@ -97,7 +99,7 @@ fn write_segment<T: Tree, W: Out>(
     out: &mut W,
 ) -> (T, Segment)
     ensures keeps { Keeps (T.state tree) (T.state result.0) }
-    ensures calm { IsRead result.1.end → RefusesNothing (T.state tree) (T.state result.0) }
+    ensures no_failure { IsRead result.1.end → NothingFailed (T.state tree) (T.state result.0) }
     ensures bounded { result.1.written ≤ limit }
     ensures untouched { limit ≡ 0 → result.0 ≡ tree }
     ensures stop { IfUnread result.1.end (MayStop options (T.state tree) (T.state result.0)) }
@@ -142,14 +144,15 @@ fn segment_of_walk<T: Tree, S: InOrder<T> + Drop, W: Out>(
     out: &mut W,
 ) -> (T, Segment)
     ensures keeps { Keeps (T.state walk.tree) (T.state result.0) }
-    ensures calm { IsRead result.1.end → RefusesNothing (T.state walk.tree) (T.state result.0) }
+    ensures no_failure { IsRead result.1.end
+        → NothingFailed (T.state walk.tree) (T.state result.0) }
     ensures bounded { result.1.written ≤ limit }
     ensures opens { (files : List (List ℕ)) ×
         OpensAgain (to_open S.Source walk) files (T.state walk.tree) (T.state result.0) }
     ensures behind { ForEachBag T.Tree S.Source walk (λ bag.
-        OpensNoneBehind (still_to_come result.1 (left S.Source bag walk))
+        OpensNoFileEarly (still_to_come result.1 (left S.Source bag walk))
         (T.state walk.tree) (T.state result.0)) }
-    ensures stop { IfUnread result.1.end (MayStopRun (IsOfHonest T.Tree S.Source walk)
+    ensures stop { IfUnread result.1.end (MayStopRun (WalkIsOfHonest T.Tree S.Source walk)
         (to_open S.Source walk) (T.state walk.tree) (T.state result.0)) }
     ensures seen { ForEachBag T.Tree S.Source walk (λ bag.
         IsSegment (left S.Source bag walk) limit (W.state out.old) (W.state out.new) result.1) }

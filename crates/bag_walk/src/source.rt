@@ -4,12 +4,12 @@ ghost use Rattle.std.specs.Prelude.{IsSome, IfErr, OnOk, OnErr};
 ghost use Rattle.std.specs.List.Sorted.{IsStrictlySortedBy};
 ghost use Rattle.std.specs.Option.{option_copied};
 ghost use Rattle.bag_tree.specs.Bag.{Bag};
-ghost use Rattle.bag_tree.specs.Calm.{RefusesNothing};
+ghost use Rattle.bag_tree.specs.NothingFailed.{NothingFailed};
 ghost use Rattle.bag_tree.specs.Tree.{Keeps};
 ghost use Rattle.bag_facts.specs.FaultOrder.{fault_cmp};
 ghost use Rattle.bag_facts.specs.declared.fault.Fault.{Fault};
-ghost use Rattle.bag_walk.specs.Openings.{NoneWaits, Opens, OpensAgain};
-ghost use Rattle.bag_walk.specs.Openings.{OpensNoneBehind, StopsAtNext};
+ghost use Rattle.bag_walk.specs.Openings.{NoFaultBeforeStop, Opens, OpensAgain};
+ghost use Rattle.bag_walk.specs.Openings.{OpensNoFileEarly, StopsAtNext};
 ghost use Rattle.bag_walk.specs.Source.{first_of, rest_of, ForEachSeen, IsOfHonest};
 ghost use Rattle.bag_walk.specs.Source.{MayStopAnyway, MayStopFilling};
 
@@ -32,17 +32,17 @@ pub trait Source<T: Tree> {
     /// The fault that it shows.
     ghost found: { Self → Option Fault };
 
-    /// What it promises of the files that it opens: they are the first of those that it may still open, each once, and none
-    /// stands behind the first fault that is left.
+    /// What it promises of the files that it opens: they are the first of those that it may still
+    /// open, each once, and none stands after the first fault that is left.
     ghost in_order: { Type 0 };
 
-    /// Finds the first fault that is left, over an honest tree of its bag, and leaves what is left as it is, also where it is
-    /// refused. The file that was refused is the next to be opened.
+    /// Finds the first fault that is left, over an honest tree of its bag, and leaves what is left
+    /// as it is, also where it is refused. The file that was refused is the next to be opened.
     ///
     /// A source that has no file to open does so over any tree, for each bag that it is of.
     fn fill(&mut self, tree: &mut T) -> Result<(), Stop>
         ensures keeps { Keeps (T.state tree.old) (T.state tree.new) }
-        ensures calm { OnOk result (RefusesNothing (T.state tree.old) (T.state tree.new)) }
+        ensures no_failure { OnOk result (NothingFailed (T.state tree.old) (T.state tree.new)) }
         ensures opens { OnOk result (in_order →
             Opens (todo self.old) (todo self.new) (T.state tree.old) (T.state tree.new)) }
         ensures again { OnErr result (in_order →
@@ -50,20 +50,22 @@ pub trait Source<T: Tree> {
         ensures reached { IfErr result (λ stop. in_order →
             StopsAtNext (todo self.old) (T.state tree.old) (T.state tree.new) stop) }
         ensures waits { IfErr result (λ stop. in_order → ForEachSeen is_of todo
-            (T.state tree.old) self.old (λ bag. NoneWaits (remaining bag self.old) stop.path)) }
+            (T.state tree.old) self.old (λ bag.
+            NoFaultBeforeStop (remaining bag self.old) stop.path)) }
         ensures ended { OnOk result (in_order → found self.new ≡ None → todo self.new ≡ []) }
         ensures same { ForEachSeen is_of todo (T.state tree.old) self.old (λ bag.
             is_of bag self.new × (remaining bag self.new ≡ remaining bag self.old)) }
         ensures first { OnOk result (ForEachSeen is_of todo (T.state tree.old) self.old (λ bag.
             found self.new ≡ first_of (remaining bag self.new))) }
         ensures behind { in_order → ForEachSeen is_of todo (T.state tree.old) self.old (λ bag.
-            OpensNoneBehind (remaining bag self.old) (T.state tree.old) (T.state tree.new)) }
+            OpensNoFileEarly (remaining bag self.old) (T.state tree.old) (T.state tree.new)) }
         ensures stop { IfErr result (λ stop. IsOfHonest is_of (T.state tree.old) self.old →
             MayStopFilling (todo self.new) (T.state tree.old) (T.state tree.new) stop) }
         ensures anyway { IfErr result (
             MayStopAnyway (todo self.new) (T.state tree.old) (T.state tree.new)) };
 
-    /// The first fault that is left, where it was found. After `fill` there is none only where none is left.
+    /// The first fault that is left, where it was found. After `fill` there is none only where none
+    /// is left.
     fn peek(&self) -> Option<&Fault>
         ensures { option_copied result ≡ found self.now };
 
@@ -83,7 +85,7 @@ pub trait Source<T: Tree> {
         → IsStrictlySortedBy fault_cmp (remaining bag source) };
 }
 
-/// A source that opens its files in their order, and none behind the first fault that is left.
+/// A source that opens its files in their order, and none after the first fault that is left.
 pub trait InOrder<T: Tree>: Source<T> {
     /// The promise holds.
     ghost is_in_order: { Self.in_order };

@@ -2,7 +2,7 @@
 ghost use Rattle.std.specs.Prelude.{◌≡◌, ◌≢◌, false, IfErr, IfOk, OnErr, OnOk};
 ghost use Rattle.std.specs.Option.{option_copied};
 ghost use Rattle.bag_tree.specs.Bag.{Bag};
-ghost use Rattle.bag_tree.specs.Calm.{RefusesNothing};
+ghost use Rattle.bag_tree.specs.NothingFailed.{NothingFailed};
 ghost use Rattle.bag_tree.specs.Tree.{Keeps};
 ghost use Rattle.bag_facts.specs.Facts.{IsFactsOf};
 ghost use Rattle.bag_facts.specs.Wanted.{OpensWanted};
@@ -12,7 +12,7 @@ ghost use Rattle.bag_walk.specs.Start.{state_after, AreAheadBefore, AreSources};
 ghost use Rattle.bag_walk.specs.Start.{IsNotStarted, Starts};
 ghost use Rattle.bag_walk.specs.Steps.{left, shown, to_open, GivesFirst, GoesOn, IsDone};
 ghost use Rattle.bag_walk.specs.Steps.{IsStoppedInTurn, MayReopenLast, MayStopHere, MayStopOverAny};
-ghost use Rattle.bag_walk.specs.Steps.{OpensBehindNone, OpensNext, StopsBehindNone};
+ghost use Rattle.bag_walk.specs.Steps.{WalkOpensNoFileEarly, OpensNext, StopsBeforeRemaining};
 
 use crate::fixed::above;
 use crate::{Completeness, Fixed, InOrder, Source, Then, Validity};
@@ -22,7 +22,8 @@ use bag_report::stage_faults;
 use bag_tree::{Stop, Tree, TreeFault};
 use std::alloc::{AllocError, Global};
 
-/// A walk over the faults of a source: a tree, and a source of faults of its bag, whose first fault may have been given.
+/// A walk over the faults of a source: a tree, and a source of faults of its bag, whose first fault
+/// may have been given.
 #[derive(Debug, Drop)]
 pub struct Steps<T, S> {
     tree: T,
@@ -42,18 +43,19 @@ impl<T: Tree, S: InOrder<T>> Steps<T, S> {
         }
     }
 
-    /// Goes to the next fault. After a refusal it shows none, and the next step gives what this one would have given.
+    /// Goes to the next fault. After a refusal it shows none, and the next step gives what this one
+    /// would have given.
     pub fn step(&mut self) -> Result<(), Stop>
         ensures keeps { Keeps (T.state self.old.tree) (T.state self.new.tree) }
-        ensures calm { OnOk result (
-            RefusesNothing (T.state self.old.tree) (T.state self.new.tree)) }
+        ensures no_failure { OnOk result (
+            NothingFailed (T.state self.old.tree) (T.state self.new.tree)) }
         ensures opens { OnOk result (OpensNext T.Tree S.Source self.old self.new) }
         ensures again { OnErr result (MayReopenLast T.Tree S.Source self.old self.new) }
         ensures reached { IfErr result (IsStoppedInTurn T.Tree S.Source self.old self.new) }
-        ensures waits { IfErr result (StopsBehindNone T.Tree S.Source self.old) }
+        ensures waits { IfErr result (StopsBeforeRemaining T.Tree S.Source self.old) }
         ensures ended { OnOk result (IsDone S.Source self.new) }
         ensures next { GivesFirst T.Tree S.Source self.old self.new result }
-        ensures behind { OpensBehindNone T.Tree S.Source self.old self.new }
+        ensures behind { WalkOpensNoFileEarly T.Tree S.Source self.old self.new }
         ensures stop { IfErr result (MayStopHere T.Tree S.Source self.old self.new) }
         ensures anyway { IfErr result (MayStopOverAny T.Tree S.Source self.old self.new) }
     {
@@ -110,9 +112,9 @@ impl<T: Tree, S: InOrder<T>> Steps<T, S> {
 }
 
 impl<T: Tree, S: InOrder<T>> Steps<T, S> {
-    /// Goes to the least fault of the report above its position, which becomes the position. After a refusal the position is
-    /// the same. It opens files from the front of those still to be opened, each once; a file before which a fault stands that
-    /// was still to be given waits on.
+    /// Goes to the least fault of the report above its position, which becomes the position. After
+    /// a refusal the position is the same. It opens files from the front of those still to be
+    /// opened, each once; a file before which a fault stands that was still to be given waits on.
     pub fn go_on(&mut self) -> Result<(), Stop>
         ensures { GoesOn T.Tree S.Source self.old self.new result }
     {
@@ -120,19 +122,21 @@ impl<T: Tree, S: InOrder<T>> Steps<T, S> {
     }
 }
 
-/// Faults of the stages before the sixth, those of completeness, those of files, and those of the stages behind them.
+/// Faults of the stages before the sixth, those of completeness, those of files, and those of the
+/// stages after them.
 pub type Sources = Then<Fixed, Then<Completeness, Then<Validity, Fixed>>>;
 
 /// A walk over the faults of a bag.
 pub type Walk<T> = Steps<T, Sources>;
 
 impl<T: Tree> Walk<T> {
-    /// Reads the tag files of a tree's bag, for a walk over the faults of its report that are greater than a cursor, or over
-    /// all without one. Without a profile the bag has to conform to none.
+    /// Reads the tag files of a tree's bag, for a walk over the faults of its report that are
+    /// greater than a cursor, or over all without one. Without a profile the bag has to conform to
+    /// none.
     ///
-    /// Each tag file is opened once at most, and no other file. The files whose digests are to be compared are opened by the
-    /// steps of the walk, none below the depth `Full`; memory for reading them is taken here. After a refusal the tree comes
-    /// back.
+    /// Each tag file is opened once at most, and no other file. The files whose digests are to be
+    /// compared are opened by the steps of the walk, none below the depth `Full`; memory for
+    /// reading them is taken here. After a refusal the tree comes back.
     pub fn start(
         alloc: Global,
         tree: T,

@@ -2,7 +2,7 @@
 ghost use Rattle.std.specs.Prelude.{ℕ, ◌≡◌, List, Contains, length, Some, IsTrue};
 ghost use Rattle.std.specs.Prelude.{IfOk, IfErr, OnOk, OnErr};
 ghost use Rattle.std.specs.Option.{option_copied};
-ghost use Rattle.bag_tree.specs.Calm.{RefusesNothing};
+ghost use Rattle.bag_tree.specs.NothingFailed.{NothingFailed};
 ghost use Rattle.bag_tree.specs.Tree.{Keeps, OpensAtMost};
 ghost use Rattle.bag_stages.specs.SumFaults.{AreSumsBy};
 ghost use Rattle.bag_stages.specs.declared.expected.Expected.{Expected as Given};
@@ -24,7 +24,8 @@ pub(crate) struct ToSum {
     pub expected: Items<Expected>,
 }
 
-/// The faults of a file that are above a cursor. It is opened once, and read once for all its algorithms.
+/// The faults of a file that are above a cursor. It is opened once, and read once for all its
+/// algorithms.
 pub(crate) fn faults_of_file<T: Tree>(
     alloc: Global,
     tree: &mut T,
@@ -34,7 +35,7 @@ pub(crate) fn faults_of_file<T: Tree>(
 ) -> Result<Vec<Fault>, Stop>
     requires { length buffer.old ≡ 65536 }
     ensures keeps { Keeps (T.state tree.old) (T.state tree.new) }
-    ensures calm { OnOk result (RefusesNothing (T.state tree.old) (T.state tree.new)) }
+    ensures no_failure { OnOk result (NothingFailed (T.state tree.old) (T.state tree.new)) }
     ensures opened { OnOk result (OpensIt to_sum.now (T.state tree.old) (T.state tree.new)) }
     ensures opens { OnErr result (
         OpensAtMost (T.state tree.old) (T.state tree.new) to_sum.now.file.path) }
@@ -45,7 +46,7 @@ pub(crate) fn faults_of_file<T: Tree>(
     ensures anyway { IfErr result (
         MayStopAtItAnyway to_sum.now (T.state tree.old) (T.state tree.new)) }
 {
-    // Copied before the file is read, so that its refusal isn't told as want of memory.
+    // Copied before the file is read, so that its refusal isn't reported as out of memory.
     let Ok(path) = to_sum.file.path.copy(alloc) else {
         return Err(Stop::without_path(alloc, TreeFault::Memory));
     };

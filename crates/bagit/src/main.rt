@@ -1,7 +1,7 @@
 //! `bagit`: makes and checks BagIt bags (RFC 8493).
 //!
-//! With `--validate` it checks the bags in directories, else it makes directories bags in place; `--help` says more. With no
-//! words it checks a sample bag in memory.
+//! With `--validate` it checks the bags in directories, else it makes directories bags in place;
+//! `--help` says more. With no words it checks a sample bag in memory.
 #![tactic(auto)]
 
 use bag_cli::{Folders, WriterOut, run_program};

@@ -2,7 +2,7 @@
 use crate::bytes::Bytes;
 use std::alloc::Global;
 
-/// What is written, what is told on the error output, and the exit status.
+/// What is written, what is reported on the error output, and the exit status.
 #[derive(Drop)]
 pub struct Answer {
     pub written: Bytes,

@@ -53,7 +53,7 @@ impl Bytes {
         self.put_bytes(text.as_bytes());
     }
 
-    /// Adds what a value shows itself as, and a text behind it.
+    /// Adds what a value shows itself as, and a text after it.
     pub fn show<T: Display>(&mut self, value: &T, behind: &str) {
         if write!(self.held, "{value}{behind}").is_err() {
             self.fail(Mistake::Memory);

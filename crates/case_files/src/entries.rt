@@ -16,8 +16,8 @@ fn name_and_value(rest: &str) -> (&str, Option<&str>) {
     }
 }
 
-/// The bytes of an entry: those of its value, where it has one, or else of the lines below it. A folder takes neither, and a link a
-/// value alone.
+/// The bytes of an entry: those of its value, where it has one, or else of the lines below it. A
+/// folder takes neither, and a link a value alone.
 fn value_of(texts: &Texts, entry: Entry<'_>, value: Option<&str>) -> Bytes {
     let mistake = match (entry.line.word, value) {
         (Word::Folder, Some(_)) | (Word::Link, None) => Mistake::Value,
@@ -57,7 +57,8 @@ pub fn name_text(texts: &mut Texts, entry: Entry<'_>, report: &mut Report) {
     }
 }
 
-/// Reads a row, as `LEFT => RIGHT`, and compares what is read of what the left side spells with what the right one does.
+/// Reads a row, as `LEFT => RIGHT`, and compares what is read of what the left side spells with
+/// what the right one does.
 pub fn read_row(reader: Option<Reader>, sight: &Sight<'_>, report: &mut Report) {
     let (Some(reader), Some((left, right))) = (reader, sight.entry.line.rest.split_once("=>"))
     else {

@@ -1,4 +1,5 @@
-//! Case files: worked examples as lines that a person can read, the answers that they want, and what reads their rows.
+//! Case files: worked examples as lines that a person can read, the answers that they want, and
+//! what reads their rows.
 //!
 //! ```
 //! let lines = lines_of(alloc, text)?;
@@ -6,8 +7,9 @@
 //! report.compare(&sight, "on the disk", &wanted, &found);
 //! ```
 //!
-//! Who puts bytes together here gets no errors: `Bytes` keep the first mistake that was made on the way, and a `Report` takes it from
-//! them. The form of the files, and what each reader writes, stand in docs/CASES.md.
+//! Who puts bytes together here gets no errors: `Bytes` keep the first mistake that was made on the
+//! way, and a `Report` takes it from them. The form of the files, and what each reader writes,
+//! stand in docs/CASES.md.
 #![tactic(auto)]
 
 mod answers;

@@ -50,7 +50,8 @@ const WORDS: [(&str, Word); 16] = [
     ("link", Word::Link),
 ];
 
-/// A line that says something: its number, from 1, its first word, and what follows one space behind that.
+/// A line that says something: its number, from 1, its first word, and what follows one space after
+/// that.
 #[derive(Clone, Copy)]
 pub struct Line<'a> {
     pub number: usize,
@@ -65,7 +66,8 @@ pub struct Entry<'a> {
     pub below: &'a [Line<'a>],
 }
 
-/// What is wanted of one of several runs: the lines up to a `then`, and those behind it, where there is one.
+/// What is wanted of one of several runs: the lines up to a `then`, and those after it, where there
+/// is one.
 #[derive(Clone, Copy)]
 pub struct Part<'a> {
     pub lines: &'a [Line<'a>],
@@ -109,7 +111,7 @@ pub fn lines_of(alloc: Global, text: &str) -> Result<Vec<Line<'_>>, AllocError> 
     Ok(lines)
 }
 
-/// The lines behind a place that are wanted of the entry there.
+/// The lines after a place that are wanted of the entry there.
 pub fn below<'a>(lines: &'a [Line<'a>], place: usize) -> &'a [Line<'a>] {
     let rest = lines.get(place.saturating_add(1)..).unwrap_or(&[]);
     for (end, line) in rest.iter().enumerate() {
@@ -121,7 +123,8 @@ pub fn below<'a>(lines: &'a [Line<'a>], place: usize) -> &'a [Line<'a>] {
 }
 
 impl Entry<'_> {
-    /// What is wrong with the answers that are wanted: one has two statuses, or something stands behind a `then`.
+    /// What is wrong with the answers that are wanted: one has two statuses, or something stands
+    /// after a `then`.
     pub fn mistake(&self) -> Option<Mistake> {
         let mut has_status = false;
         for line in self.below {

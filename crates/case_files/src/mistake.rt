@@ -39,7 +39,7 @@ pub enum Mistake {
 }
 
 impl Mistake {
-    /// What is told of it.
+    /// What is reported of it.
     pub fn text(self) -> &'static str {
         match self {
             Mistake::Memory => said::OUT_OF_MEMORY,

@@ -5,7 +5,8 @@ use crate::lines::{Entry, Part};
 use crate::report::{Report, Sight};
 use std::str;
 
-/// What a part of the lines below an entry wants: all but the last have the status 3, where it isn't given, and the last has 0.
+/// What a part of the lines below an entry wants: all but the last have the status 3, where it
+/// isn't given, and the last has 0.
 fn wanted_of(sight: &Sight<'_>, part: Part<'_>) -> Answer {
     let status = if part.rest.is_some() { 3 } else { 0 };
     sight.texts.wanted(part.lines, status)
@@ -19,7 +20,8 @@ pub fn is_wanted(sight: &Sight<'_>, part: Option<Part<'_>>, found: &Answer) -> b
     }
 }
 
-/// Compares the answer that comes where the call of a number is refused, or none for 0, with the one that a part wants.
+/// Compares the answer that comes where the call of a number is refused, or none for 0, with the
+/// one that a part wants.
 pub fn see_part(sight: &Sight<'_>, part: Part<'_>, call: u64, found: &Answer, report: &mut Report) {
     let mut side = Bytes::new(sight.texts.alloc);
     if call == 0 {

@@ -15,7 +15,7 @@ const LISTS: &[(&str, ListRule)] = &[
     ("V", ListRule::AcceptBagItVersion),
 ];
 
-/// Values, each behind a mark and before another one.
+/// Values, each after a mark and before another one.
 fn put_values(mark: &str, values: &[Text], behind: &str, out: &mut Bytes) {
     for value in values {
         out.put(mark);
@@ -44,7 +44,8 @@ fn put_lists(profile: &Profile, out: &mut Bytes) {
     }
 }
 
-/// What a profile says: its labels and lists, what it says of whole bags, and its keys that aren't checked.
+/// What a profile says: its labels and lists, what it says of whole bags, and its keys that aren't
+/// checked.
 impl Shown for Profile {
     fn put_in(&self, out: &mut Bytes) {
         out.show(&self.identifier(), "|");

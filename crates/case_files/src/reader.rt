@@ -42,14 +42,14 @@ pub enum Reader {
     Lines,
     /// Two labels, with `|` between them.
     Label,
-    /// What stands before the first blanks of a line, and behind them.
+    /// What stands before the first blanks of a line, and after them.
     Blanks,
     /// The number of a fault code.
     Code,
     Algorithm,
     /// The name of a file in the base folder.
     ManifestName,
-    /// A pattern, and behind a space the name that it may match.
+    /// A pattern, and after a space the name that it may match.
     Pattern,
     /// Words of the command line.
     Plan,
@@ -79,7 +79,7 @@ const ONE_WORD: &[(&str, Reader)] = &[
     ("plan", Reader::Plan),
 ];
 
-/// Those behind whose name an algorithm stands, in place of the one here.
+/// Those after whose name an algorithm stands, in place of the one here.
 const BY_ALGORITHM: &[(&str, Reader)] = &[
     (
         "manifest",
@@ -110,7 +110,8 @@ fn named(readers: &[(&str, Reader)], word: &str) -> Option<Reader> {
 }
 
 impl Reader {
-    /// The reader that words ask for, as `manifest md5`; with `0.97` behind them by the rules of that version.
+    /// The reader that words ask for, as `manifest md5`; with `0.97` after them by the rules of
+    /// that version.
     pub fn of(words: &[&str]) -> Option<Reader> {
         match words {
             [words @ .., "0.97"] => Reader::of_name(words)?.older(),

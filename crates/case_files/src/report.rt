@@ -8,8 +8,8 @@ use memchr::memrchr;
 use std::alloc::Global;
 use std::str;
 
-/// How many cases there were, how often an answer was compared, how often it differed, and what is told of that; and the mistake that
-/// keeps the files from being followed further.
+/// How many cases there were, how often an answer was compared, how often it differed, and what is
+/// reported of that; and the mistake that keeps the files from being followed further.
 #[derive(Drop)]
 pub struct Report {
     pub text: Bytes,
@@ -18,7 +18,8 @@ pub struct Report {
     pub differ: u64,
 }
 
-/// Where an answer is wanted: the file, the entry with what is wanted of it, and the texts that have a name there.
+/// Where an answer is wanted: the file, the entry with what is wanted of it, and the texts that
+/// have a name there.
 #[derive(Clone, Copy)]
 pub struct Sight<'a> {
     pub file: &'a str,
@@ -44,7 +45,8 @@ impl Report {
         }
     }
 
-    /// Compares an answer of one side with the one that an entry wants; its status is 0 where none is given.
+    /// Compares an answer of one side with the one that an entry wants; its status is 0 where none
+    /// is given.
     pub fn see(&mut self, sight: &Sight<'_>, side: &str, found: &Answer) {
         let wanted = sight.texts.wanted(sight.entry.below, 0);
         self.compare(sight, side, &wanted, found);
@@ -61,7 +63,7 @@ impl Report {
         }
     }
 
-    /// Tells how an answer differs, unless there is a mistake.
+    /// ExposesBytes how an answer differs, unless there is a mistake.
     fn tell(&mut self, sight: &Sight<'_>, side: &str, wanted: &Answer, found: &Answer) {
         self.differ = self.differ.saturating_add(1);
         if self.text.mistake.is_none() {
@@ -83,7 +85,8 @@ impl Report {
 }
 
 impl Sight<'_> {
-    /// The number of the line that says what differs: the first whose bytes aren't found, or else the entry's.
+    /// The number of the line that says what differs: the first whose bytes aren't found, or else
+    /// the entry's.
     fn number(&self, wanted: &Answer, found: &Answer) -> usize {
         let written = front(&wanted.written.held, &found.written.held);
         let told = front(&wanted.told.held, &found.told.held);
@@ -118,7 +121,8 @@ fn front(a: &[u8], b: &[u8]) -> usize {
     }
 }
 
-/// How many bytes of whole lines two texts end with alike, behind the line ends that they begin with.
+/// How many bytes of whole lines two texts end with alike, after the line ends that they begin
+/// with.
 fn back(a: &[u8], b: &[u8]) -> usize {
     let (mut fronts, mut end) = ((a, b), 0);
     for count in 0..a.len() {
@@ -163,7 +167,7 @@ fn put_difference(text: &mut Bytes, word: &str, wanted: &[u8], found: &[u8]) {
     put_lines(text, "+ ", word, found.unwrap_or(&[]));
 }
 
-/// Adds lines with a mark and a word before each, and `\` behind the last where it has no end.
+/// Adds lines with a mark and a word before each, and `\` after the last where it has no end.
 fn put_lines(text: &mut Bytes, mark: &str, word: &str, bytes: &[u8]) {
     let lines = str::from_utf8(bytes).unwrap_or("(bytes that are no text)\n");
     for line in lines.split_inclusive('\n') {

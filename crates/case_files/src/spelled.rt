@@ -36,7 +36,7 @@ pub(crate) fn numbered(text: &str, out: &mut Bytes) {
     }
 }
 
-/// What stands before the first blanks of a line, and behind them.
+/// What stands before the first blanks of a line, and after them.
 pub(crate) fn parted(line: &str, out: &mut Bytes) {
     let (front, back) = split_at_blanks(line);
     out.show(&front, "<");
@@ -95,7 +95,7 @@ pub(crate) fn labels(text: &str, out: &mut Bytes) {
     }
 }
 
-/// Whether a pattern matches the name behind it.
+/// Whether a pattern matches the name after it.
 pub(crate) fn matched(text: &str, out: &mut Bytes) {
     match text.split_once(' ') {
         Some((pattern, name)) if matches(pattern, name) => out.put("matches"),

@@ -61,7 +61,8 @@ fn put_stage<T: Tree>(
     }
 }
 
-/// Compares the faults of a stage of a tree, the same at each depth, beside a profile where one is given.
+/// Compares the faults of a stage of a tree, the same at each depth, beside a profile where one is
+/// given.
 pub fn see_stage<T: Tree>(
     sight: &Sight<'_>,
     tree: &mut T,

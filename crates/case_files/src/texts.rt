@@ -46,7 +46,7 @@ impl Texts {
         }
     }
 
-    /// Adds what `$` begins, where `{NAME}` stands behind it a text with a name; gives the rest.
+    /// Adds what `$` begins, where `{NAME}` stands after it a text with a name; gives the rest.
     fn add_behind_dollar<'a>(&self, text: &'a str, bytes: &mut Bytes) -> &'a str {
         let Some(name) = text.strip_prefix('{') else {
             bytes.put("$");
@@ -134,7 +134,7 @@ impl Texts {
     }
 }
 
-/// What a letter stands for behind a `\`.
+/// What a letter stands for after a `\`.
 const ESCAPES: &[(char, &str)] = &[
     ('\\', "\\"),
     ('n', "\n"),
@@ -144,7 +144,7 @@ const ESCAPES: &[(char, &str)] = &[
     ('$', "$"),
 ];
 
-/// Adds what is escaped at the front of a text, which stands behind a `\`; gives the rest.
+/// Adds what is escaped at the front of a text, which stands after a `\`; gives the rest.
 fn add_escaped<'a>(text: &'a str, bytes: &mut Bytes) -> &'a str {
     for (letter, escaped) in ESCAPES {
         if let Some(rest) = text.strip_prefix(*letter) {
@@ -156,7 +156,7 @@ fn add_escaped<'a>(text: &'a str, bytes: &mut Bytes) -> &'a str {
     text.get(3..).unwrap_or("")
 }
 
-/// Adds the byte of the two hex digits behind an `x` at the front of a text.
+/// Adds the byte of the two hex digits after an `x` at the front of a text.
 fn add_byte(text: &str, bytes: &mut Bytes) {
     let digits = text.get(..3).unwrap_or("").strip_prefix('x').unwrap_or("");
     match u8::from_str_radix(digits, 16) {

@@ -3,8 +3,8 @@ use crate::bytes::Bytes;
 use crate::mistake::Mistake;
 use std::alloc::Global;
 
-/// The first word of a text, and what stands behind it; none where it has none, or one that is quoted and has no end. A word that
-/// begins with `'` goes on to the next one.
+/// The first word of a text, and what stands after it; none where it has none, or one that is
+/// quoted and has no end. A word that begins with `'` goes on to the next one.
 fn first_word(text: &str) -> Option<(&str, &str)> {
     match text.strip_prefix('\'') {
         Some(quoted) => quoted.split_once('\''),

@@ -9,7 +9,8 @@ use Rattle.bag_walk.specs.declared.outcome.Request.{Request}
 use Rattle.bag_walk.specs.Run.{IsRun}
 
 -- a run may write this to an output that has taken nothing, and end with this exit status
-pub record IsChecked (old new : TreeState) (profile : Option Profile) (request : Request) (output : List ℕ) (status : ℕ) : Type 0 where
+pub record IsChecked (old new : TreeState) (profile : Option Profile) (request : Request)
+    (output : List ℕ) (status : ℕ) : Type 0 where
   pub before : OutState
   pub after : OutState
   pub outcome : Outcome

@@ -83,7 +83,8 @@ fn put_file<D: Disks>(disks: &D, file: &str, out: &mut Bytes) {
     }
 }
 
-/// Adds the paths of the files of a tree, each in a line and behind its size, where that is asked for.
+/// Adds the paths of the files of a tree, each in a line and after its size, where that is asked
+/// for.
 pub(crate) fn put_listing<T: Tree>(tree: &mut T, has_sizes: bool, out: &mut Bytes) {
     match tree.list() {
         Ok(listing) => {

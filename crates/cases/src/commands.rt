@@ -42,7 +42,8 @@ const VERBS: &[(&str, Verb)] = &[
     ("on-disk ", Verb::RunOnDisk),
 ];
 
-/// What a command does, and its words, as of `ROOM=10 bagit --validate d`. Behind the last word stands a space.
+/// What a command does, and its words, as of `ROOM=10 bagit --validate d`. After the last word
+/// stands a space.
 pub(crate) fn verb_of(text: &str) -> Option<(Verb, &str)> {
     for (start, verb) in VERBS {
         if let Some(words) = text.strip_prefix(*start) {

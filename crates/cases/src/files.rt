@@ -22,8 +22,8 @@ struct Followed;
 /// No other file is run.
 struct Refused;
 
-/// Follows files one after another, up to what can't be followed. Gives what differs with the counts at the end, or why a file can't be
-/// followed, and the exit status.
+/// Follows files one after another, up to what can't be followed. Gives what differs with the
+/// counts at the end, or why a file can't be followed, and the exit status.
 pub(crate) fn run_files(rt: &HostRuntime, files: &[String]) -> Answer {
     let mut report = Report::new(rt.alloc());
     let mut at = Place { file: "", line: 0 };

@@ -1,5 +1,5 @@
-//! The worked rows: each argument is a file of cases, in the form that docs/CASES.md says. What differs is printed, and at last how
-//! much was compared.
+//! The worked rows: each argument is a file of cases, in the form that docs/CASES.md says. What
+//! differs is printed, and at last how much was compared.
 #![tactic(auto)]
 
 mod answers;
@@ -20,7 +20,8 @@ use std::env;
 use std::io::{self, Write};
 use std::process::ExitCode;
 
-/// Prints what differs, also on the error output, of which the gate shows the end; or why a file can't be followed.
+/// Prints what differs, also on the error output, of which the gate shows the end; or why a file
+/// can't be followed.
 fn print(rt: &HostRuntime, answer: &Answer) -> io::Result<()> {
     rt.stdout().write_all(&answer.written.held)?;
     if answer.status == 1 {

@@ -13,7 +13,8 @@ pub(crate) fn make_folder(rt: &HostRuntime, name: &str) -> io::Result<()> {
     fs::create_dir(rt, name)
 }
 
-/// Puts something at a path, and makes the folders that it needs. A link leads to the path that bytes say.
+/// Puts something at a path, and makes the folders that it needs. A link leads to the path that
+/// bytes say.
 pub(crate) fn put(rt: &HostRuntime, word: Word, path: &str, bytes: &[u8]) -> io::Result<()> {
     if let Some((parent, _)) = path.rsplit_once('/') {
         fs::create_dir_all(rt, parent)?;

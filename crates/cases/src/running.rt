@@ -51,7 +51,8 @@ fn run_verb(
     }
 }
 
-/// Compares what is answered over the folders on the disk, where no file holds something else than is listed.
+/// Compares what is answered over the folders on the disk, where no file holds something else than
+/// is listed.
 fn see_on_disk(
     rt: &HostRuntime,
     sight: &Sight<'_>,
@@ -66,7 +67,8 @@ fn see_on_disk(
     }
 }
 
-/// Does in memory what words plan: over trees once, or with each call refused in turn. Words that are refused have no plan.
+/// Does in memory what words plan: over trees once, or with each call refused in turn. Words that
+/// are refused have no plan.
 fn see_planned(
     sight: &Sight<'_>,
     verb: Verb,

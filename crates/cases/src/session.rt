@@ -13,7 +13,7 @@ pub(crate) struct Session {
     pub(crate) texts: Texts,
     /// What stands in the folders of the case, and beside them.
     world: World,
-    /// The last of these folders, with a `/` behind its name.
+    /// The last of these folders, with a `/` after its name.
     folder: Bytes,
     /// Whether what is put belongs to a bag: then it goes into each folder that begins with that.
     is_bag: bool,
@@ -88,7 +88,8 @@ impl Session {
         }
     }
 
-    /// `in FOLDER BAG..`: begins a folder, in memory and on the disk, which holds what the named bags do.
+    /// `in FOLDER BAG..`: begins a folder, in memory and on the disk, which holds what the named
+    /// bags do.
     fn begin_folder<'a>(
         &mut self,
         rt: &HostRuntime,

@@ -31,7 +31,8 @@ fn copy_of(
     }
 }
 
-/// The path and the bytes of the file below a folder that holds something else when it is opened; no file has the empty path.
+/// The path and the bytes of the file below a folder that holds something else when it is opened;
+/// no file has the empty path.
 fn opened_below<'a>(world: &'a World, folder: &str) -> (&'a str, &'a [u8]) {
     let Some((path, bytes)) = &world.opened else {
         return ("", &[]);
@@ -74,7 +75,8 @@ impl Disks for World {
     }
 }
 
-/// Disks of each of which the call of a number is refused, from 0, or none, and then their calls are counted.
+/// Disks of each of which the call of a number is refused, from 0, or none, and then their calls
+/// are counted.
 #[derive(Drop)]
 struct Refusing<'a, D> {
     disks: &'a D,
@@ -104,8 +106,8 @@ impl<'a, D: Disks> Disks for Refusing<'a, D> {
     }
 }
 
-/// What a command answers over disks in memory, of each of which the call of a number is refused by a fault, from 0, or none: then
-/// their calls are counted.
+/// What a command answers over disks in memory, of each of which the call of a number is refused by
+/// a fault, from 0, or none: then their calls are counted.
 pub(crate) fn answer_in_memory(
     alloc: Global,
     disks: &World,

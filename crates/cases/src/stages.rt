@@ -2,8 +2,8 @@
 use crate::world::World;
 use case_files::{Mistake, Report, Sight};
 
-/// `stage NUMBER DEPTH,.. FOLDER [PROFILE]`: compares the lines of the faults of one stage of a folder that can be a tree, the same at
-/// each depth, beside a profile where one is given.
+/// `stage NUMBER DEPTH,.. FOLDER [PROFILE]`: compares the lines of the faults of one stage of a
+/// folder that can be a tree, the same at each depth, beside a profile where one is given.
 pub(crate) fn see_stage(sight: &Sight<'_>, words: &[&str], world: &World, report: &mut Report) {
     match words {
         [number, depths, name] => see(sight, world, *name, None, (*number, *depths), report),

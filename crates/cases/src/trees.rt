@@ -4,14 +4,15 @@ ghost use Rattle.bag_store.specs.Tree.{Keeps};
 ghost use Rattle.cases.specs.Checked.{IsChecked};
 
 use crate::world::World;
-use bag_cli::{Action, Plan, elements, make_and_tell, request_for};
+use bag_cli::{Action, Plan, elements, make_and_report, request_for};
 use bag_store::{FailTree, MemoryTree, Tree, WriteTree, WriterOut};
 use bag_text::Text;
 use bag_walk::{Request, run, status};
 use case_files::{Answer, Bytes, Mistake, Report, Sight};
 use std::alloc::{AllocError, Global};
 
-/// Whether what a plan asks for can be done over trees: folders that can be trees are checked without a profile, or made bags.
+/// Whether what a plan asks for can be done over trees: folders that can be trees are checked
+/// without a profile, or made bags.
 pub(crate) fn are_trees(plan: &Plan, world: &World) -> bool {
     for directory in plan.directories.as_slice() {
         if !world.has_tree(directory.as_str()) {
@@ -23,17 +24,19 @@ pub(crate) fn are_trees(plan: &Plan, world: &World) -> bool {
 
 /// The tree after a check, what the check wrote, and its exit status.
 ///
-/// The clause says that a text which compares equal with what was written is one that a run may write.
+/// The clause says that a text which compares equal with what was written is one that a run may
+/// write.
 fn checked<T: Tree + Drop>(alloc: Global, tree: T, request: Request) -> (T, Vec<u8>, u8)
     ensures keeps { Keeps (T.state tree) (T.state result.0) }
-    ensures checked { IsChecked (T.state tree) (T.state result.0) None request result.1.items result.2 }
+    ensures checked { IsChecked (T.state tree) (T.state result.0) None request result.1.items
+        result.2 }
 {
     let mut out = WriterOut::new(Vec::<u8>::new(alloc));
     let (tree, outcome) = run(alloc, tree, None, request, &mut out);
     (tree, out.into_inner(), status(&outcome))
 }
 
-/// The tree after a making, what was told of the making, and the exit status.
+/// The tree after a making, what was reported of the making, and the exit status.
 fn made<T: WriteTree + Drop>(
     alloc: Global,
     tree: T,
@@ -42,11 +45,12 @@ fn made<T: WriteTree + Drop>(
     info: &[(Text, Text)],
 ) -> (T, Vec<u8>, u8) {
     let mut out = WriterOut::new(Vec::<u8>::new(alloc));
-    let (tree, told) = make_and_tell(alloc, tree, name, plan.algs, info, plan.quiet, &mut out);
+    let (tree, told) = make_and_report(alloc, tree, name, plan.algs, info, plan.quiet, &mut out);
     (tree, out.into_inner(), told.unwrap_or(3))
 }
 
-/// Does with a tree what a plan says. Gives the tree after that, what was written, and the exit status.
+/// Does with a tree what a plan says. Gives the tree after that, what was written, and the exit
+/// status.
 fn done<T: WriteTree + Drop>(
     alloc: Global,
     plan: &Plan,
@@ -62,8 +66,8 @@ fn done<T: WriteTree + Drop>(
     }
 }
 
-/// Does with a folder what a plan says, over a tree of which the call of a number is refused, or none for 0. Gives the tree after that,
-/// and adds what is written, and the exit status.
+/// Does with a folder what a plan says, over a tree of which the call of a number is refused, or
+/// none for 0. Gives the tree after that, and adds what is written, and the exit status.
 pub(crate) fn do_over_tree(
     alloc: Global,
     plan: &Plan,
@@ -78,7 +82,8 @@ pub(crate) fn do_over_tree(
     Ok(tree)
 }
 
-/// Does with each folder what a plan says, as a tree in memory, where they can be trees, and keeps what a making leaves.
+/// Does with each folder what a plan says, as a tree in memory, where they can be trees, and keeps
+/// what a making leaves.
 pub(crate) fn see_in_trees(sight: &Sight<'_>, plan: &Plan, world: &mut World, report: &mut Report) {
     if !are_trees(plan, world) {
         return;

@@ -9,7 +9,8 @@ use bag_disk::DiskFault;
 use case_files::{Answer, Bytes, Mistake, Part, Report, Sight, is_wanted, see_part};
 use std::alloc::Global;
 
-/// A command over one folder, of which each call is refused in turn: those of a disk by a fault, or else those of a tree.
+/// A command over one folder, of which each call is refused in turn: those of a disk by a fault, or
+/// else those of a tree.
 #[derive(Clone, Copy)]
 pub(crate) struct Turns<'a> {
     pub(crate) alloc: Global,
@@ -41,8 +42,9 @@ impl Turns<'_> {
         answer_in_memory(self.alloc, self.world, refused, Verb::Run, self.words)
     }
 
-    /// What is answered over a tree of which the call of a number is refused; behind it the files that a making leaves, each with its
-    /// size; and how many calls were made, where they were too few for that.
+    /// What is answered over a tree of which the call of a number is refused; after it the files
+    /// that a making leaves, each with its size; and how many calls were made, where they were too
+    /// few for that.
     fn over_tree(&self, call: u64) -> (Answer, u64) {
         let mut answer = Answer::of(self.alloc, Bytes::new(self.alloc), 0);
         let mut calls = 0;
@@ -67,8 +69,9 @@ impl Turns<'_> {
     }
 }
 
-/// Compares the answers that come with those that are wanted. The last is that of the run of which no call is refused. Those before it
-/// have to come, one after another, each for one call or more, where the calls of that run are refused, and no others.
+/// Compares the answers that come with those that are wanted. The last is that of the run of which
+/// no call is refused. Those before it have to come, one after another, each for one call or more,
+/// where the calls of that run are refused, and no others.
 pub(crate) fn see_in_turn(sight: &Sight<'_>, turns: &Turns<'_>, report: &mut Report) {
     if turns.fault.is_none() && !are_trees(turns.plan, turns.world) {
         report.text.fail(Mistake::Command);
@@ -96,7 +99,8 @@ pub(crate) fn see_in_turn(sight: &Sight<'_>, turns: &Turns<'_>, report: &mut Rep
     see_part(sight, next, 0, &unrefused, report);
 }
 
-/// Compares the answer that comes where the call of a number is refused with the last one that is wanted of such a call.
+/// Compares the answer that comes where the call of a number is refused with the last one that is
+/// wanted of such a call.
 fn see_past(
     sight: &Sight<'_>,
     last: Option<Part<'_>>,

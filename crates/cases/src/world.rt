@@ -20,7 +20,8 @@ pub(crate) struct World {
     folders: BTreeMap<String, BTreeMap<Vec<u8>, Node>>,
     /// The path of a file, and what it holds when it is opened, in place of what is listed.
     pub(crate) opened: Option<(String, Vec<u8>)>,
-    /// Whether each of the folders can be a tree: it has no link, no path that isn't one in a bag, and an empty folder only right in it.
+    /// Whether each of the folders can be a tree: it has no link, no path that isn't one in a bag,
+    /// and an empty folder only right in it.
     has_trees: bool,
     /// Disks in memory of the folders, as they were when the last command began.
     pub(crate) disks: BTreeMap<String, MemoryDisk>,
@@ -57,7 +58,8 @@ impl World {
         self.empty(name, report);
     }
 
-    /// Puts something at a path, in memory and on the disk, with the folders that the path leads through.
+    /// Puts something at a path, in memory and on the disk, with the folders that the path leads
+    /// through.
     pub(crate) fn put(
         &mut self,
         rt: &HostRuntime,
@@ -152,7 +154,8 @@ impl World {
         self.has_trees && self.opened.is_none() && self.folders.contains_key(name)
     }
 
-    /// The tree that holds what a folder does, where it can be one; the call of a number is refused, from 1, or none for 0.
+    /// The tree that holds what a folder does, where it can be one; the call of a number is
+    /// refused, from 1, or none for 0.
     pub(crate) fn tree(&self, name: &str, call: u64) -> Result<FailTree<MemoryTree>, Mistake> {
         let mut tree = MemoryTree::new(self.alloc);
         match self.folders.get(name) {
@@ -201,7 +204,8 @@ impl World {
     }
 }
 
-/// Whether what a line puts at a path in a folder can stand in a tree: a folder can where no file has to stand in it.
+/// Whether what a line puts at a path in a folder can stand in a tree: a folder can where no file
+/// has to stand in it.
 fn is_of_tree(word: Word, path: &str) -> bool {
     match word {
         Word::File => check_path(path).is_ok(),

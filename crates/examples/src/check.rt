@@ -9,8 +9,8 @@ use bag_text::Text;
 use bag_walk::{Request, run, status};
 use std::alloc::Global;
 
-/// Writes the next hundred lines at the most of a report by a profile, after the line at which an earlier one stopped, and
-/// gives the tree back with the exit status. The bag stays as it is.
+/// Writes the next hundred lines at the most of a report by a profile, after the line at which an
+/// earlier one stopped, and gives the tree back with the exit status. The bag stays as it is.
 pub fn check_by_profile<T: Tree + Drop, W: Out>(
     alloc: Global,
     tree: T,

@@ -1,5 +1,6 @@
-//! The examples of docs/LIBRARY.md, proved: a check by a profile that goes on after an earlier report, a check that passes over
-//! files that can't be read, a report in segments, and a making with each refusal.
+//! The examples of docs/LIBRARY.md, proved: a check by a profile that goes on after an earlier
+//! report, a check that passes over files that can't be read, a report in segments, and a making
+//! with each refusal.
 #![tactic(auto)]
 
 mod check;

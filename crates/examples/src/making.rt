@@ -22,7 +22,8 @@ pub enum Advice {
     MoveBack(u64),
 }
 
-/// Makes a bag of a folder, with SHA-256 and SHA-512 and one element, and says what is to be done then.
+/// Makes a bag of a folder, with SHA-256 and SHA-512 and one element, and says what is to be done
+/// then.
 pub fn make_bag<T: WriteTree + Drop>(
     alloc: Global,
     tree: T,

@@ -13,7 +13,8 @@ pub enum NotDone {
     /// The line is that of no fault.
     #[error("{0}")]
     Cursor(CursorFault),
-    /// The folder couldn't be listed, a tag file couldn't be read, or too many files were passed over.
+    /// The folder couldn't be listed, a tag file couldn't be read, or too many files were passed
+    /// over.
     #[error("unread")]
     Unread(Stop),
     /// The output refused.

@@ -10,8 +10,8 @@ use bag_text::{Code, Text};
 use bag_walk::{InOrder, Source, Sources, Steps, Walk, put_pieces};
 use std::alloc::Global;
 
-/// Writes the line of each fault of a bag, and passes over at most ten files that can't be read. Gives the tree back, and how
-/// many files were passed over: of these nothing is known.
+/// Writes the line of each fault of a bag, and passes over at most ten files that can't be read.
+/// Gives the tree back, and how many files were passed over: of these nothing is known.
 pub fn check_what_can_be_read<T: Tree + Drop, W: Out>(
     alloc: Global,
     tree: T,
@@ -72,7 +72,8 @@ fn write_faults<T: Tree, S: InOrder<T>, W: Out>(
     Ok(None)
 }
 
-/// A fault that stands after all faults of the file at which a walk stopped, and before those of the next.
+/// A fault that stands after all faults of the file at which a walk stopped, and before those of
+/// the next.
 fn fault_after(alloc: Global, stop: &Stop) -> Result<Fault, NotDone> {
     let mut path = String::new(alloc);
     path.push_str(stop.path.as_str())?;

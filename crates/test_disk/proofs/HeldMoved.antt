@@ -22,7 +22,8 @@ use Rattle.test_disk.specs.Placing.{PassesAsDisk}
 use Rattle.test_disk.specs.PlacingLaw.{passing_is_disk}
 use Rattle.test_disk.proofs.HeldPut.{held_cmp}
 
-below : (path : Vec ℕ Global) (held : Held) → AllByRecursion (λ y. held_cmp path y ≡ Less) (keys_of held) → below_all text_cmp path.items (entries_of held) ≡ true
+below : (path : Vec ℕ Global) (held : Held) → AllByRecursion (λ y. held_cmp path y ≡ Less) (keys_of held)
+    → below_all text_cmp path.items (entries_of held) ≡ true
 below path [] h = refl
 below path (e ∷ held) h = and_from _ _ (ap is_lt h.0) (below path held h.1)
 
@@ -34,12 +35,16 @@ ascending (e ∷ held) s = and_from _ _ (below e.0 held s.0) (ascending held s.1
 -- the entries of what is held are what is held, in order
 entries_are : (held : Held) → IsStrictlySortedBy held_cmp (keys_of held) → fin.entries (nodes_of held) ≡ entries_of held
 entries_are held up =
-    same_entries text_cmp nat_list_cmp_total exact_texts (fin.entries (nodes_of held)) (entries_of held) (entries_sorted (nodes_of held)) (subst T (sym (ascending held up)) tt)
+    same_entries text_cmp nat_list_cmp_total exact_texts (fin.entries (nodes_of held)) (entries_of held)
+    (entries_sorted (nodes_of held)) (subst T (sym (ascending held up)) tt)
     (λ q. sym (get-entries (nodes_of held) q) ∙ get-from_entries nat_list_cmp_total (entries_of held) q)
 
-pub held_moved : (held : Held) (from to : List ℕ) (new : Nodes) → IsStrictlySortedBy held_cmp (keys_of held) → new ≡ with_renamed from to fin.empty (entries_of held) → new ≡ moved from to (nodes_of held)
+pub held_moved : (held : Held) (from to : List ℕ) (new : Nodes) → IsStrictlySortedBy held_cmp (keys_of held)
+    → new ≡ with_renamed from to fin.empty (entries_of held) → new ≡ moved from to (nodes_of held)
 held_moved held from to new up is = is ∙ ap (with_renamed from to fin.empty) (sym (entries_are held up))
 
 -- what stands neither at nor below the two paths of a move to a free place is as before
-pub others_stay : (nodes new : Nodes) (from to : List ℕ) → PassesAsDisk nodes → node nodes to ≡ None → new ≡ moved from to nodes → KeepsOthers nodes new from to
-others_stay nodes new from to passes free is path off outside = ap (λ n. node n path) is ∙ (nodes_move nodes from to (passing_is_disk nodes passes) free).others path off outside
+pub others_stay : (nodes new : Nodes) (from to : List ℕ) → PassesAsDisk nodes → node nodes to ≡ None
+    → new ≡ moved from to nodes → KeepsOthers nodes new from to
+others_stay nodes new from to passes free is path off outside =
+    ap (λ n. node n path) is ∙ (nodes_move nodes from to (passing_is_disk nodes passes) free).others path off outside

@@ -1,13 +1,20 @@
--- What a call of a disk makes of what the disk means, and what it answers: of each call the clauses of `Disk` and `WritableDisk`.
-use Rattle.std.specs.Prelude.{◌≡◌, ◌<◌, ◌≤◌, ◌∷◌, ◌++◌, [], ℕ, List, Option, None, Some, is_some, IfOk, IsErrOf, IsTrue, MatchOption, OnErr, OnOk, Result, length, take, ⊤}
+-- What a call of a disk makes of what the disk means, and what it answers: of each call the clauses
+-- of `Disk` and `WritableDisk`.
+use Rattle.std.specs.Prelude.{◌≡◌, ◌<◌, ◌≤◌, ◌∷◌, ◌++◌, [], ℕ, List, Option, None, Some, is_some}
+use Rattle.std.specs.Prelude.{IfOk, IsErrOf, IsTrue, MatchOption, OnErr, OnOk, Result, length, take}
+use Rattle.std.specs.Prelude.{⊤}
 use Rattle.std.specs.Option.{option_map}
 use Rattle.bag_tree.specs.Moved.{KeepsOthers}
 use Rattle.bag_tree.specs.Tree.{ReadsNext}
-use Rattle.bag_disk.specs.Disk.{AreNamesIn, DiskState, Has, HasUnnamed, IsFileWith, IsFolder, IsReached, OnlyLooks, OnlySyncs, SameDisk, entry_of, node}
+use Rattle.bag_disk.specs.Disk.{AreNamesIn, DiskState, Has, HasUnnamed, IsFileWith, IsFolder}
+use Rattle.bag_disk.specs.Disk.{IsReachedByFolders, OnlyLooks, OnlySyncs, SameDisk, entry_of_node}
+use Rattle.bag_disk.specs.Disk.{node}
 use Rattle.bag_text.specs.Path.{is_path}
-use Rattle.bag_disk.specs.Refusal.{IsCountedAs, at_known, of_making, of_name, of_path}
-use Rattle.bag_disk.specs.WritableDisk.{Appends, Closes, HasFile, MakesFile, MakesFolder, Moves, Notes}
-use Rattle.bag_tree.specs.declared.event.DeviceEvent.TheVariants.{MakeFolder, Rename, Create, Write, Sync, SyncFolder}
+use Rattle.bag_disk.specs.Refusal.{IsCountedAs, at_known, of_making, of_name, refusal_at_path}
+use Rattle.bag_disk.specs.WritableDisk.{Appends, ClosesOpenFile, HasFileNode, MakesFile}
+use Rattle.bag_disk.specs.WritableDisk.{MakesFolderNode, Moves, Notes}
+use Rattle.bag_tree.specs.declared.event.DeviceEvent.TheVariants.{MakeFolder, Rename, Create, Write}
+use Rattle.bag_tree.specs.declared.event.DeviceEvent.TheVariants.{Sync, SyncFolder}
 use Rattle.bag_disk.specs.declared.disk.Entry.{Entry}
 use Rattle.bag_disk.specs.declared.disk.DiskFault.{DiskFault}
 use Rattle.bag_disk.specs.declared.disk.DiskFault.TheVariants.{Exists, Name, NotFound}
@@ -20,47 +27,64 @@ pub record ClosesFile (old new : DiskState) : Type 0 where
   pub failures : new.failures ≡ old.failures
 
 -- what a look at a path does
-pub record LooksAt (old new : DiskState) (path : List ℕ) (answer : Result Entry DiskFault) : Type 0 where
-  pub looks : OnlyLooks old new
-  pub names : new.names ≡ old.names
-  pub found : IfOk answer (λ entry. IsTrue old.honest → IsReached old.nodes path → option_map entry_of (node old.nodes path) ≡ Some entry)
-  pub absent : IsErrOf answer NotFound → IsTrue old.honest → IsReached old.nodes path → node old.nodes path ≡ None
-  pub failures : IsCountedAs of_path answer old.failures new.failures
+pub record LooksAt (old new : DiskState) (path : List ℕ) (answer : Result Entry DiskFault) : Type 0
+  where
+    pub looks : OnlyLooks old new
+    pub names : new.names ≡ old.names
+    pub found : IfOk answer (λ entry.
+        IsTrue old.honest → IsReachedByFolders old.nodes path
+        → option_map entry_of_node (node old.nodes path) ≡ Some entry)
+    pub absent : IsErrOf answer NotFound → IsTrue old.honest → IsReachedByFolders old.nodes path
+        → node old.nodes path ≡ None
+    pub failures : IsCountedAs refusal_at_path answer old.failures new.failures
 
 -- what a look at what was named does
-pub record LooksAtNamed (old new : DiskState) (path : List ℕ) (answer : Result Entry DiskFault) : Type 0 where
+pub record LooksAtNamed (old new : DiskState) (path : List ℕ)
+    (answer : Result Entry DiskFault) : Type 0 where
   pub looks : OnlyLooks old new
   pub names : new.names ≡ old.names
-  pub found : IfOk answer (λ entry. IsTrue old.honest → IsReached old.nodes path → option_map entry_of (node old.nodes path) ≡ Some entry)
+  pub found : IfOk answer (λ entry.
+      IsTrue old.honest → IsReachedByFolders old.nodes path
+      → option_map entry_of_node (node old.nodes path) ≡ Some entry)
   pub failures : IsCountedAs at_known answer old.failures new.failures
 
 -- what entering a folder does
-pub record Enters (old new : DiskState) (folder : List ℕ) (answer : Result (Unit {0}) DiskFault) : Type 0 where
+pub record Enters (old new : DiskState) (folder : List ℕ)
+    (answer : Result (Unit {0}) DiskFault) : Type 0 where
   pub looks : OnlyLooks old new
-  pub honest : OnOk answer (IsTrue old.honest → IsFolder old.nodes folder → AreNamesIn old.nodes folder new.names)
+  pub honest : OnOk answer
+      (IsTrue old.honest → IsFolder old.nodes folder → AreNamesIn old.nodes folder new.names)
   pub failures : IsCountedAs at_known answer old.failures new.failures
 
 -- what the next name of the folder that was entered does
-pub record NamesNext (old new : DiskState) (answer : Result (Option (List ℕ)) DiskFault) : Type 0 where
-  pub looks : OnlyLooks old new
-  pub unnamed : IsErrOf answer Name → IsTrue old.honest → HasUnnamed old.names
-  pub honest : IfOk answer (λ next. IsTrue old.honest → MatchOption next (old.names ≡ []) (λ name. old.names ≡ name ∷ new.names))
-  pub path : IfOk answer (λ next. MatchOption next ⊤ (λ name. IsTrue (is_path name)))
-  pub failures : IsCountedAs of_name answer old.failures new.failures
+pub record NamesNext (old new : DiskState) (answer : Result (Option (List ℕ)) DiskFault) : Type 0
+  where
+    pub looks : OnlyLooks old new
+    pub unnamed : IsErrOf answer Name → IsTrue old.honest → HasUnnamed old.names
+    pub honest : IfOk answer (λ next.
+        IsTrue old.honest
+        → MatchOption next (old.names ≡ []) (λ name. old.names ≡ name ∷ new.names))
+    pub path : IfOk answer (λ next. MatchOption next ⊤ (λ name. IsTrue (is_path name)))
+    pub failures : IsCountedAs of_name answer old.failures new.failures
 
 -- what opening a file does
-pub record Opens (old new : DiskState) (path : List ℕ) (answer : Result (Unit {0}) DiskFault) : Type 0 where
+pub record Opens (old new : DiskState) (path : List ℕ) (answer : Result (Unit {0}) DiskFault) : Type
+    0 where
   pub same : SameDisk old new
   pub opened : OnOk answer (new.openings ≡ old.openings ++ path ∷ [])
   pub file_open : OnOk answer (IsTrue (is_some new.rest))
-  pub honest : OnOk answer (IsTrue old.honest → IsReached old.nodes path → (bytes : List ℕ) → IsFileWith old.nodes path bytes → new.rest ≡ Some bytes)
-  pub absent : IsErrOf answer NotFound → IsTrue old.honest → IsReached old.nodes path → node old.nodes path ≡ None
+  pub honest : OnOk answer
+      (IsTrue old.honest → IsReachedByFolders old.nodes path → (bytes : List ℕ)
+      → IsFileWith old.nodes path bytes → new.rest ≡ Some bytes)
+  pub absent : IsErrOf answer NotFound → IsTrue old.honest → IsReachedByFolders old.nodes path
+      → node old.nodes path ≡ None
   pub closed : OnErr answer (new.rest ≡ None)
   pub not_opened : OnErr answer (new.openings ≡ old.openings)
-  pub failures : IsCountedAs of_path answer old.failures new.failures
+  pub failures : IsCountedAs refusal_at_path answer old.failures new.failures
 
 -- what a read with a buffer of this size does
-pub record Reads (old new : DiskState) (room : ℕ) (buffer : List ℕ) (answer : Result ℕ DiskFault) : Type 0 where
+pub record Reads (old new : DiskState) (room : ℕ) (buffer : List ℕ)
+    (answer : Result ℕ DiskFault) : Type 0 where
   pub same : SameDisk old new
   pub openings : new.openings ≡ old.openings
   pub file_open : OnOk answer (IsTrue (is_some new.rest))
@@ -70,38 +94,52 @@ pub record Reads (old new : DiskState) (room : ℕ) (buffer : List ℕ) (answer 
   pub failures : IsCountedAs at_known answer old.failures new.failures
 
 -- what making a folder does
-pub record MakesFolderAt (old new : DiskState) (written written_then : Option (List ℕ)) (path : List ℕ) (answer : Result (Unit {0}) DiskFault) : Type 0 where
-  pub made : OnOk answer (IsTrue old.honest → IsReached old.nodes path → MakesFolder old.nodes new.nodes path)
-  pub closed : OnOk answer (Closes old new)
+pub record MakesFolderAt (old new : DiskState) (written written_then : Option (List ℕ))
+    (path : List ℕ) (answer : Result (Unit {0}) DiskFault) : Type 0 where
+  pub made : OnOk answer
+      (IsTrue old.honest → IsReachedByFolders old.nodes path
+      → MakesFolderNode old.nodes new.nodes path)
+  pub closed : OnOk answer (ClosesOpenFile old new)
   pub ended : OnOk answer (written_then ≡ None)
-  pub taken : IsErrOf answer Exists → IsTrue old.honest → IsReached old.nodes path → Has old.nodes path
-  pub absent : IsErrOf answer NotFound → IsTrue old.honest → IsReached old.nodes path → ⊥
+  pub taken : IsErrOf answer Exists → IsTrue old.honest → IsReachedByFolders old.nodes path
+      → Has old.nodes path
+  pub absent : IsErrOf answer NotFound → IsTrue old.honest → IsReachedByFolders old.nodes path → ⊥
   pub same : OnErr answer (OnlyLooks old new)
   pub same_file : OnErr answer (written_then ≡ written)
   pub noted : IsTrue old.noted → OnOk answer (Notes (MakeFolder path) old new)
   pub failures : IsCountedAs of_making answer old.failures new.failures
 
 -- what a move does
-pub record Renames (old new : DiskState) (written written_then : Option (List ℕ)) (from to : List ℕ) (answer : Result (Unit {0}) DiskFault) : Type 0 where
-  pub moved : OnOk answer (IsTrue old.honest → IsReached old.nodes from → IsReached old.nodes to → node old.nodes to ≡ None → Moves old.nodes new.nodes from to)
-  pub others : OnOk answer (IsTrue old.honest → IsReached old.nodes from → IsReached old.nodes to → KeepsOthers old.nodes new.nodes from to)
-  pub closed : OnOk answer (Closes old new)
+pub record Renames (old new : DiskState) (written written_then : Option (List ℕ)) (from to : List ℕ)
+    (answer : Result (Unit {0}) DiskFault) : Type 0 where
+  pub moved : OnOk answer
+      (IsTrue old.honest → IsReachedByFolders old.nodes from → IsReachedByFolders old.nodes to
+      → node old.nodes to ≡ None → Moves old.nodes new.nodes from to)
+  pub others : OnOk answer
+      (IsTrue old.honest → IsReachedByFolders old.nodes from → IsReachedByFolders old.nodes to
+      → KeepsOthers old.nodes new.nodes from to)
+  pub closed : OnOk answer (ClosesOpenFile old new)
   pub ended : OnOk answer (written_then ≡ None)
-  pub taken : IsErrOf answer Exists → IsTrue old.honest → IsReached old.nodes to → Has old.nodes to
-  pub absent : IsErrOf answer NotFound → IsTrue old.honest → IsReached old.nodes from → IsReached old.nodes to → node old.nodes from ≡ None
+  pub taken : IsErrOf answer Exists → IsTrue old.honest → IsReachedByFolders old.nodes to
+      → Has old.nodes to
+  pub absent : IsErrOf answer NotFound → IsTrue old.honest → IsReachedByFolders old.nodes from
+      → IsReachedByFolders old.nodes to → node old.nodes from ≡ None
   pub same : OnErr answer (OnlyLooks old new)
   pub same_file : OnErr answer (written_then ≡ written)
   pub noted : IsTrue old.noted → OnOk answer (Notes (Rename from to) old new)
   pub failures : IsCountedAs at_known answer old.failures new.failures
 
 -- what making a file does
-pub record Creates (old new : DiskState) (written written_then : Option (List ℕ)) (path : List ℕ) (answer : Result (Unit {0}) DiskFault) : Type 0 where
-  pub made : OnOk answer (IsTrue old.honest → IsReached old.nodes path → MakesFile old.nodes new.nodes path)
-  pub closed : OnOk answer (Closes old new)
+pub record Creates (old new : DiskState) (written written_then : Option (List ℕ)) (path : List ℕ)
+    (answer : Result (Unit {0}) DiskFault) : Type 0 where
+  pub made : OnOk answer
+      (IsTrue old.honest → IsReachedByFolders old.nodes path → MakesFile old.nodes new.nodes path)
+  pub closed : OnOk answer (ClosesOpenFile old new)
   pub begun : OnOk answer (IsTrue (is_some (written_then)))
   pub begun_there : OnOk answer (IsTrue old.honest → written_then ≡ Some path)
-  pub taken : IsErrOf answer Exists → IsTrue old.honest → IsReached old.nodes path → Has old.nodes path
-  pub absent : IsErrOf answer NotFound → IsTrue old.honest → IsReached old.nodes path → ⊥
+  pub taken : IsErrOf answer Exists → IsTrue old.honest → IsReachedByFolders old.nodes path
+      → Has old.nodes path
+  pub absent : IsErrOf answer NotFound → IsTrue old.honest → IsReachedByFolders old.nodes path → ⊥
   pub same : OnErr answer (OnlyLooks old new)
   pub same_file : OnErr answer (written_then ≡ written)
   pub noted : IsTrue old.noted → OnOk answer (Notes (Create path) old new)
@@ -109,34 +147,42 @@ pub record Creates (old new : DiskState) (written written_then : Option (List �
   pub failures : IsCountedAs of_making answer old.failures new.failures
 
 -- what writing bytes does
-pub record Writes (old new : DiskState) (written written_then : Option (List ℕ)) (bytes : List ℕ) (answer : Result ℕ DiskFault) : Type 0 where
+pub record Writes (old new : DiskState) (written written_then : Option (List ℕ)) (bytes : List ℕ)
+    (answer : Result ℕ DiskFault) : Type 0 where
   pub within : IfOk answer (λ n. n ≤ length bytes)
-  pub appended : IfOk answer (λ n. IsTrue old.honest → (path : List ℕ) → written ≡ Some path → HasFile old.nodes path → Appends old.nodes new.nodes path (take n bytes))
-  pub closed : OnOk answer (Closes old new)
+  pub appended : IfOk answer (λ n.
+      IsTrue old.honest → (path : List ℕ) → written ≡ Some path → HasFileNode old.nodes path
+      → Appends old.nodes new.nodes path (take n bytes))
+  pub closed : OnOk answer (ClosesOpenFile old new)
   pub taken : IsErrOf answer Exists → IsTrue old.honest → ⊥
   pub absent : IsErrOf answer NotFound → IsTrue old.honest → ⊥
   pub unnamed : IsErrOf answer Name → IsTrue old.honest → ⊥
   pub same : OnErr answer (OnlyLooks old new)
   pub same_file : written_then ≡ written
   pub some : IfOk answer (λ n. 0 < length bytes → 0 < n)
-  pub noted : IsTrue old.noted → IfOk answer (λ n. (path : List ℕ) → written ≡ Some path → Notes (Write path (take n bytes)) old new)
+  pub noted : IsTrue old.noted
+      → IfOk answer (λ n.
+      (path : List ℕ) → written ≡ Some path → Notes (Write path (take n bytes)) old new)
   pub failures : IsCountedAs at_known answer old.failures new.failures
 
 -- what the sync of a file does
-pub record Syncs (old new : DiskState) (written written_then : Option (List ℕ)) (answer : Result (Unit {0}) DiskFault) : Type 0 where
+pub record Syncs (old new : DiskState) (written written_then : Option (List ℕ))
+    (answer : Result (Unit {0}) DiskFault) : Type 0 where
   pub held : OnOk answer (new.nodes ≡ old.nodes)
-  pub closed : OnOk answer (Closes old new)
+  pub closed : OnOk answer (ClosesOpenFile old new)
   pub ended : OnOk answer (written_then ≡ None)
   pub taken : IsErrOf answer Exists → IsTrue old.honest → ⊥
   pub absent : IsErrOf answer NotFound → IsTrue old.honest → ⊥
   pub unnamed : IsErrOf answer Name → IsTrue old.honest → ⊥
   pub same : OnErr answer (OnlyLooks old new)
   pub same_file : OnErr answer (written_then ≡ written)
-  pub noted : IsTrue old.noted → OnOk answer ((path : List ℕ) → written ≡ Some path → Notes (Sync path) old new)
+  pub noted : IsTrue old.noted
+      → OnOk answer ((path : List ℕ) → written ≡ Some path → Notes (Sync path) old new)
   pub failures : IsCountedAs at_known answer old.failures new.failures
 
 -- what the sync of a folder does
-pub record SyncsFolder (old new : DiskState) (written written_then : Option (List ℕ)) (folder : List ℕ) (answer : Result (Unit {0}) DiskFault) : Type 0 where
+pub record SyncsFolder (old new : DiskState) (written written_then : Option (List ℕ))
+    (folder : List ℕ) (answer : Result (Unit {0}) DiskFault) : Type 0 where
   pub syncs : OnlySyncs old new
   pub same : OnErr answer (OnlyLooks old new)
   pub same_file : written_then ≡ written

@@ -1,12 +1,14 @@
 -- A disk in memory.
-use Rattle.std.specs.Prelude.{ℕ, ◌≡◌, Bool, true, false, List, [], Option, Some, None, Result, Ok, Err, drop, bytes_eq, if◌then◌else◌}
+use Rattle.std.specs.Prelude.{ℕ, ◌≡◌, Bool, true, false, List, [], Option, Some, None, Result, Ok}
+use Rattle.std.specs.Prelude.{Err, drop, bytes_eq, if◌then◌else◌}
 use Rattle.std.specs.List.{list_any}
 use Rattle.std.specs.Option.{option_map}
-use Rattle.bag_disk.specs.Disk.{DiskState, Nodes, Node, entry_of, node, bytes_of}
-use Rattle.bag_disk.specs.Failures.{count_of}
+use Rattle.bag_disk.specs.Disk.{DiskState, Nodes, Node, entry_of_node, node, bytes_of}
+use Rattle.bag_disk.specs.Failures.{failures_counted}
 use Rattle.bag_disk.specs.declared.disk.Entry.{Entry}
 use Rattle.bag_disk.specs.declared.disk.DiskFault.{DiskFault}
-use Rattle.bag_disk.specs.declared.disk.DiskFault.TheVariants.{NotFound, Exists, Name, Memory, Device}
+use Rattle.bag_disk.specs.declared.disk.DiskFault.TheVariants.{NotFound, Exists, Name, Memory}
+use Rattle.bag_disk.specs.declared.disk.DiskFault.TheVariants.{Device}
 use Rattle.test_disk.specs.Held.{nodes_of}
 use Rattle.test_disk.specs.declared.memory_disk.MemoryDisk.{MemoryDisk}
 use Rattle.test_disk.specs.declared.swap.Swap.{Swap}
@@ -50,7 +52,7 @@ state_of disk = record {
   openings = disk.openings;
   rest = option_map (drop disk.at) disk.open;
   names = drop disk.named disk.names;
-  failures = count_of disk.failures;
+  failures = failures_counted disk.failures;
   trail = disk.trail;
   noted = true;
 }
@@ -73,14 +75,15 @@ bytes_with (Some swap) path bytes = if bytes_eq swap.path path then swap.bytes.i
 
 -- what a file holds when it is opened
 abbrev pub content_of : MemoryDisk → List ℕ → Option (List ℕ)
-content_of disk path = option_map (bytes_with disk.swap path) (bytes_of (node (nodes_of disk.nodes.entries) path))
+content_of disk path =
+    option_map (bytes_with disk.swap path) (bytes_of (node (nodes_of disk.nodes.entries) path))
 
 -- what is answered of what stands at a path
 abbrev pub IsEntry : Option Node → Result Entry DiskFault → Type 0
 IsEntry None result = result ≡ Err NotFound
-IsEntry (Some n) result = result ≡ Ok (entry_of n)
+IsEntry (Some n) result = result ≡ Ok (entry_of_node n)
 
--- A call may be refused for want of memory, and for this reason.
+-- A call may be refused when out of memory, and for this reason.
 abbrev pub MayRefuse : Type 0 → DiskFault → Type 0
 MayRefuse reason Memory = Unit {0}
 MayRefuse reason NotFound = reason

@@ -11,7 +11,10 @@ use Rattle.test_disk.specs.Placing.{PassesAsDisk, are_bytes, has_bytes}
 -- numbers that pass the test are below 256
 pub below_256 : (bytes : List ℕ) → are_bytes bytes ≡ true → All (λ b. b < 256) bytes
 below_256 [] e = All-nil (λ b. b < 256)
-below_256 (b ∷ bytes) e = let parts = and_parts _ _ e in All-cons (λ b. b < 256) b bytes (ltb-true b 256 parts.0) (below_256 bytes parts.1)
+below_256 (b ∷ bytes) e =
+    let parts =
+    and_parts _ _ e in All-cons (λ b. b < 256) b bytes (ltb-true b 256 parts.0)
+    (below_256 bytes parts.1)
 
 pub plain_from : (n : Node) → n ≢ Other → is_plain_node n ≡ true
 plain_from (File bytes) other = refl
@@ -27,7 +30,8 @@ folder_from (Some Other) e = absurd (false≢true e)
 pub passing_is_disk : (nodes : Nodes) → PassesAsDisk nodes → IsDisk nodes
 passing_is_disk nodes passes = record {
   paths = passes.paths;
-  texts = λ path n is other. IsUtf8-from_is_utf8 path (passes.texts path (ap is_plain_found is ∙ plain_from n other));
+  texts = λ path n is other.
+      IsUtf8-from_is_utf8 path (passes.texts path (ap is_plain_found is ∙ plain_from n other));
   folders = λ path has folder rest e. folder_from _ (passes.folders path has folder rest e);
   bytes = λ path content is. below_256 content (sym (ap has_bytes is) ∙ passes.bytes path);
 }

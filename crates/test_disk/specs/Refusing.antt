@@ -2,23 +2,26 @@
 use Rattle.std.specs.Prelude.{ℕ, ◌+◌, suc, zero, ◌&&◌, Bool, true, false, List, bytes_eq}
 use Rattle.bag_disk.specs.Disk.{DiskState}
 use Rattle.bag_disk.specs.declared.disk.DiskFault.{DiskFault}
-use Rattle.bag_disk.specs.declared.disk.DiskFault.TheVariants.{NotFound, Exists, Name, Memory, Device}
+use Rattle.bag_disk.specs.declared.disk.DiskFault.TheVariants.{NotFound, Exists, Name, Memory}
+use Rattle.bag_disk.specs.declared.disk.DiskFault.TheVariants.{Device}
 use Rattle.test_disk.specs.declared.refusing_disk.Call.{Call}
-use Rattle.test_disk.specs.declared.refusing_disk.Call.TheVariants.{Numbered, EntryAt, Counted, Past}
+use Rattle.test_disk.specs.declared.refusing_disk.Call.TheVariants.{Numbered, EntryAt, Counted}
+use Rattle.test_disk.specs.declared.refusing_disk.Call.TheVariants.{Past}
 
 -- an honest disk may refuse any call by this fault
-abbrev pub tells_nothing : DiskFault → Bool
-tells_nothing NotFound = false
-tells_nothing Exists = false
-tells_nothing Name = false
-tells_nothing Memory = true
-tells_nothing Device = true
+abbrev pub reports_nothing : DiskFault → Bool
+reports_nothing NotFound = false
+reports_nothing Exists = false
+reports_nothing Name = false
+reports_nothing Memory = true
+reports_nothing Device = true
 
--- what a disk means of which one call is refused by a fault, when this number of failures was its own
+-- what a disk means of which one call is refused by a fault, when this number of failures was its
+-- own
 abbrev pub refusing : DiskState → DiskFault → ℕ → DiskState
 refusing state fault own = record {
   nodes = state.nodes;
-  honest = state.honest && tells_nothing fault;
+  honest = state.honest && reports_nothing fault;
   openings = state.openings;
   rest = state.rest;
   names = state.names;

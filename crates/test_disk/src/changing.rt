@@ -3,7 +3,7 @@ ghost use Rattle.std.specs.Prelude.{◌≡◌, ◌∷◌, ◌++◌, [], IfErr, I
 ghost use Rattle.std.specs.FinMap as map;
 ghost use Rattle.bag_text.specs.Path.{slash};
 ghost use Rattle.bag_tree.specs.Moved as moving;
-ghost use Rattle.bag_disk.specs.Disk.{IsDisk, IsReached, node};
+ghost use Rattle.bag_disk.specs.Disk.{IsDisk, IsReachedByFolders, node};
 ghost use Rattle.bag_disk.specs.WritableDisk.{Appends, Moves};
 ghost use Rattle.test_disk.specs.Changing.{MayRefuseAdding, MayRefuseMoving, MayRefuseWriting};
 ghost use Rattle.test_disk.specs.Held.{node_of, nodes_of};
@@ -20,7 +20,9 @@ pub(crate) fn put_node(
     path: Vec<u8>,
     node: Node,
 ) -> Result<(), AllocError>
-    ensures put { OnOk result (nodes_of nodes.new.entries ≡ map.insert (nodes_of nodes.old.entries) path.items (node_of node)) }
+    ensures put { OnOk result
+        (nodes_of nodes.new.entries
+        ≡ map.insert (nodes_of nodes.old.entries) path.items (node_of node)) }
     ensures refused { OnErr result (nodes_of nodes.new.entries ≡ nodes_of nodes.old.entries) }
 {
     let _ = nodes.insert(path, node)?;
@@ -34,9 +36,11 @@ pub(crate) fn add_node(
     path: &[u8],
     added: Node,
 ) -> Result<(), DiskFault>
-    ensures reached { OnOk result (IsReached (nodes_of nodes.old.entries) path.now) }
+    ensures reached { OnOk result (IsReachedByFolders (nodes_of nodes.old.entries) path.now) }
     ensures free { OnOk result (node (nodes_of nodes.old.entries) path.now ≡ None) }
-    ensures added { OnOk result (nodes_of nodes.new.entries ≡ map.insert (nodes_of nodes.old.entries) path.now (node_of added)) }
+    ensures added { OnOk result
+        (nodes_of nodes.new.entries
+        ≡ map.insert (nodes_of nodes.old.entries) path.now (node_of added)) }
     ensures same { OnErr result (nodes_of nodes.new.entries ≡ nodes_of nodes.old.entries) }
     ensures refused { IfErr result (MayRefuseAdding (nodes_of nodes.old.entries) path.now) }
 {
@@ -50,14 +54,15 @@ pub(crate) fn add_node(
     Ok(())
 }
 
-/// Puts bytes behind those of the file at a path.
+/// Puts bytes after those of the file at a path.
 pub(crate) fn append(
     alloc: Global,
     nodes: &mut BTreeMap<Vec<u8>, Node>,
     path: &[u8],
     bytes: &[u8],
 ) -> Result<(), DiskFault>
-    ensures appended { OnOk result (Appends (nodes_of nodes.old.entries) (nodes_of nodes.new.entries) path.now bytes.now) }
+    ensures appended { OnOk result
+        (Appends (nodes_of nodes.old.entries) (nodes_of nodes.new.entries) path.now bytes.now) }
     ensures same { OnErr result (nodes_of nodes.new.entries ≡ nodes_of nodes.old.entries) }
     ensures refused { IfErr result (MayRefuseWriting (nodes_of nodes.old.entries) (Some path.now)) }
 {
@@ -77,7 +82,8 @@ pub(crate) fn moved_to(
     from: &[u8],
     to: &[u8],
 ) -> Result<BTreeMap<Vec<u8>, Node>, DiskFault>
-    ensures moved { IfOk result (λ moved. Moves (nodes_of nodes.now.entries) (nodes_of moved.entries) from.now to.now) }
+    ensures moved { IfOk result (λ moved.
+        Moves (nodes_of nodes.now.entries) (nodes_of moved.entries) from.now to.now) }
     ensures disk { IfOk result (λ moved. IsDisk (nodes_of moved.entries)) }
     ensures free { OnOk result (node (nodes_of nodes.now.entries) to.now ≡ None) }
     ensures refused { IfErr result (MayRefuseMoving (nodes_of nodes.now.entries) from.now to.now) }
@@ -102,7 +108,8 @@ fn moved(
     from: &[u8],
     to: &[u8],
 ) -> Result<BTreeMap<Vec<u8>, Node>, AllocError>
-    ensures { IfOk result (λ moved. nodes_of moved.entries ≡ moving.moved from.now to.now (nodes_of nodes.now.entries)) }
+    ensures { IfOk result (λ moved.
+        nodes_of moved.entries ≡ moving.moved from.now to.now (nodes_of nodes.now.entries)) }
 {
     let mut front = from.to_vec(alloc)?;
     front.push(SLASH)?;
@@ -114,7 +121,8 @@ fn moved(
     Ok(moved)
 }
 
-/// The path of what stood at a path, when `from`, of which the front is the path of what is below it, has become `to`.
+/// The path of what stood at a path, when `from`, of which the front is the path of what is below
+/// it, has become `to`.
 fn renamed(
     alloc: Global,
     from: &[u8],

@@ -1,6 +1,6 @@
 //! What a disk in memory holds, by its paths.
 ghost use Rattle.std.specs.Prelude.{◌≡◌, IfOk, MatchOption, None, Some, map};
-ghost use Rattle.bag_disk.specs.Disk.{entry_of, node, is_folder_node};
+ghost use Rattle.bag_disk.specs.Disk.{entry_of_node, node, is_folder_node};
 ghost use Rattle.test_disk.specs.Held.{below, name_in, names_in, node_of, nodes_of};
 
 use bag_disk::Entry;
@@ -24,7 +24,7 @@ pub enum Node {
 impl Node {
     /// What is answered of it.
     pub(crate) fn entry(&self) -> Entry
-        ensures { result ≡ entry_of (node_of self.now) }
+        ensures { result ≡ entry_of_node (node_of self.now) }
     {
         match self {
             Node::File(bytes) => Entry::File(bytes.len() as u64),
@@ -83,7 +83,8 @@ pub(crate) fn names_in(
 
 /// The name that a path has in a folder, where it stands right in it.
 fn name_in<'a>(folder: &[u8], path: &'a [u8]) -> Option<&'a [u8]>
-    ensures { MatchOption result (name_in folder.now path.now ≡ None) (λ name. name_in folder.now path.now ≡ Some name.now) }
+    ensures { MatchOption result (name_in folder.now path.now ≡ None) (λ name.
+        name_in folder.now path.now ≡ Some name.now) }
 {
     let Some(name) = below(folder, path) else {
         return None;
@@ -97,7 +98,8 @@ fn name_in<'a>(folder: &[u8], path: &'a [u8]) -> Option<&'a [u8]>
 
 /// What a path is below a folder, where it stands there.
 fn below<'a>(folder: &[u8], path: &'a [u8]) -> Option<&'a [u8]>
-    ensures { MatchOption result (below folder.now path.now ≡ None) (λ rest. below folder.now path.now ≡ Some rest.now) }
+    ensures { MatchOption result (below folder.now path.now ≡ None) (λ rest.
+        below folder.now path.now ≡ Some rest.now) }
 {
     if folder.is_empty() {
         return Some(path);

@@ -15,7 +15,8 @@ use std::alloc::{AllocError, Global};
 use std::collections::BTreeMap;
 use std::str;
 
-/// A disk in memory, below its base folder. It is honest until a file is swapped. It notes what its device did.
+/// A disk in memory, below its base folder. It is honest until a file is swapped. It notes what its
+/// device did.
 #[derive(Drop)]
 pub struct MemoryDisk {
     alloc: Global,
@@ -39,11 +40,14 @@ impl MemoryDisk {
     ghost use Rattle.bag_disk.specs.Disk.{IsDisk};
     ghost use Rattle.test_disk.specs.MemoryDisk.{fresh, not_honest, barred_of, state_of};
 
-    /// A disk that holds this at these paths; none where that can't stand on a disk: a key isn't a path, the folders on its
-    /// way aren't there, or a file or a folder has a name that isn't UTF-8.
+    /// A disk that holds this at these paths; none where that can't stand on a disk: a key isn't a
+    /// path, the folders on its way aren't there, or a file or a folder has a name that isn't
+    /// UTF-8.
     pub fn holding(alloc: Global, nodes: BTreeMap<Vec<u8>, Node>) -> Option<MemoryDisk>
-        ensures disk { MatchOption result (¬ (IsDisk (nodes_of nodes.entries))) (λ disk. state_of disk ≡ fresh (nodes_of nodes.entries)) }
-        ensures open { MatchOption result (¬ (IsDisk (nodes_of nodes.entries))) (λ disk. barred_of disk ≡ []) }
+        ensures disk { MatchOption result (¬ (IsDisk (nodes_of nodes.entries))) (λ disk.
+            state_of disk ≡ fresh (nodes_of nodes.entries)) }
+        ensures open { MatchOption result (¬ (IsDisk (nodes_of nodes.entries))) (λ disk.
+            barred_of disk ≡ []) }
     {
         if !are_placed(&nodes) {
             return None;
@@ -80,8 +84,8 @@ impl MemoryDisk {
         }
     }
 
-    /// A disk that holds the same. None of its folders is barred, no file of it is swapped, nothing is open, and its device did
-    /// nothing.
+    /// A disk that holds the same. None of its folders is barred, no file of it is swapped, nothing
+    /// is open, and its device did nothing.
     pub fn fresh_copy(&self, alloc: Global) -> Result<MemoryDisk, AllocError>
         ensures disk { IfOk result (λ disk. state_of disk ≡ fresh (state_of self.now).nodes) }
         ensures open { IfOk result (λ disk. barred_of disk ≡ []) }
@@ -89,7 +93,8 @@ impl MemoryDisk {
         Ok(MemoryDisk::with_nodes(alloc, self.nodes.clone()?))
     }
 
-    /// From now on the folder may not be read: entering it answers `Device`. The empty path is the base folder.
+    /// From now on the folder may not be read: entering it answers `Device`. The empty path is the
+    /// base folder.
     pub fn bar(&mut self, folder: Text) -> Result<(), AllocError>
         ensures same { state_of self.new ≡ state_of self.old }
         ensures barred { OnOk result (barred_of self.new ≡ barred_of self.old ++ folder ∷ []) }
@@ -98,8 +103,8 @@ impl MemoryDisk {
         self.barred.push(folder)
     }
 
-    /// From now on the file at the path, where there is one, holds these bytes when it is opened, and no other file is
-    /// swapped. What is listed stays, so the disk isn't honest any more.
+    /// From now on the file at the path, where there is one, holds these bytes when it is opened,
+    /// and no other file is swapped. What is listed stays, so the disk isn't honest any more.
     pub fn swap(&mut self, path: Text, bytes: Vec<u8>)
         ensures state { state_of self.new ≡ not_honest (state_of self.old) }
         ensures barred { barred_of self.new ≡ barred_of self.old }
@@ -138,7 +143,8 @@ impl MemoryDisk {
     /// A copy of what a file holds when it is opened.
     fn content(&self, path: &str) -> Result<Items<u8>, DiskFault>
         ensures content { IfOk result (λ content. content_of self.now path.now ≡ Some content) }
-        ensures absent { IsErrOf result NotFound → node (nodes_of self.now.nodes.entries) path.now ≡ None }
+        ensures absent { IsErrOf result NotFound
+            → node (nodes_of self.now.nodes.entries) path.now ≡ None }
         ensures refused { IfErr result (MayRefuse (content_of self.now path.now ≡ None)) }
     {
         match node_at(&self.nodes, path.as_bytes()) {
@@ -161,14 +167,19 @@ impl MemoryDisk {
 }
 
 impl Disk for MemoryDisk {
-    ghost use Rattle.std.specs.Prelude.{◌≡◌, ◌<◌, ◌≤◌, ◌++◌, ◌∷◌, [], IfErr, IfOk, IsErrOf, IsTrue, List, MatchOption, None, OnErr, OnOk, Some, is_some, length, ℕ, ⊤};
+    ghost use Rattle.std.specs.Prelude.{◌≡◌, ◌<◌, ◌≤◌, ◌++◌, ◌∷◌, [], IfErr, IfOk, IsErrOf, IsTrue};
+    ghost use Rattle.std.specs.Prelude.{List, MatchOption, None, OnErr, OnOk, Some, is_some};
+    ghost use Rattle.std.specs.Prelude.{length, ℕ, ⊤};
     ghost use Rattle.std.specs.Option.{option_map};
     ghost use Rattle.bag_text.specs.Path.{is_path};
     ghost use Rattle.bag_tree.specs.Tree.{ReadsNext};
-    ghost use Rattle.bag_disk.specs.Disk.{AreNamesIn, HasUnnamed, IsFileWith, IsFolder, IsReached, OnlyLooks, SameDisk, entry_of, node};
-    ghost use Rattle.bag_disk.specs.Refusal.{IsCountedAs, at_known, of_name, of_path};
+    ghost use Rattle.bag_disk.specs.Disk.{AreNamesIn, HasUnnamed, IsFileWith, IsFolder};
+    ghost use Rattle.bag_disk.specs.Disk.{IsReachedByFolders, OnlyLooks, SameDisk, entry_of_node};
+    ghost use Rattle.bag_disk.specs.Disk.{node};
+    ghost use Rattle.bag_disk.specs.Refusal.{IsCountedAs, at_known, of_name, refusal_at_path};
     ghost use Rattle.bag_disk.specs.declared.disk.DiskFault.TheVariants.{Memory, Name, NotFound};
-    ghost use Rattle.test_disk.specs.MemoryDisk.{IsEntry, MayRefuse, barred_of, content_of, is_barred, state_of};
+    ghost use Rattle.test_disk.specs.MemoryDisk.{IsEntry, MayRefuse, barred_of, content_of};
+    ghost use Rattle.test_disk.specs.MemoryDisk.{is_barred, state_of};
     ghost use Rattle.test_disk.specs.PlacingLaw.{passing_is_disk};
 
     ghost state = { state_of };
@@ -178,11 +189,15 @@ impl Disk for MemoryDisk {
     fn entry_at(&mut self, path: &str) -> Result<Entry, DiskFault>
         ensures looks { OnlyLooks (state_of self.old) (state_of self.new) }
         ensures names { (state_of self.new).names ≡ (state_of self.old).names }
-        ensures found { IfOk result (λ entry. IsTrue (state_of self.old).honest → IsReached (state_of self.old).nodes path.now
-            → option_map entry_of (node (state_of self.old).nodes path.now) ≡ Some entry) }
-        ensures absent { IsErrOf result NotFound → IsTrue (state_of self.old).honest → IsReached (state_of self.old).nodes path.now
+        ensures found { IfOk result (λ entry.
+            IsTrue (state_of self.old).honest
+            → IsReachedByFolders (state_of self.old).nodes path.now
+            → option_map entry_of_node (node (state_of self.old).nodes path.now) ≡ Some entry) }
+        ensures absent { IsErrOf result NotFound → IsTrue (state_of self.old).honest
+            → IsReachedByFolders (state_of self.old).nodes path.now
             → node (state_of self.old).nodes path.now ≡ None }
-        ensures failures { IsCountedAs of_path result (state_of self.old).failures (state_of self.new).failures }
+        ensures failures { IsCountedAs refusal_at_path result (state_of self.old).failures
+            (state_of self.new).failures }
         ensures barred { barred_of self.new ≡ barred_of self.old }
         ensures exact { IsEntry (node (state_of self.old).nodes path.now) result }
     {
@@ -195,9 +210,12 @@ impl Disk for MemoryDisk {
     fn named_entry(&mut self, path: &str) -> Result<Entry, DiskFault>
         ensures looks { OnlyLooks (state_of self.old) (state_of self.new) }
         ensures names { (state_of self.new).names ≡ (state_of self.old).names }
-        ensures found { IfOk result (λ entry. IsTrue (state_of self.old).honest → IsReached (state_of self.old).nodes path.now
-            → option_map entry_of (node (state_of self.old).nodes path.now) ≡ Some entry) }
-        ensures failures { IsCountedAs at_known result (state_of self.old).failures (state_of self.new).failures }
+        ensures found { IfOk result (λ entry.
+            IsTrue (state_of self.old).honest
+            → IsReachedByFolders (state_of self.old).nodes path.now
+            → option_map entry_of_node (node (state_of self.old).nodes path.now) ≡ Some entry) }
+        ensures failures { IsCountedAs at_known result (state_of self.old).failures
+            (state_of self.new).failures }
         ensures barred { barred_of self.new ≡ barred_of self.old }
         ensures exact { IsEntry (node (state_of self.old).nodes path.now) result }
     {
@@ -212,9 +230,11 @@ impl Disk for MemoryDisk {
 
     fn enter(&mut self, folder: &str) -> Result<(), DiskFault>
         ensures looks { OnlyLooks (state_of self.old) (state_of self.new) }
-        ensures honest { OnOk result (IsTrue (state_of self.old).honest → IsFolder (state_of self.old).nodes folder.now
+        ensures honest { OnOk result
+            (IsTrue (state_of self.old).honest → IsFolder (state_of self.old).nodes folder.now
             → AreNamesIn (state_of self.old).nodes folder.now (state_of self.new).names) }
-        ensures failures { IsCountedAs at_known result (state_of self.old).failures (state_of self.new).failures }
+        ensures failures { IsCountedAs at_known result (state_of self.old).failures
+            (state_of self.new).failures }
         ensures barred { barred_of self.new ≡ barred_of self.old }
         ensures shut { OnOk result (IsTrue (is_barred self.old folder.now) → ⊥) }
         ensures refused { IfErr result (MayRefuse (IsTrue (is_barred self.old folder.now))) }
@@ -230,11 +250,14 @@ impl Disk for MemoryDisk {
 
     fn next_name(&mut self) -> Result<Option<Text>, DiskFault>
         ensures looks { OnlyLooks (state_of self.old) (state_of self.new) }
-        ensures unnamed { IsErrOf result Name → IsTrue (state_of self.old).honest → HasUnnamed (state_of self.old).names }
+        ensures unnamed { IsErrOf result Name → IsTrue (state_of self.old).honest
+            → HasUnnamed (state_of self.old).names }
         ensures honest { IfOk result (λ next. IsTrue (state_of self.old).honest
-            → MatchOption next ((state_of self.old).names ≡ []) (λ name. (state_of self.old).names ≡ name ∷ (state_of self.new).names)) }
+            → MatchOption next ((state_of self.old).names ≡ []) (λ name.
+            (state_of self.old).names ≡ name ∷ (state_of self.new).names)) }
         ensures path { IfOk result (λ next. MatchOption next ⊤ (λ name. IsTrue (is_path name))) }
-        ensures failures { IsCountedAs of_name result (state_of self.old).failures (state_of self.new).failures }
+        ensures failures { IsCountedAs of_name result (state_of self.old).failures
+            (state_of self.new).failures }
         ensures barred { barred_of self.new ≡ barred_of self.old }
     {
         let Some(name) = self.names.as_slice().get(self.named) else {
@@ -251,15 +274,22 @@ impl Disk for MemoryDisk {
 
     fn open(&mut self, path: &str) -> Result<(), DiskFault>
         ensures same { SameDisk (state_of self.old) (state_of self.new) }
-        ensures opened { OnOk result ((state_of self.new).openings ≡ (state_of self.old).openings ++ path.now ∷ []) }
+        ensures opened { OnOk result
+            ((state_of self.new).openings ≡ (state_of self.old).openings ++ path.now ∷ []) }
         ensures file_open { OnOk result (IsTrue (is_some (state_of self.new).rest)) }
-        ensures honest { OnOk result (IsTrue (state_of self.old).honest → IsReached (state_of self.old).nodes path.now
-            → (bytes : List ℕ) → IsFileWith (state_of self.old).nodes path.now bytes → (state_of self.new).rest ≡ Some bytes) }
-        ensures absent { IsErrOf result NotFound → IsTrue (state_of self.old).honest → IsReached (state_of self.old).nodes path.now
+        ensures honest { OnOk result
+            (IsTrue (state_of self.old).honest
+            → IsReachedByFolders (state_of self.old).nodes path.now
+            → (bytes : List ℕ) → IsFileWith (state_of self.old).nodes path.now bytes
+            → (state_of self.new).rest ≡ Some bytes) }
+        ensures absent { IsErrOf result NotFound → IsTrue (state_of self.old).honest
+            → IsReachedByFolders (state_of self.old).nodes path.now
             → node (state_of self.old).nodes path.now ≡ None }
         ensures closed { OnErr result ((state_of self.new).rest ≡ None) }
-        ensures not_opened { OnErr result ((state_of self.new).openings ≡ (state_of self.old).openings) }
-        ensures failures { IsCountedAs of_path result (state_of self.old).failures (state_of self.new).failures }
+        ensures not_opened { OnErr result
+            ((state_of self.new).openings ≡ (state_of self.old).openings) }
+        ensures failures { IsCountedAs refusal_at_path result (state_of self.old).failures
+            (state_of self.new).failures }
         ensures barred { barred_of self.new ≡ barred_of self.old }
         ensures content { OnOk result ((state_of self.new).rest ≡ content_of self.old path.now) }
         ensures refused { IfErr result (MayRefuse (content_of self.old path.now ≡ None)) }
@@ -298,32 +328,44 @@ impl Disk for MemoryDisk {
 }
 
 impl WritableDisk for MemoryDisk {
-    ghost use Rattle.std.specs.Prelude.{◌≡◌, ◌<◌, ◌≤◌, IfErr, IfOk, IsErrOf, IsTrue, List, None, OnErr, OnOk, Some, is_some, length, take, ℕ};
+    ghost use Rattle.std.specs.Prelude.{◌≡◌, ◌<◌, ◌≤◌, IfErr, IfOk, IsErrOf, IsTrue, List, None};
+    ghost use Rattle.std.specs.Prelude.{OnErr, OnOk, Some, is_some, length, take, ℕ};
     ghost use Rattle.bag_text.specs.Path.{is_path};
-    ghost use Rattle.bag_disk.specs.Disk.{Has, IsFolder, IsReached, OnlyLooks, OnlySyncs, node};
-    ghost use Rattle.bag_disk.specs.WritableDisk.{Appends, Closes, HasFile, MakesFile, MakesFolder, Moves, Notes};
+    ghost use Rattle.bag_disk.specs.Disk.{Has, IsFolder, IsReachedByFolders, OnlyLooks, OnlySyncs};
+    ghost use Rattle.bag_disk.specs.Disk.{node};
+    ghost use Rattle.bag_disk.specs.WritableDisk.{Appends, ClosesOpenFile, HasFileNode, MakesFile};
+    ghost use Rattle.bag_disk.specs.WritableDisk.{MakesFolderNode, Moves, Notes};
     ghost use Rattle.bag_tree.specs.Moved.{KeepsOthers};
-    ghost use Rattle.bag_tree.specs.declared.event.DeviceEvent.TheVariants.{MakeFolder, Rename, Create, Write, Sync, SyncFolder};
+    ghost use Rattle.bag_tree.specs.declared.event.DeviceEvent.TheVariants.{MakeFolder, Rename};
+    ghost use Rattle.bag_tree.specs.declared.event.DeviceEvent.TheVariants.{Create, Write, Sync};
+    ghost use Rattle.bag_tree.specs.declared.event.DeviceEvent.TheVariants.{SyncFolder};
     ghost use Rattle.bag_disk.specs.Refusal.{IsCountedAs, at_known, of_making};
     ghost use Rattle.bag_disk.specs.declared.disk.DiskFault.TheVariants.{Exists, Name, NotFound};
-    ghost use Rattle.test_disk.specs.Changing.{MayRefuseAdding, MayRefuseMoving, MayRefuseSync, MayRefuseSyncFolder, MayRefuseWriting};
+    ghost use Rattle.test_disk.specs.Changing.{MayRefuseAdding, MayRefuseMoving, MayRefuseSync};
+    ghost use Rattle.test_disk.specs.Changing.{MayRefuseSyncFolder, MayRefuseWriting};
     ghost use Rattle.test_disk.specs.MemoryDisk.{barred_of, state_of, written_of};
 
     ghost written = { written_of };
 
     fn make_folder(&mut self, path: &str) -> Result<(), DiskFault>
         requires { IsTrue (is_path path.now) }
-        ensures made { OnOk result (IsTrue (state_of self.old).honest → IsReached (state_of self.old).nodes path.now
-            → MakesFolder (state_of self.old).nodes (state_of self.new).nodes path.now) }
-        ensures closed { OnOk result (Closes (state_of self.old) (state_of self.new)) }
+        ensures made { OnOk result
+            (IsTrue (state_of self.old).honest
+            → IsReachedByFolders (state_of self.old).nodes path.now
+            → MakesFolderNode (state_of self.old).nodes (state_of self.new).nodes path.now) }
+        ensures closed { OnOk result (ClosesOpenFile (state_of self.old) (state_of self.new)) }
         ensures ended { OnOk result (written_of self.new ≡ None) }
-        ensures taken { IsErrOf result Exists → IsTrue (state_of self.old).honest → IsReached (state_of self.old).nodes path.now
+        ensures taken { IsErrOf result Exists → IsTrue (state_of self.old).honest
+            → IsReachedByFolders (state_of self.old).nodes path.now
             → Has (state_of self.old).nodes path.now }
-        ensures absent { IsErrOf result NotFound → IsTrue (state_of self.old).honest → IsReached (state_of self.old).nodes path.now → ⊥ }
+        ensures absent { IsErrOf result NotFound → IsTrue (state_of self.old).honest
+            → IsReachedByFolders (state_of self.old).nodes path.now → ⊥ }
         ensures same { OnErr result (OnlyLooks (state_of self.old) (state_of self.new)) }
         ensures same_file { OnErr result (written_of self.new ≡ written_of self.old) }
-        ensures noted { OnOk result (Notes (MakeFolder path.now) (state_of self.old) (state_of self.new)) }
-        ensures failures { IsCountedAs of_making result (state_of self.old).failures (state_of self.new).failures }
+        ensures noted { OnOk result
+            (Notes (MakeFolder path.now) (state_of self.old) (state_of self.new)) }
+        ensures failures { IsCountedAs of_making result (state_of self.old).failures
+            (state_of self.new).failures }
         ensures barred { barred_of self.new ≡ barred_of self.old }
         ensures refused { IfErr result (MayRefuseAdding (state_of self.old).nodes path.now) }
     {
@@ -344,22 +386,29 @@ impl WritableDisk for MemoryDisk {
 
     fn rename(&mut self, from: &str, to: &str) -> Result<(), DiskFault>
         ensures moved { OnOk result (IsTrue (state_of self.old).honest
-            → IsReached (state_of self.old).nodes from.now → IsReached (state_of self.old).nodes to.now
-            → node (state_of self.old).nodes to.now ≡ None → Moves (state_of self.old).nodes (state_of self.new).nodes from.now to.now) }
+            → IsReachedByFolders (state_of self.old).nodes from.now
+            → IsReachedByFolders (state_of self.old).nodes to.now
+            → node (state_of self.old).nodes to.now ≡ None
+            → Moves (state_of self.old).nodes (state_of self.new).nodes from.now to.now) }
         ensures others { OnOk result (IsTrue (state_of self.old).honest
-            → IsReached (state_of self.old).nodes from.now → IsReached (state_of self.old).nodes to.now
+            → IsReachedByFolders (state_of self.old).nodes from.now
+            → IsReachedByFolders (state_of self.old).nodes to.now
             → KeepsOthers (state_of self.old).nodes (state_of self.new).nodes from.now to.now) }
-        ensures closed { OnOk result (Closes (state_of self.old) (state_of self.new)) }
+        ensures closed { OnOk result (ClosesOpenFile (state_of self.old) (state_of self.new)) }
         ensures ended { OnOk result (written_of self.new ≡ None) }
-        ensures taken { IsErrOf result Exists → IsTrue (state_of self.old).honest → IsReached (state_of self.old).nodes to.now
+        ensures taken { IsErrOf result Exists → IsTrue (state_of self.old).honest
+            → IsReachedByFolders (state_of self.old).nodes to.now
             → Has (state_of self.old).nodes to.now }
         ensures absent { IsErrOf result NotFound → IsTrue (state_of self.old).honest
-            → IsReached (state_of self.old).nodes from.now → IsReached (state_of self.old).nodes to.now
+            → IsReachedByFolders (state_of self.old).nodes from.now
+            → IsReachedByFolders (state_of self.old).nodes to.now
             → node (state_of self.old).nodes from.now ≡ None }
         ensures same { OnErr result (OnlyLooks (state_of self.old) (state_of self.new)) }
         ensures same_file { OnErr result (written_of self.new ≡ written_of self.old) }
-        ensures noted { OnOk result (Notes (Rename from.now to.now) (state_of self.old) (state_of self.new)) }
-        ensures failures { IsCountedAs at_known result (state_of self.old).failures (state_of self.new).failures }
+        ensures noted { OnOk result
+            (Notes (Rename from.now to.now) (state_of self.old) (state_of self.new)) }
+        ensures failures { IsCountedAs at_known result (state_of self.old).failures
+            (state_of self.new).failures }
         ensures barred { barred_of self.new ≡ barred_of self.old }
         ensures refused { IfErr result (MayRefuseMoving (state_of self.old).nodes from.now to.now) }
     {
@@ -379,19 +428,26 @@ impl WritableDisk for MemoryDisk {
 
     fn create(&mut self, path: &str) -> Result<(), DiskFault>
         requires { IsTrue (is_path path.now) }
-        ensures made { OnOk result (IsTrue (state_of self.old).honest → IsReached (state_of self.old).nodes path.now
+        ensures made { OnOk result
+            (IsTrue (state_of self.old).honest
+            → IsReachedByFolders (state_of self.old).nodes path.now
             → MakesFile (state_of self.old).nodes (state_of self.new).nodes path.now) }
-        ensures closed { OnOk result (Closes (state_of self.old) (state_of self.new)) }
+        ensures closed { OnOk result (ClosesOpenFile (state_of self.old) (state_of self.new)) }
         ensures begun { OnOk result (IsTrue (is_some (written_of self.new))) }
-        ensures begun_there { OnOk result (IsTrue (state_of self.old).honest → written_of self.new ≡ Some path.now) }
-        ensures taken { IsErrOf result Exists → IsTrue (state_of self.old).honest → IsReached (state_of self.old).nodes path.now
+        ensures begun_there { OnOk result
+            (IsTrue (state_of self.old).honest → written_of self.new ≡ Some path.now) }
+        ensures taken { IsErrOf result Exists → IsTrue (state_of self.old).honest
+            → IsReachedByFolders (state_of self.old).nodes path.now
             → Has (state_of self.old).nodes path.now }
-        ensures absent { IsErrOf result NotFound → IsTrue (state_of self.old).honest → IsReached (state_of self.old).nodes path.now → ⊥ }
+        ensures absent { IsErrOf result NotFound → IsTrue (state_of self.old).honest
+            → IsReachedByFolders (state_of self.old).nodes path.now → ⊥ }
         ensures same { OnErr result (OnlyLooks (state_of self.old) (state_of self.new)) }
         ensures same_file { OnErr result (written_of self.new ≡ written_of self.old) }
-        ensures noted { OnOk result (Notes (Create path.now) (state_of self.old) (state_of self.new)) }
+        ensures noted { OnOk result
+            (Notes (Create path.now) (state_of self.old) (state_of self.new)) }
         ensures named { OnOk result (written_of self.new ≡ Some path.now) }
-        ensures failures { IsCountedAs of_making result (state_of self.old).failures (state_of self.new).failures }
+        ensures failures { IsCountedAs of_making result (state_of self.old).failures
+            (state_of self.new).failures }
         ensures barred { barred_of self.new ≡ barred_of self.old }
         ensures refused { IfErr result (MayRefuseAdding (state_of self.old).nodes path.now) }
     {
@@ -414,9 +470,11 @@ impl WritableDisk for MemoryDisk {
 
     fn write(&mut self, bytes: &[u8]) -> Result<usize, DiskFault>
         ensures within { IfOk result (λ n. n ≤ length bytes.now) }
-        ensures appended { IfOk result (λ n. IsTrue (state_of self.old).honest → (path : List ℕ) → written_of self.old ≡ Some path
-            → HasFile (state_of self.old).nodes path → Appends (state_of self.old).nodes (state_of self.new).nodes path (take n bytes.now)) }
-        ensures closed { OnOk result (Closes (state_of self.old) (state_of self.new)) }
+        ensures appended { IfOk result (λ n.
+            IsTrue (state_of self.old).honest → (path : List ℕ) → written_of self.old ≡ Some path
+            → HasFileNode (state_of self.old).nodes path
+            → Appends (state_of self.old).nodes (state_of self.new).nodes path (take n bytes.now)) }
+        ensures closed { OnOk result (ClosesOpenFile (state_of self.old) (state_of self.new)) }
         ensures taken { IsErrOf result Exists → IsTrue (state_of self.old).honest → ⊥ }
         ensures absent { IsErrOf result NotFound → IsTrue (state_of self.old).honest → ⊥ }
         ensures unnamed { IsErrOf result Name → IsTrue (state_of self.old).honest → ⊥ }
@@ -425,10 +483,12 @@ impl WritableDisk for MemoryDisk {
         ensures some { IfOk result (λ n. 0 < length bytes.now → 0 < n) }
         ensures noted { IfOk result (λ n. (path : List ℕ) → written_of self.old ≡ Some path
             → Notes (Write path (take n bytes.now)) (state_of self.old) (state_of self.new)) }
-        ensures failures { IsCountedAs at_known result (state_of self.old).failures (state_of self.new).failures }
+        ensures failures { IsCountedAs at_known result (state_of self.old).failures
+            (state_of self.new).failures }
         ensures barred { barred_of self.new ≡ barred_of self.old }
         ensures all { IfOk result (λ n. n ≡ length bytes.now) }
-        ensures refused { IfErr result (MayRefuseWriting (state_of self.old).nodes (written_of self.old)) }
+        ensures refused { IfErr result
+            (MayRefuseWriting (state_of self.old).nodes (written_of self.old)) }
     {
         let Some(path) = &self.written else {
             self.failures.refuse(Refusal::Device);
@@ -449,7 +509,7 @@ impl WritableDisk for MemoryDisk {
 
     fn sync(&mut self) -> Result<(), DiskFault>
         ensures held { OnOk result ((state_of self.new).nodes ≡ (state_of self.old).nodes) }
-        ensures closed { OnOk result (Closes (state_of self.old) (state_of self.new)) }
+        ensures closed { OnOk result (ClosesOpenFile (state_of self.old) (state_of self.new)) }
         ensures ended { OnOk result (written_of self.new ≡ None) }
         ensures taken { IsErrOf result Exists → IsTrue (state_of self.old).honest → ⊥ }
         ensures absent { IsErrOf result NotFound → IsTrue (state_of self.old).honest → ⊥ }
@@ -458,7 +518,8 @@ impl WritableDisk for MemoryDisk {
         ensures same_file { OnErr result (written_of self.new ≡ written_of self.old) }
         ensures noted { OnOk result ((path : List ℕ) → written_of self.old ≡ Some path
             → Notes (Sync path) (state_of self.old) (state_of self.new)) }
-        ensures failures { IsCountedAs at_known result (state_of self.old).failures (state_of self.new).failures }
+        ensures failures { IsCountedAs at_known result (state_of self.old).failures
+            (state_of self.new).failures }
         ensures barred { barred_of self.new ≡ barred_of self.old }
         ensures refused { IfErr result (MayRefuseSync (written_of self.old)) }
     {
@@ -477,11 +538,14 @@ impl WritableDisk for MemoryDisk {
         ensures syncs { OnlySyncs (state_of self.old) (state_of self.new) }
         ensures same { OnErr result (OnlyLooks (state_of self.old) (state_of self.new)) }
         ensures same_file { written_of self.new ≡ written_of self.old }
-        ensures noted { OnOk result (Notes (SyncFolder folder.now) (state_of self.old) (state_of self.new)) }
+        ensures noted { OnOk result
+            (Notes (SyncFolder folder.now) (state_of self.old) (state_of self.new)) }
         ensures taken { IsErrOf result Exists → IsTrue (state_of self.old).honest → ⊥ }
-        ensures absent { IsErrOf result NotFound → IsTrue (state_of self.old).honest → IsFolder (state_of self.old).nodes folder.now → ⊥ }
+        ensures absent { IsErrOf result NotFound → IsTrue (state_of self.old).honest
+            → IsFolder (state_of self.old).nodes folder.now → ⊥ }
         ensures unnamed { IsErrOf result Name → IsTrue (state_of self.old).honest → ⊥ }
-        ensures failures { IsCountedAs at_known result (state_of self.old).failures (state_of self.new).failures }
+        ensures failures { IsCountedAs at_known result (state_of self.old).failures
+            (state_of self.new).failures }
         ensures barred { barred_of self.new ≡ barred_of self.old }
         ensures refused { IfErr result (MayRefuseSyncFolder (state_of self.old).nodes folder.now) }
     {

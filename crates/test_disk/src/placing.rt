@@ -1,7 +1,7 @@
 //! Whether what is held can stand on a disk.
 ghost use Rattle.std.specs.Prelude.{◌≡◌, ◌↔◌, IsTrue, All, Some, true};
 ghost use Rattle.bag_text.specs.Path as spec;
-ghost use Rattle.bag_disk.specs.Disk.{IsDisk, IsReached, node};
+ghost use Rattle.bag_disk.specs.Disk.{IsDisk, IsReachedByFolders, node};
 ghost use Rattle.test_disk.specs.Held.{node_of, nodes_of};
 ghost use Rattle.test_disk.specs.Placing.{IsPlaced, HasTextPath, are_bytes, has_bytes};
 
@@ -18,8 +18,11 @@ pub(crate) fn are_placed(nodes: &BTreeMap<Vec<u8>, Node>) -> bool
 
 /// Whether each node can stand at its path.
 fn are_all_placed(nodes: &BTreeMap<Vec<u8>, Node>) -> bool
-    ensures placed { IsTrue result ↔ All (λ e. IsPlaced (nodes_of nodes.now.entries) e.0.items (node_of e.1)) nodes.now.entries }
-    ensures found { All (λ e. node (nodes_of nodes.now.entries) e.0.items ≡ Some (node_of e.1)) nodes.now.entries }
+    ensures placed { IsTrue result
+        ↔ All (λ e. IsPlaced (nodes_of nodes.now.entries) e.0.items (node_of e.1))
+        nodes.now.entries }
+    ensures found { All (λ e. node (nodes_of nodes.now.entries) e.0.items ≡ Some (node_of e.1))
+        nodes.now.entries }
 {
     nodes
         .iter()
@@ -55,7 +58,7 @@ fn are_bytes(bytes: &[u8])
 
 /// Whether each folder on the way to a path is one.
 pub(crate) fn is_reached(nodes: &BTreeMap<Vec<u8>, Node>, path: &[u8]) -> bool
-    ensures { IsTrue result ↔ IsReached (nodes_of nodes.now.entries) path.now }
+    ensures { IsTrue result ↔ IsReachedByFolders (nodes_of nodes.now.entries) path.now }
 {
     for end in 0..path.len() {
         if path[end] == SLASH && !is_folder(nodes, &path[..end]) {

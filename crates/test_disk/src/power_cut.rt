@@ -2,7 +2,8 @@
 ghost use Rattle.std.specs.Prelude.{◌≡◌, IfOk, List, OnOk, ℕ, is_some, true};
 ghost use Rattle.bag_text.specs.Path.{is_base_name};
 ghost use Rattle.bag_tree.specs.Cut as cut;
-ghost use Rattle.bag_tree.specs.declared.event.DeviceEvent.TheVariants.{Create, MakeFolder, Rename, Write};
+ghost use Rattle.bag_tree.specs.declared.event.DeviceEvent.TheVariants.{Create, MakeFolder, Rename};
+ghost use Rattle.bag_tree.specs.declared.event.DeviceEvent.TheVariants.{Write};
 ghost use Rattle.bag_disk.specs.Disk.{bytes_of, node};
 ghost use Rattle.test_disk.specs.Held.{nodes_of};
 ghost use Rattle.test_disk.specs.Cuts.{AddsLeft, AreLeftBy, MayBeLeft, bag_in};
@@ -16,14 +17,15 @@ use bag_tree::DeviceEvent;
 use std::alloc::Global;
 use std::collections::BTreeMap;
 
-/// Disks that a power cut may leave after these events of a device that held first what `first` does.
+/// Disks that a power cut may leave after these events of a device that held first what `first`
+/// does.
 ///
 /// Each event that isn't durable is done and left out, in every combination. Of bytes that weren't
-/// synced anything may be there: no bytes stand for that, and as many zeros as were written. The events
-/// are those of steps: what is made has a name in the base folder, and so has what is moved, to another
-/// name or into a folder. Others are refused by `Device`, and so is what no disk can hold. A move into a
-/// folder that may be missing is refused by `NotFound`, and a name that may be taken by `Exists`, since
-/// what was moved or stood there might be lost.
+/// synced anything may be there: no bytes stand for that, and as many zeros as were written. The
+/// events are those of steps: what is made has a name in the base folder, and so has what is moved,
+/// to another name or into a folder. Others are refused by `Device`, and so is what no disk can
+/// hold. A move into a folder that may be missing is refused by `NotFound`, and a name that may be
+/// taken by `Exists`, since what was moved or stood there might be lost.
 pub fn cuts(
     alloc: Global,
     first: &MemoryDisk,

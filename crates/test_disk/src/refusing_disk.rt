@@ -11,7 +11,8 @@ use std::rc::Rc;
 /// Which call of a disk is refused.
 #[derive(Drop)]
 pub enum Call {
-    /// Once, the call of this number, from 0, of `enter`, `next_name`, `open`, `read`, and those that change the disk.
+    /// Once, the call of this number, from 0, of `enter`, `next_name`, `open`, `read`, and those
+    /// that change the disk.
     Numbered(u64),
     /// Each `entry_at` and `named_entry` of this path.
     EntryAt(Text),
@@ -21,8 +22,9 @@ pub enum Call {
     Past,
 }
 
-/// A disk of which one call is refused. It is as honest as the disk that it stands on, where an honest disk may refuse any
-/// call by the fault: `NotFound`, `Exists` and `Name` would tell of what stands there.
+/// A disk of which one call is refused. It is as honest as the disk that it stands on, where an
+/// honest disk may refuse any call by the fault: `NotFound`, `Exists` and `Name` would tell of what
+/// stands there.
 #[derive(Drop)]
 pub struct RefusingDisk<D> {
     disk: D,
@@ -36,7 +38,7 @@ pub struct RefusingDisk<D> {
 
 impl<D: Disk + Drop> RefusingDisk<D> {
     ghost use Rattle.std.specs.Prelude.{None};
-    ghost use Rattle.test_disk.specs.RefusingDisk.{below_of, call_of, fault_of, told_of};
+    ghost use Rattle.test_disk.specs.RefusingDisk.{below_of, call_of, fault_of, reported_of};
 
     /// The disk, of which this call is refused by this fault.
     pub fn over(disk: D, call: Call, fault: DiskFault) -> RefusingDisk<D>
@@ -44,7 +46,7 @@ impl<D: Disk + Drop> RefusingDisk<D> {
         ensures below { below_of result ≡ disk }
         ensures call { call_of result ≡ call }
         ensures fault { fault_of result ≡ fault }
-        ensures told { told_of result ≡ None }
+        ensures told { reported_of result ≡ None }
     {
         RefusingDisk {
             disk,
@@ -102,12 +104,15 @@ impl Call {
 impl<D: Disk + Drop> Disk for RefusingDisk<D> {
     ghost use Rattle.std.specs.Prelude.{◌<◌, IsErrOf, IsTrue, false, is_some, length};
     ghost use Rattle.bag_text.specs.Path.{is_path};
-    ghost use Rattle.test_disk.specs.DiskCalls.{ClosesFile, Enters, LooksAt, LooksAtNamed, NamesNext, Opens, Reads};
-    ghost use Rattle.test_disk.specs.RefusingDisk.{below_of, call_of, fault_of, own_of, told_of};
-    ghost use Rattle.bag_disk.specs.Failures.{count_of};
-    ghost use Rattle.bag_disk.specs.Refusal.{at_known, failures_after, of_name, of_path};
+    ghost use Rattle.test_disk.specs.DiskCalls.{ClosesFile, Enters, LooksAt, LooksAtNamed};
+    ghost use Rattle.test_disk.specs.DiskCalls.{NamesNext, Opens, Reads};
+    ghost use Rattle.test_disk.specs.RefusingDisk.{below_of, call_of, fault_of, own_of};
+    ghost use Rattle.test_disk.specs.RefusingDisk.{reported_of};
+    ghost use Rattle.bag_disk.specs.Failures.{failures_counted};
+    ghost use Rattle.bag_disk.specs.Refusal.{at_known, failures_after, of_name, refusal_at_path};
 
-    ghost state = { λ disk. refusing (D.state disk.disk) disk.fault (count_of disk.failures) };
+    ghost state = { λ disk.
+        refusing (D.state disk.disk) disk.fault (failures_counted disk.failures) };
 
     ghost is_disk = { λ disk. D.is_disk disk.disk };
 
@@ -115,11 +120,16 @@ impl<D: Disk + Drop> Disk for RefusingDisk<D> {
         requires { IsTrue (is_path path.now) }
         ensures call { call_of self.new ≡ call_of self.old }
         ensures fault { fault_of self.new ≡ fault_of self.old }
-        ensures due { IsTrue (is_refused (call_of self.old) path.now) → IsErrOf result (fault_of self.old) × (below_of self.new ≡ below_of self.old)
-            × (own_of self.new ≡ failures_after (of_path (fault_of self.old)) (own_of self.old)) }
+        ensures due { IsTrue (is_refused (call_of self.old) path.now)
+            → IsErrOf result (fault_of self.old) × (below_of self.new ≡ below_of self.old)
+            × (own_of self.new
+            ≡ failures_after (refusal_at_path (fault_of self.old)) (own_of self.old)) }
         ensures passed { is_refused (call_of self.old) path.now ≡ false
-            → LooksAt (D.state (below_of self.old)) (D.state (below_of self.new)) path.now result × (own_of self.new ≡ own_of self.old) }
-        ensures told { told_of self.new ≡ (if is_refused (call_of self.old) path.now then told_of self.old else result_err result) }
+            → LooksAt (D.state (below_of self.old)) (D.state (below_of self.new)) path.now result
+            × (own_of self.new ≡ own_of self.old) }
+        ensures told { reported_of self.new
+            ≡ (if is_refused (call_of self.old) path.now then reported_of self.old
+            else result_err result) }
     {
         if self.refuses_entry(path) {
             self.failures.refuse(Refusal::of_path(self.fault));
@@ -132,11 +142,15 @@ impl<D: Disk + Drop> Disk for RefusingDisk<D> {
         requires { IsTrue (is_path path.now) }
         ensures call { call_of self.new ≡ call_of self.old }
         ensures fault { fault_of self.new ≡ fault_of self.old }
-        ensures due { IsTrue (is_refused (call_of self.old) path.now) → IsErrOf result (fault_of self.old) × (below_of self.new ≡ below_of self.old)
+        ensures due { IsTrue (is_refused (call_of self.old) path.now)
+            → IsErrOf result (fault_of self.old) × (below_of self.new ≡ below_of self.old)
             × (own_of self.new ≡ failures_after (at_known (fault_of self.old)) (own_of self.old)) }
         ensures passed { is_refused (call_of self.old) path.now ≡ false
-            → LooksAtNamed (D.state (below_of self.old)) (D.state (below_of self.new)) path.now result × (own_of self.new ≡ own_of self.old) }
-        ensures told { told_of self.new ≡ (if is_refused (call_of self.old) path.now then told_of self.old else result_err result) }
+            → LooksAtNamed (D.state (below_of self.old)) (D.state (below_of self.new)) path.now
+            result × (own_of self.new ≡ own_of self.old) }
+        ensures told { reported_of self.new
+            ≡ (if is_refused (call_of self.old) path.now then reported_of self.old
+            else result_err result) }
     {
         if self.refuses_entry(path) {
             self.failures.refuse(Refusal::at_known(self.fault));
@@ -148,11 +162,14 @@ impl<D: Disk + Drop> Disk for RefusingDisk<D> {
     fn enter(&mut self, folder: &str) -> Result<(), DiskFault>
         ensures counted { call_of self.new ≡ one_less (call_of self.old) }
         ensures fault { fault_of self.new ≡ fault_of self.old }
-        ensures due { IsTrue (is_due (call_of self.old)) → IsErrOf result (fault_of self.old) × (below_of self.new ≡ below_of self.old)
+        ensures due { IsTrue (is_due (call_of self.old))
+            → IsErrOf result (fault_of self.old) × (below_of self.new ≡ below_of self.old)
             × (own_of self.new ≡ failures_after (at_known (fault_of self.old)) (own_of self.old)) }
         ensures passed { is_due (call_of self.old) ≡ false
-            → Enters (D.state (below_of self.old)) (D.state (below_of self.new)) folder.now result × (own_of self.new ≡ own_of self.old) }
-        ensures told { told_of self.new ≡ (if is_due (call_of self.old) then told_of self.old else result_err result) }
+            → Enters (D.state (below_of self.old)) (D.state (below_of self.new)) folder.now result
+            × (own_of self.new ≡ own_of self.old) }
+        ensures told { reported_of self.new
+            ≡ (if is_due (call_of self.old) then reported_of self.old else result_err result) }
     {
         if self.call.is_due() {
             self.failures.refuse(Refusal::at_known(self.fault));
@@ -164,10 +181,14 @@ impl<D: Disk + Drop> Disk for RefusingDisk<D> {
     fn next_name(&mut self) -> Result<Option<Text>, DiskFault>
         ensures counted { call_of self.new ≡ one_less (call_of self.old) }
         ensures fault { fault_of self.new ≡ fault_of self.old }
-        ensures due { IsTrue (is_due (call_of self.old)) → IsErrOf result (fault_of self.old) × (below_of self.new ≡ below_of self.old)
+        ensures due { IsTrue (is_due (call_of self.old))
+            → IsErrOf result (fault_of self.old) × (below_of self.new ≡ below_of self.old)
             × (own_of self.new ≡ failures_after (of_name (fault_of self.old)) (own_of self.old)) }
-        ensures passed { is_due (call_of self.old) ≡ false → NamesNext (D.state (below_of self.old)) (D.state (below_of self.new)) result × (own_of self.new ≡ own_of self.old) }
-        ensures told { told_of self.new ≡ (if is_due (call_of self.old) then told_of self.old else result_err result) }
+        ensures passed { is_due (call_of self.old) ≡ false
+            → NamesNext (D.state (below_of self.old)) (D.state (below_of self.new)) result
+            × (own_of self.new ≡ own_of self.old) }
+        ensures told { reported_of self.new
+            ≡ (if is_due (call_of self.old) then reported_of self.old else result_err result) }
     {
         if self.call.is_due() {
             self.failures.refuse(Refusal::of_name(self.fault));
@@ -182,10 +203,13 @@ impl<D: Disk + Drop> Disk for RefusingDisk<D> {
         ensures fault { fault_of self.new ≡ fault_of self.old }
         ensures due { IsTrue (is_due (call_of self.old)) → IsErrOf result (fault_of self.old)
             × ClosesFile (D.state (below_of self.old)) (D.state (below_of self.new))
-            × (own_of self.new ≡ failures_after (of_path (fault_of self.old)) (own_of self.old)) }
+            × (own_of self.new
+            ≡ failures_after (refusal_at_path (fault_of self.old)) (own_of self.old)) }
         ensures passed { is_due (call_of self.old) ≡ false
-            → Opens (D.state (below_of self.old)) (D.state (below_of self.new)) path.now result × (own_of self.new ≡ own_of self.old) }
-        ensures told { told_of self.new ≡ (if is_due (call_of self.old) then told_of self.old else result_err result) }
+            → Opens (D.state (below_of self.old)) (D.state (below_of self.new)) path.now result
+            × (own_of self.new ≡ own_of self.old) }
+        ensures told { reported_of self.new
+            ≡ (if is_due (call_of self.old) then reported_of self.old else result_err result) }
     {
         if self.call.is_due() {
             self.disk.close();
@@ -203,7 +227,7 @@ impl<D: Disk + Drop> Disk for RefusingDisk<D> {
         ensures call { call_of self.new ≡ call_of self.old }
         ensures fault { fault_of self.new ≡ fault_of self.old }
         ensures own { own_of self.new ≡ own_of self.old }
-        ensures told { told_of self.new ≡ told_of self.old }
+        ensures told { reported_of self.new ≡ reported_of self.old }
         ensures closes { ClosesFile (D.state (below_of self.old)) (D.state (below_of self.new)) }
     {
         self.disk.close();
@@ -214,11 +238,14 @@ impl<D: Disk + Drop> Disk for RefusingDisk<D> {
         requires file_open { IsTrue (is_some (D.state (below_of self.old)).rest) }
         ensures counted { call_of self.new ≡ one_less (call_of self.old) }
         ensures fault { fault_of self.new ≡ fault_of self.old }
-        ensures due { IsTrue (is_due (call_of self.old)) → IsErrOf result (fault_of self.old) × (below_of self.new ≡ below_of self.old)
+        ensures due { IsTrue (is_due (call_of self.old))
+            → IsErrOf result (fault_of self.old) × (below_of self.new ≡ below_of self.old)
             × (own_of self.new ≡ failures_after (at_known (fault_of self.old)) (own_of self.old)) }
         ensures passed { is_due (call_of self.old) ≡ false
-            → Reads (D.state (below_of self.old)) (D.state (below_of self.new)) (length buffer.old) buffer.new result × (own_of self.new ≡ own_of self.old) }
-        ensures told { told_of self.new ≡ (if is_due (call_of self.old) then told_of self.old else result_err result) }
+            → Reads (D.state (below_of self.old)) (D.state (below_of self.new)) (length buffer.old)
+            buffer.new result × (own_of self.new ≡ own_of self.old) }
+        ensures told { reported_of self.new
+            ≡ (if is_due (call_of self.old) then reported_of self.old else result_err result) }
     {
         if self.call.is_due() {
             self.failures.refuse(Refusal::at_known(self.fault));
@@ -231,8 +258,10 @@ impl<D: Disk + Drop> Disk for RefusingDisk<D> {
 impl<D: WritableDisk + Drop> WritableDisk for RefusingDisk<D> {
     ghost use Rattle.std.specs.Prelude.{IsErrOf, IsTrue, false, is_some};
     ghost use Rattle.bag_text.specs.Path.{is_path};
-    ghost use Rattle.test_disk.specs.DiskCalls.{Creates, MakesFolderAt, Renames, Syncs, SyncsFolder, Writes};
-    ghost use Rattle.test_disk.specs.RefusingDisk.{below_of, call_of, fault_of, own_of, told_of};
+    ghost use Rattle.test_disk.specs.DiskCalls.{Creates, MakesFolderAt, Renames, Syncs};
+    ghost use Rattle.test_disk.specs.DiskCalls.{SyncsFolder, Writes};
+    ghost use Rattle.test_disk.specs.RefusingDisk.{below_of, call_of, fault_of, own_of};
+    ghost use Rattle.test_disk.specs.RefusingDisk.{reported_of};
     ghost use Rattle.bag_disk.specs.Refusal.{at_known, failures_after, of_making};
 
     ghost written = { λ disk. D.written disk.disk };
@@ -241,12 +270,15 @@ impl<D: WritableDisk + Drop> WritableDisk for RefusingDisk<D> {
         requires { IsTrue (is_path path.now) }
         ensures counted { call_of self.new ≡ one_less (call_of self.old) }
         ensures fault { fault_of self.new ≡ fault_of self.old }
-        ensures due { IsTrue (is_due (call_of self.old)) → IsErrOf result (fault_of self.old) × (below_of self.new ≡ below_of self.old)
+        ensures due { IsTrue (is_due (call_of self.old))
+            → IsErrOf result (fault_of self.old) × (below_of self.new ≡ below_of self.old)
             × (own_of self.new ≡ failures_after (of_making (fault_of self.old)) (own_of self.old)) }
         ensures passed { is_due (call_of self.old) ≡ false
-            → MakesFolderAt (D.state (below_of self.old)) (D.state (below_of self.new)) (D.written (below_of self.old)) (D.written (below_of self.new))
+            → MakesFolderAt (D.state (below_of self.old)) (D.state (below_of self.new))
+            (D.written (below_of self.old)) (D.written (below_of self.new))
             path.now result × (own_of self.new ≡ own_of self.old) }
-        ensures told { told_of self.new ≡ (if is_due (call_of self.old) then told_of self.old else result_err result) }
+        ensures told { reported_of self.new
+            ≡ (if is_due (call_of self.old) then reported_of self.old else result_err result) }
     {
         if self.call.is_due() {
             self.failures.refuse(Refusal::of_making(self.fault));
@@ -260,12 +292,15 @@ impl<D: WritableDisk + Drop> WritableDisk for RefusingDisk<D> {
         requires to { IsTrue (is_path to.now) }
         ensures counted { call_of self.new ≡ one_less (call_of self.old) }
         ensures fault { fault_of self.new ≡ fault_of self.old }
-        ensures due { IsTrue (is_due (call_of self.old)) → IsErrOf result (fault_of self.old) × (below_of self.new ≡ below_of self.old)
+        ensures due { IsTrue (is_due (call_of self.old))
+            → IsErrOf result (fault_of self.old) × (below_of self.new ≡ below_of self.old)
             × (own_of self.new ≡ failures_after (at_known (fault_of self.old)) (own_of self.old)) }
         ensures passed { is_due (call_of self.old) ≡ false
-            → Renames (D.state (below_of self.old)) (D.state (below_of self.new)) (D.written (below_of self.old)) (D.written (below_of self.new))
+            → Renames (D.state (below_of self.old)) (D.state (below_of self.new))
+            (D.written (below_of self.old)) (D.written (below_of self.new))
             from.now to.now result × (own_of self.new ≡ own_of self.old) }
-        ensures told { told_of self.new ≡ (if is_due (call_of self.old) then told_of self.old else result_err result) }
+        ensures told { reported_of self.new
+            ≡ (if is_due (call_of self.old) then reported_of self.old else result_err result) }
     {
         if self.call.is_due() {
             self.failures.refuse(Refusal::at_known(self.fault));
@@ -278,12 +313,15 @@ impl<D: WritableDisk + Drop> WritableDisk for RefusingDisk<D> {
         requires { IsTrue (is_path path.now) }
         ensures counted { call_of self.new ≡ one_less (call_of self.old) }
         ensures fault { fault_of self.new ≡ fault_of self.old }
-        ensures due { IsTrue (is_due (call_of self.old)) → IsErrOf result (fault_of self.old) × (below_of self.new ≡ below_of self.old)
+        ensures due { IsTrue (is_due (call_of self.old))
+            → IsErrOf result (fault_of self.old) × (below_of self.new ≡ below_of self.old)
             × (own_of self.new ≡ failures_after (of_making (fault_of self.old)) (own_of self.old)) }
         ensures passed { is_due (call_of self.old) ≡ false
-            → Creates (D.state (below_of self.old)) (D.state (below_of self.new)) (D.written (below_of self.old)) (D.written (below_of self.new))
+            → Creates (D.state (below_of self.old)) (D.state (below_of self.new))
+            (D.written (below_of self.old)) (D.written (below_of self.new))
             path.now result × (own_of self.new ≡ own_of self.old) }
-        ensures told { told_of self.new ≡ (if is_due (call_of self.old) then told_of self.old else result_err result) }
+        ensures told { reported_of self.new
+            ≡ (if is_due (call_of self.old) then reported_of self.old else result_err result) }
     {
         if self.call.is_due() {
             self.failures.refuse(Refusal::of_making(self.fault));
@@ -296,12 +334,15 @@ impl<D: WritableDisk + Drop> WritableDisk for RefusingDisk<D> {
         requires { IsTrue (is_some (D.written (below_of self.old))) }
         ensures counted { call_of self.new ≡ one_less (call_of self.old) }
         ensures fault { fault_of self.new ≡ fault_of self.old }
-        ensures due { IsTrue (is_due (call_of self.old)) → IsErrOf result (fault_of self.old) × (below_of self.new ≡ below_of self.old)
+        ensures due { IsTrue (is_due (call_of self.old))
+            → IsErrOf result (fault_of self.old) × (below_of self.new ≡ below_of self.old)
             × (own_of self.new ≡ failures_after (at_known (fault_of self.old)) (own_of self.old)) }
         ensures passed { is_due (call_of self.old) ≡ false
-            → Writes (D.state (below_of self.old)) (D.state (below_of self.new)) (D.written (below_of self.old)) (D.written (below_of self.new))
+            → Writes (D.state (below_of self.old)) (D.state (below_of self.new))
+            (D.written (below_of self.old)) (D.written (below_of self.new))
             bytes.now result × (own_of self.new ≡ own_of self.old) }
-        ensures told { told_of self.new ≡ (if is_due (call_of self.old) then told_of self.old else result_err result) }
+        ensures told { reported_of self.new
+            ≡ (if is_due (call_of self.old) then reported_of self.old else result_err result) }
     {
         if self.call.is_due() {
             self.failures.refuse(Refusal::at_known(self.fault));
@@ -314,12 +355,15 @@ impl<D: WritableDisk + Drop> WritableDisk for RefusingDisk<D> {
         requires { IsTrue (is_some (D.written (below_of self.old))) }
         ensures counted { call_of self.new ≡ one_less (call_of self.old) }
         ensures fault { fault_of self.new ≡ fault_of self.old }
-        ensures due { IsTrue (is_due (call_of self.old)) → IsErrOf result (fault_of self.old) × (below_of self.new ≡ below_of self.old)
+        ensures due { IsTrue (is_due (call_of self.old))
+            → IsErrOf result (fault_of self.old) × (below_of self.new ≡ below_of self.old)
             × (own_of self.new ≡ failures_after (at_known (fault_of self.old)) (own_of self.old)) }
         ensures passed { is_due (call_of self.old) ≡ false
-            → Syncs (D.state (below_of self.old)) (D.state (below_of self.new)) (D.written (below_of self.old)) (D.written (below_of self.new))
+            → Syncs (D.state (below_of self.old)) (D.state (below_of self.new))
+            (D.written (below_of self.old)) (D.written (below_of self.new))
             result × (own_of self.new ≡ own_of self.old) }
-        ensures told { told_of self.new ≡ (if is_due (call_of self.old) then told_of self.old else result_err result) }
+        ensures told { reported_of self.new
+            ≡ (if is_due (call_of self.old) then reported_of self.old else result_err result) }
     {
         if self.call.is_due() {
             self.failures.refuse(Refusal::at_known(self.fault));
@@ -331,12 +375,15 @@ impl<D: WritableDisk + Drop> WritableDisk for RefusingDisk<D> {
     fn sync_folder(&mut self, folder: &str) -> Result<(), DiskFault>
         ensures counted { call_of self.new ≡ one_less (call_of self.old) }
         ensures fault { fault_of self.new ≡ fault_of self.old }
-        ensures due { IsTrue (is_due (call_of self.old)) → IsErrOf result (fault_of self.old) × (below_of self.new ≡ below_of self.old)
+        ensures due { IsTrue (is_due (call_of self.old))
+            → IsErrOf result (fault_of self.old) × (below_of self.new ≡ below_of self.old)
             × (own_of self.new ≡ failures_after (at_known (fault_of self.old)) (own_of self.old)) }
         ensures passed { is_due (call_of self.old) ≡ false
-            → SyncsFolder (D.state (below_of self.old)) (D.state (below_of self.new)) (D.written (below_of self.old)) (D.written (below_of self.new))
+            → SyncsFolder (D.state (below_of self.old)) (D.state (below_of self.new))
+            (D.written (below_of self.old)) (D.written (below_of self.new))
             folder.now result × (own_of self.new ≡ own_of self.old) }
-        ensures told { told_of self.new ≡ (if is_due (call_of self.old) then told_of self.old else result_err result) }
+        ensures told { reported_of self.new
+            ≡ (if is_due (call_of self.old) then reported_of self.old else result_err result) }
     {
         if self.call.is_due() {
             self.failures.refuse(Refusal::at_known(self.fault));

@@ -1,5 +1,6 @@
-//! Generated bags of versions 1.0 and 0.97, and what a plain check of their names and digests finds: for each path it looks
-//! through all names and all manifests, and it compares each pair of names.
+//! Generated bags of versions 1.0 and 0.97, and what a plain check of their names and digests
+//! finds: for each path it looks through all names and all manifests, and it compares each pair of
+//! names.
 use crate::checks::{DECLARATION, OLDER_DECLARATION, lines_found, put};
 use crate::drawn::mixed;
 use bag_report::{Depth, Options};
@@ -7,7 +8,8 @@ use bag_store::MemoryTree;
 use std::alloc::Global;
 use std::process::Abort;
 
-/// A path, the field of a line that stands for it, and the number of its class: paths of one class differ by normal form alone.
+/// A path, the field of a line that stands for it, and the number of its class: paths of one class
+/// differ by normal form alone.
 type Name = (&'static str, &'static str, u8);
 
 /// The paths that bags may hold and manifests may name, ascending.
@@ -42,8 +44,8 @@ const NAMES: &[Name] = &[
 /// What files hold.
 const CONTENTS: [&[u8]; 3] = [b"", b"a", b"abc"];
 
-/// A manifest: its path, whether it is one of the payload, its algorithm, and the digests that it gives: each of another of the
-/// contents.
+/// A manifest: its path, whether it is one of the payload, its algorithm, and the digests that it
+/// gives: each of another of the contents.
 struct Manifest {
     file: &'static str,
     is_payload: bool,
@@ -111,8 +113,8 @@ const MANIFESTS: &[Manifest] = &[
     },
 ];
 
-/// Which of the contents a list of a bag has for a path: the bag's files have no name, and those of a manifest have its path. It
-/// has none for more than half of the paths.
+/// Which of the contents a list of a bag has for a path: the bag's files have no name, and those of
+/// a manifest have its path. It has none for more than half of the paths.
 fn drawn(bag: u64, list: &str, path: &str) -> Option<usize> {
     let drawn = mixed(mixed(bag, list), path);
     let place = (drawn.wrapping_mul(0xbf58_476d_1ce4_e5b9) >> 61) as usize;
@@ -168,7 +170,8 @@ fn has_payload_manifest(bag: u64) -> bool {
     false
 }
 
-/// Writes that no payload manifest of an older bag names a payload file, where there is a payload manifest.
+/// Writes that no payload manifest of an older bag names a payload file, where there is a payload
+/// manifest.
 fn write_left(stop: &impl Abort, text: &mut String, bag: u64, name: &Name) {
     let is_left = is_in_payload(bag, name.0) && !is_in_some(bag, name.0);
     if is_older(bag) && has_payload_manifest(bag) && is_left {
@@ -316,7 +319,7 @@ fn is_alike(stop: &impl Abort, alloc: Global, bag: u64, options: Options) -> boo
     found == plain_lines(stop, alloc, bag, options)
 }
 
-/// The lines of a text behind the first `first`.
+/// The lines of a text after the first `first`.
 fn lines_from(stop: &impl Abort, alloc: Global, lines: &str, first: usize) -> String {
     let mut text = String::new(alloc);
     for line in lines.lines().skip(first) {
@@ -325,7 +328,8 @@ fn lines_from(stop: &impl Abort, alloc: Global, lines: &str, first: usize) -> St
     text
 }
 
-/// Whether checks of the bag of a number above each of its faults find what stands behind that fault.
+/// Whether checks of the bag of a number above each of its faults find what stands after that
+/// fault.
 fn goes_on(stop: &impl Abort, alloc: Global, bag: u64, options: Options) -> bool {
     let lines = plain_lines(stop, alloc, bag, options);
     for (place, line) in lines.as_str().lines().enumerate() {

@@ -1,12 +1,14 @@
-//! A plain reader of `fetch.txt` that tries each prefix of a line, by the rules of each version, over some hundred texts, and one of
-//! thousands of lines; and the paths that it reads in all short spellings.
+//! A plain reader of `fetch.txt` that tries each prefix of a line, by the rules of each version,
+//! over some hundred texts, and one of thousands of lines; and the paths that it reads in all short
+//! spellings.
 use crate::parts::{combined, write_faults};
 use bag_read::read_fetch;
 use bag_text::{Rules, escape_path, trim, unescape_path};
 use std::alloc::Global;
 use std::process::Abort;
 
-/// What `fetch.txt` says: each entry's line, URL, length and path, then each fault's code, line and detail.
+/// What `fetch.txt` says: each entry's line, URL, length and path, then each fault's code, line and
+/// detail.
 fn said(stop: &impl Abort, alloc: Global, rules: Rules, bytes: &[u8]) -> String {
     let parsed = read_fetch(alloc, rules, bytes).expect(stop, "succeeds");
     let mut text = String::new(alloc);
@@ -76,8 +78,8 @@ fn escaped(rules: Rules, digits: &str) -> Option<&'static str> {
     }
 }
 
-/// Writes the path of a spelling, if it is one: what stands behind each `%` begins with the two digits of an escape; by the rules of
-/// 0.97 it may be something else, and the `%` is then itself.
+/// Writes the path of a spelling, if it is one: what stands after each `%` begins with the two
+/// digits of an escape; by the rules of 0.97 it may be something else, and the `%` is then itself.
 fn write_path(stop: &impl Abort, rules: Rules, spelling: &str, path: &mut String) -> bool {
     let mut pieces = spelling.split('%');
     path.push_str(pieces.next().unwrap_or(""))

@@ -1,4 +1,5 @@
-//! Plain, slow readers and checks beside the quick ones, over generated texts and bags: each of both finds the same.
+//! Plain, slow readers and checks beside the quick ones, over generated texts and bags: each of
+//! both finds the same.
 #![tactic(auto)]
 
 #[cfg(test)]

@@ -1,12 +1,14 @@
-//! A plain reader of `bag-info.txt` that looks back from each line, by the rules of each version, over all metadata of four lines
-//! of eight sorts, over lines that are put together from parts, and over thousands of lines.
+//! A plain reader of `bag-info.txt` that looks back from each line, by the rules of each version,
+//! over all metadata of four lines of eight sorts, over lines that are put together from parts, and
+//! over thousands of lines.
 use crate::parts::{combined, write_faults};
 use bag_read::read_info;
 use bag_text::{Rules, trim};
 use std::alloc::Global;
 use std::process::Abort;
 
-/// What metadata says: each element's line, label and value, then each fault's code, line and detail.
+/// What metadata says: each element's line, label and value, then each fault's code, line and
+/// detail.
 fn said(stop: &impl Abort, alloc: Global, rules: Rules, bytes: &[u8]) -> String {
     let parsed = read_info(alloc, rules, bytes).expect(stop, "succeeds");
     let mut text = String::new(alloc);
@@ -22,8 +24,8 @@ fn is_first(line: &str) -> bool {
     !line.is_empty() && !line.starts_with(' ') && !line.starts_with('\t')
 }
 
-/// The label of a line that begins an element, and the part of the value that stands there. By the rules of 0.97 blanks may
-/// stand before the colon, and none has to stand behind it.
+/// The label of a line that begins an element, and the part of the value that stands there. By the
+/// rules of 0.97 blanks may stand before the colon, and none has to stand after it.
 fn label_and_part(rules: Rules, line: &str) -> Option<(&str, &str)> {
     let (label, part) = line.split_once(":")?;
     let is_tight = !label.ends_with(' ') && !label.ends_with('\t') && !is_first(part);
@@ -40,7 +42,7 @@ fn has_first(lines: &[&str]) -> bool {
     false
 }
 
-/// Writes the parts of a value that stand in the lines behind its first one.
+/// Writes the parts of a value that stand in the lines after its first one.
 fn write_more(stop: &impl Abort, text: &mut String, lines: &[&str]) {
     for line in lines {
         if is_first(line) {
@@ -90,7 +92,8 @@ fn looked_back(stop: &impl Abort, alloc: Global, rules: Rules, lines: &[&str]) -
     text
 }
 
-/// The ends of lines, in turn: so no line feed ends an empty line behind a carriage return, where both would be one end.
+/// The ends of lines, in turn: so no line feed ends an empty line after a carriage return, where
+/// both would be one end.
 const ENDS: [&str; 3] = ["\n", "\r", "\r\n"];
 
 /// These lines, each with its end, the first with that of this place.
@@ -104,7 +107,8 @@ fn joined(stop: &impl Abort, alloc: Global, lines: &[&str], first_end: usize) ->
     text
 }
 
-/// The reader reads in these lines what the plain reader reads, by the rules of each version and whatever their ends.
+/// The reader reads in these lines what the plain reader reads, by the rules of each version and
+/// whatever their ends.
 fn reads_alike(rt: &impl Abort, alloc: Global, lines: &[&str]) {
     for rules in [Rules::V10, Rules::V097] {
         let wanted = looked_back(rt, alloc, rules, lines);
@@ -134,14 +138,14 @@ fn reads_as_a_reader_that_looks_back(rt: HostRuntime) {
     }
 }
 
-/// What a line may begin with, what may stand behind that, and what at its end.
+/// What a line may begin with, what may stand after that, and what at its end.
 const PARTS: [&[&str]; 3] = [
     &["a", "a ", "é", ""],
     &[":", "::", ""],
     &["", " ", "b", " b: c\t"],
 ];
 
-/// The reader reads a line as the plain reader, whatever stands behind it.
+/// The reader reads a line as the plain reader, whatever stands after it.
 #[test]
 fn splits_lines_at_their_first_colons(rt: HostRuntime) {
     for line in &combined(&rt, rt.alloc(), &PARTS) {
@@ -152,7 +156,8 @@ fn splits_lines_at_their_first_colons(rt: HostRuntime) {
     }
 }
 
-/// Five thousand elements of two lines, each with a line behind it that is none, and a value of four thousand parts.
+/// Five thousand elements of two lines, each with a line after it that is none, and a value of four
+/// thousand parts.
 fn thousands(stop: &impl Abort, alloc: Global) -> String {
     let mut text = String::new(alloc);
     for index in 0..5000u64 {

@@ -3,7 +3,7 @@ use bag_read::LineFault;
 use std::alloc::Global;
 use std::process::Abort;
 
-/// Each of the texts with each of the parts behind it.
+/// Each of the texts with each of the parts after it.
 fn with_each(stop: &impl Abort, alloc: Global, texts: &[String], parts: &[&str]) -> Vec<String> {
     let mut all = Vec::new(alloc);
     for text in texts {
@@ -15,7 +15,7 @@ fn with_each(stop: &impl Abort, alloc: Global, texts: &[String], parts: &[&str])
     all
 }
 
-/// Each text that is one of the first parts, one of the second behind it, and so on.
+/// Each text that is one of the first parts, one of the second after it, and so on.
 pub(crate) fn combined(stop: &impl Abort, alloc: Global, parts: &[&[&str]]) -> Vec<String> {
     let mut texts = Vec::new(alloc);
     texts.push(String::new(alloc)).expect(stop, "succeeds");

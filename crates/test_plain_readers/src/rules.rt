@@ -1,5 +1,5 @@
-//! Two thousand elements under the rules of five hundred labels, beside a plain check that looks through all elements for each
-//! rule, and through all rules for each element.
+//! Two thousand elements under the rules of five hundred labels, beside a plain check that looks
+//! through all elements for each rule, and through all rules for each element.
 use crate::checks::{DECLARATION, lines_found, put};
 use crate::drawn::mixed;
 use bag_report::{Depth, Options, Profile};
@@ -20,7 +20,8 @@ const RULE_SPELLINGS: [&str; 2] = ["Label-", "label-"];
 
 const SPELLINGS: [&str; 3] = ["LABEL-", "Label-", "label-"];
 
-/// What elements say, each with the bit of the rules whose lists have it, and the field of a line that stands for it.
+/// What elements say, each with the bit of the rules whose lists have it, and the field of a line
+/// that stands for it.
 const VALUES: [(&str, u64, &str); 4] = [
     ("None", 4, "None"),
     ("none", 8, "none"),
@@ -69,7 +70,8 @@ fn is_among(number: u64, elements: u64) -> bool {
     false
 }
 
-/// Writes a rule's list of values, as JSON. One that isn't empty begins with a value that no element has.
+/// Writes a rule's list of values, as JSON. One that isn't empty begins with a value that no
+/// element has.
 fn write_values(stop: &impl Abort, text: &mut String, rule: u64) {
     if rule & LISTED == 0 {
         return;

@@ -139,7 +139,7 @@ pub(crate) fn request_at(stop: &impl Abort, alloc: Global, depth: Depth) -> Requ
     request_of(stop, alloc, options_of(depth), None, None)
 }
 
-/// The tree after a check, and what the check wrote, with its exit status behind.
+/// The tree after a check, and what the check wrote, with its exit status after it.
 pub(crate) fn checked<T: Tree + Drop>(
     stop: &impl Abort,
     alloc: Global,

@@ -54,7 +54,7 @@ fn copies_are_sorted_in_their_order(rt: HostRuntime) {
 }
 
 #[test]
-fn want_of_memory_is_told(rt: HostRuntime) {
+fn out_of_memory_is_reported(rt: HostRuntime) {
     let told = CursorFault::Memory
         .to_string(rt.alloc())
         .expect(&rt, "succeeds");

@@ -6,8 +6,9 @@ use bag_store::MemoryTree;
 use std::alloc::Global;
 use std::process::Abort;
 
-/// A bag made by numbers up to `count`: the paths of its payload files, how many letters each has, and its tag files; how deep it
-/// is checked, how many files are opened, and what is written, with the exit status behind.
+/// A bag made by numbers up to `count`: the paths of its payload files, how many letters each has,
+/// and its tag files; how deep it is checked, how many files are opened, and what is written, with
+/// the exit status after it.
 struct Row {
     count: u64,
     files: (Parts, usize),
@@ -18,7 +19,7 @@ struct Row {
 }
 
 const ROWS: &[Row] = &[
-    // sizes behind the first
+    // sizes after the first
     Row {
         count: 2000,
         files: (&[], 0),

@@ -1,6 +1,7 @@
-//! What runs, walks, makings and readers do that no words of the command line and no case file can ask for: the order of faults and
-//! their copies, which files are opened, faults that are taken one at a time, outputs that refuse at each place, lists and sizes that
-//! are not the bag's, thousands of lines and files, and requests that words can't give.
+//! What runs, walks, makings and readers do that no words of the command line and no case file can
+//! ask for: the order of faults and their copies, which files are opened, faults that are taken one
+//! at a time, outputs that refuse at each place, lists and sizes that are not the bag's, thousands
+//! of lines and files, and requests that words can't give.
 #![tactic(auto)]
 
 #[cfg(test)]

@@ -8,14 +8,16 @@ use bag_text::{Items, is_payload};
 use std::alloc::Global;
 use std::process::Abort;
 
-/// What is listed: the files of a bag, those of its payload with another size, and whether the payload folder is there.
+/// What is listed: the files of a bag, those of its payload with another size, and whether the
+/// payload folder is there.
 struct Listed {
     files: Files,
     size: u64,
     has_data: bool,
 }
 
-/// A bag of which this is listed, or too much; and what a check writes, with its exit status behind.
+/// A bag of which this is listed, or too much; and what a check writes, with its exit status after
+/// it.
 struct Row {
     listed: Option<Listed>,
     holds: Files,

@@ -1,8 +1,8 @@
-//! Bags that are made of folders in memory: requests that no words ask for, the line of each way in which a making can end, and
-//! thousands of files.
+//! Bags that are made of folders in memory: requests that no words ask for, the line of each way in
+//! which a making can end, and thousands of files.
 use crate::checks::{Files, opened, put_files, put_letters};
 use crate::series::{Parts, text_of};
-use bag_cli::{make_and_tell, put_making};
+use bag_cli::{make_and_report, put_making};
 use bag_make::MakeFault;
 use bag_store::{FailTree, MemoryTree, Tree, TreeFault, WriteTree, WriterOut, read_whole};
 use bag_text::{Alg, AlgSet, Text};
@@ -42,7 +42,7 @@ fn made<T: WriteTree + Drop>(
 ) -> (T, String) {
     let info = elements(stop, alloc, info);
     let mut out = WriterOut::new(Vec::<u8>::new(alloc));
-    let (tree, _status) = make_and_tell(alloc, tree, "d", set_of(algs), &info, false, &mut out);
+    let (tree, _status) = make_and_report(alloc, tree, "d", set_of(algs), &info, false, &mut out);
     (
         tree,
         String::from_utf8(out.into_inner()).expect(stop, "succeeds"),
@@ -56,8 +56,8 @@ const NO_ALGORITHM: &str = "d not made: no algorithm\n";
 
 const BAD_VALUE: &str = "d not made: bad value\n";
 
-/// What a folder holds, what is asked for, and what is said. Where a folder and a request are bad in more than one way, the first
-/// refusal is told.
+/// What a folder holds, what is asked for, and what is said. Where a folder and a request are bad
+/// in more than one way, the first refusal is reported.
 const REFUSED: &[(Files, Request, &str)] = &[
     (TAKEN, (&[], &[("a:b", "x")]), NO_ALGORITHM),
     (&[], (&[], &[]), NO_ALGORITHM),
@@ -90,7 +90,8 @@ fn holds(stop: &impl Abort, alloc: Global, tree: &mut MemoryTree, files: Files) 
     is_same
 }
 
-/// A making is refused with this line, and leaves the folder as it was; so it is where the tree refuses its first call.
+/// A making is refused with this line, and leaves the folder as it was; so it is where the tree
+/// refuses its first call.
 fn try_refused(stop: &impl Abort, alloc: Global, files: Files, request: Request, line: &str) {
     let (mut tree, told) = made(stop, alloc, folder(stop, alloc, files), request);
     assert!(stop; told.as_str() == line, "{told}");
@@ -107,7 +108,8 @@ fn bad_requests_are_refused_before_the_folder_is_listed(rt: HostRuntime) {
     }
 }
 
-/// A bag whose metadata has labels that no option has, in the order in which they were given, the size of the payload last.
+/// A bag whose metadata has labels that no option has, in the order in which they were given, the
+/// size of the payload last.
 const LABELLED: Files = &[
     (
         "bag-info.txt",
@@ -188,8 +190,8 @@ fn a_step_that_is_refused(rt: HostRuntime) {
     }
 }
 
-/// A folder made by numbers: its paths, and how many letters each file has; how many files the bag has by MD5 and SHA-1, and
-/// its manifests.
+/// A folder made by numbers: its paths, and how many letters each file has; how many files the bag
+/// has by MD5 and SHA-1, and its manifests.
 struct Large {
     count: u64,
     paths: Parts,

@@ -1,11 +1,12 @@
-//! Which files a check opens: at each depth those that it must, in the order in which it reads them, and no others.
+//! Which files a check opens: at each depth those that it must, in the order in which it reads
+//! them, and no others.
 use crate::checks::{Files, WRONG, checked, cursor, opened, request_of, tree_of};
 use bag_report::{Depth, Options};
 use std::alloc::Global;
 use std::process::Abort;
 
-/// What a bag holds beside the declaration, how deep it is checked, above which fault and up to how many; the files that are
-/// opened, and what is written, with the exit status behind.
+/// What a bag holds beside the declaration, how deep it is checked, above which fault and up to how
+/// many; the files that are opened, and what is written, with the exit status after it.
 struct Row {
     bag: Files,
     depth: Depth,
@@ -14,7 +15,8 @@ struct Row {
     output: &'static str,
 }
 
-/// Each kind of tag file; of the payload a file that two manifests name, one that is named and missing, and one that none names.
+/// Each kind of tag file; of the payload a file that two manifests name, one that is named and
+/// missing, and one that none names.
 const EACH_KIND: Files = &[
     ("bag-info.txt", b"Payload-Oxum: 2.2\n"),
     ("data/a", b"a"),
@@ -163,7 +165,8 @@ const ROWS: &[Row] = &[
     },
 ];
 
-/// Whether a check opens what a row says, and writes it, whether names that clash are looked for or not.
+/// Whether a check opens what a row says, and writes it, whether names that clash are looked for or
+/// not.
 fn is_right(stop: &impl Abort, alloc: Global, row: &Row, clashes: bool) -> bool {
     let depth = row.depth;
     let (after, limit) = row.asked;

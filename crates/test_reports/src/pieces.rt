@@ -1,5 +1,5 @@
-//! In which pieces contents are read and reports are written: a file by 65,536 bytes, by checks and by makings, and a fault's line
-//! in one write.
+//! In which pieces contents are read and reports are written: a file by 65,536 bytes, by checks and
+//! by makings, and a fault's line in one write.
 use crate::checks::{Files, WRONG, put_letters, request_at, tree_of};
 use bag_make::make;
 use bag_report::Depth;
@@ -16,7 +16,8 @@ const LISTED: Files = &[(
     b"900150983cd24fb0d6963f7d28e17f72  data/x\n",
 )];
 
-/// Whether a check of a payload file of this size, whose tree refuses the call of this number, is refused.
+/// Whether a check of a payload file of this size, whose tree refuses the call of this number, is
+/// refused.
 fn is_check_refused(stop: &impl Abort, alloc: Global, size: usize, call: u64) -> bool {
     let mut tree = tree_of(stop, alloc, LISTED);
     put_letters(stop, alloc, &mut tree, "data/x", size);
@@ -26,7 +27,8 @@ fn is_check_refused(stop: &impl Abort, alloc: Global, size: usize, call: u64) ->
     matches!(outcome, Outcome::Unread(_, _))
 }
 
-/// Whether a making of a folder with a file of this size, whose tree refuses the call of this number, is refused.
+/// Whether a making of a folder with a file of this size, whose tree refuses the call of this
+/// number, is refused.
 fn is_making_refused(stop: &impl Abort, alloc: Global, size: usize, call: u64) -> bool {
     let mut tree = MemoryTree::new(alloc);
     put_letters(stop, alloc, &mut tree, "x", size);
@@ -100,7 +102,7 @@ impl Write for Marked {
     }
 }
 
-/// The lines of the two faults of `WRONG`, a mark behind each.
+/// The lines of the two faults of `WRONG`, a mark after each.
 const WRITES: &[u8] =
     b"701 payload-sum-differs data/x md5 - 900150983cd24fb0d6963f7d28e17f72:0cc175b9c0f1b6a831c399e269772661
 |701 payload-sum-differs data/x sha1 - a9993e364706816aba3e25717850c26c9cd0d89d:86f7e437faa5a7fce15d1ddcb9eaeaea377667b8

@@ -1,4 +1,5 @@
-//! Bags that are made on disks in memory which lose power at each moment of the making: what is left, and what a check says of it.
+//! Bags that are made on disks in memory which lose power at each moment of the making: what is
+//! left, and what a check says of it.
 use crate::checks::{Files, request_at};
 use bag_make::make;
 use bag_report::Depth;
@@ -13,8 +14,8 @@ use test_disk::{MemoryDisk, Node, cuts};
 /// The folders of a folder that is made a bag, each before what is in it, and its files.
 type Folder = (&'static [&'static str], Files);
 
-/// Folders beside files, one of them empty; a file of the name that a tag file gets; and a folder of the payload's name, with a file
-/// of the same path as one beside it.
+/// Folders beside files, one of them empty; a file of the name that a tag file gets; and a folder
+/// of the payload's name, with a file of the same path as one beside it.
 const FOLDERS: &[Folder] = &[
     (
         &["b", "e"],
@@ -100,7 +101,8 @@ fn is_valid(stop: &impl Abort, alloc: Global, disk: &MemoryDisk) -> bool {
     matches!(outcome, Outcome::Clean)
 }
 
-/// Each file of the folder is whole on a disk that a power cut left, and in its payload where a check finds no fault.
+/// Each file of the folder is whole on a disk that a power cut left, and in its payload where a
+/// check finds no fault.
 fn check_left(stop: &impl Abort, alloc: Global, files: Files, left: &MemoryDisk) {
     let held = files_on(stop, alloc, left);
     let is_valid = is_valid(stop, alloc, left);

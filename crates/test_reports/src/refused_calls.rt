@@ -1,4 +1,5 @@
-//! Reports to outputs that take a byte at a time and run out of room, and a check by a profile of which each call of the tree is refused.
+//! Reports to outputs that take a byte at a time and run out of room, and a check by a profile of
+//! which each call of the tree is refused.
 use crate::checks::{Files, WRONG, request_at, tree_of};
 use bag_profile::Profile;
 use bag_report::Depth;
@@ -32,7 +33,8 @@ impl Write for Narrow {
     }
 }
 
-/// What a bag holds beside a declaration that is right, how deep it is checked, and the report of its two faults.
+/// What a bag holds beside a declaration that is right, how deep it is checked, and the report of
+/// its two faults.
 const REPORTS: [(Files, Depth, &str); 2] = [
     // a byte order mark, and another encoding than UTF-8
     (
@@ -56,7 +58,8 @@ d has faults: 2
     ),
 ];
 
-/// Whether an outcome is that of a report of which an output took these bytes: their whole lines are counted, where they aren't all.
+/// Whether an outcome is that of a report of which an output took these bytes: their whole lines
+/// are counted, where they aren't all.
 fn is_outcome(outcome: &Outcome, taken: &[u8], report: &str) -> bool {
     match outcome {
         Outcome::Unwritten(lines) => {
@@ -68,7 +71,7 @@ fn is_outcome(outcome: &Outcome, taken: &[u8], report: &str) -> bool {
     }
 }
 
-/// Whether an output takes as many bytes of the report as it has room for, and that is told.
+/// Whether an output takes as many bytes of the report as it has room for, and that is reported.
 fn is_cut(
     stop: &impl Abort,
     alloc: Global,
@@ -111,7 +114,8 @@ const FETCHED: Files = &[
 const STRICT: &[u8] =
     br#"{"BagIt-Profile-Info":{"BagIt-Profile-Identifier":"urn:p"},"Bag-Info":{"Source-Organization":{"required":true},"Contact-Name":{"repeatable":false},"Bag-Count":{"values":["1 of 1"]}},"Manifests-Required":["md5","sha512"],"Allow-Fetch.txt":false,"Data-Empty":true}"#;
 
-/// What is written where the first, the second and each further call is refused, repetitions taken together, and where none is.
+/// What is written where the first, the second and each further call is refused, repetitions taken
+/// together, and where none is.
 const ANSWERS: [&str; 6] = [
     "d unread - device, faults: 0\n",
     "d unread bag-info.txt device, faults: 0\n",

@@ -1,5 +1,5 @@
-//! Reports in segments: what they write, how they end, which files they open, and what comes where a call of a tree or of a disk is
-//! refused.
+//! Reports in segments: what they write, how they end, which files they open, and what comes where
+//! a call of a tree or of a disk is refused.
 ghost use Rattle.std.specs.Prelude.{◌<◌, ◌^◌, sum};
 
 use crate::checks::{Files, WRONG, disk_of, opened, options_of, tree_of};
@@ -97,8 +97,8 @@ fn few_files_are_opened_again(rt: HostRuntime) {
     assert!(rt; payload.count() <= 9);
 }
 
-/// Whether segments over the disk of these files, of which the call of this number is refused, write the whole report and come to
-/// its end.
+/// Whether segments over the disk of these files, of which the call of this number is refused,
+/// write the whole report and come to its end.
 fn are_whole(stop: &impl Abort, alloc: Global, refused: (u64, DiskFault), limits: &[u64]) -> bool
     requires { sum limits.now < 2 ^ 64 }
 {

@@ -4,8 +4,8 @@ use std::process::Abort;
 
 /// The parts of a text. One with a number is written once for each of them, and then the next one.
 ///
-/// In a part `#` stands for a number from 1000 on, `~` for each of these numbers once, in an order that jumps, `@` for a number
-/// from 2 on, and `&` for one that goes on where that ends.
+/// In a part `#` stands for a number from 1000 on, `~` for each of these numbers once, in an order
+/// that jumps, `@` for a number from 2 on, and `&` for one that goes on where that ends.
 pub(crate) type Parts = &'static [&'static str];
 
 /// Writes a part with the numbers of a place.

@@ -57,7 +57,8 @@ fn plain(stop: &impl Abort, alloc: Global, places: &[usize]) -> String {
     text
 }
 
-/// Whether sources of the faults at four places, merged by twos and then together, give each once and in order.
+/// Whether sources of the faults at four places, merged by twos and then together, give each once
+/// and in order.
 fn is_merged(
     stop: &impl Abort,
     alloc: Global,
@@ -70,7 +71,8 @@ fn is_merged(
     drain(stop, alloc, tree, &mut both) == plain(stop, alloc, &[a, b, c, d])
 }
 
-/// Whether a merged source and another behind it give the faults of the first, and then those of the other.
+/// Whether a merged source and another after it give the faults of the first, and then those of the
+/// other.
 fn is_joined(
     stop: &impl Abort,
     alloc: Global,

@@ -1,4 +1,5 @@
-//! Walks over the faults of a bag, one at a time: what each step gives, which files it opens, and how it goes on after a refusal.
+//! Walks over the faults of a bag, one at a time: what each step gives, which files it opens, and
+//! how it goes on after a refusal.
 use crate::checks::{Files, cursor, opened, options_of, tree_of};
 use bag_report::{Depth, Fault};
 use bag_store::{FailTree, MemoryTree, Stop, Tree};
@@ -21,7 +22,8 @@ pub(crate) const EACH_TWICE: Files = &[
     ),
 ];
 
-/// What a step gives: the code, the path and the algorithm of a fault, the end, or the path and the cause of a refusal.
+/// What a step gives: the code, the path and the algorithm of a fault, the end, or the path and the
+/// cause of a refusal.
 fn step_of<T: Tree>(stop: &impl Abort, alloc: Global, walk: &mut Walk<T>) -> String {
     let mut text = String::new(alloc);
     match walk.next() {
@@ -47,7 +49,8 @@ fn write_stop(stop: &impl Abort, refused: &Stop, text: &mut String) {
     write!(text, "unread {path} {cause}\n").expect(stop, "succeeds");
 }
 
-/// A walk over a bag at depth `Full`, above the fault of a line where one is given; none where a call of the tree was refused.
+/// A walk over a bag at depth `Full`, above the fault of a line where one is given; none where a
+/// call of the tree was refused.
 fn walk_over<T: Tree + Drop>(
     stop: &impl Abort,
     alloc: Global,
@@ -61,7 +64,8 @@ fn walk_over<T: Tree + Drop>(
 /// The files that are opened before any step.
 const TAG_FILES: &str = "bagit.txt\nmanifest-md5.txt\nmanifest-sha1.txt\n";
 
-/// A fault after which a walk begins; what each step gives, and the payload files that were opened by then.
+/// A fault after which a walk begins; what each step gives, and the payload files that were opened
+/// by then.
 struct Row {
     after: Option<&'static str>,
     steps: &'static [(&'static str, &'static str)],
@@ -157,8 +161,8 @@ fn steps_open_no_file_behind_their_fault(rt: HostRuntime) {
     }
 }
 
-/// What the steps of a walk over the files with one manifest give of which a call of the tree is refused, with the files that were
-/// opened behind.
+/// What the steps of a walk over the files with one manifest give of which a call of the tree is
+/// refused, with the files that were opened after.
 fn refused_at(stop: &impl Abort, alloc: Global, call: u64) -> String {
     let mut text = String::new(alloc);
     let each_once = EACH_TWICE.get(..4).unwrap_or(&[]);
@@ -176,8 +180,8 @@ fn refused_at(stop: &impl Abort, alloc: Global, call: u64) -> String {
     text
 }
 
-/// What comes where call 1, 2, 3 and so on is refused, each answer once: while the facts are read, at each file's opening and at
-/// a read of it, and none before the end.
+/// What comes where call 1, 2, 3 and so on is refused, each answer once: while the facts are read,
+/// at each file's opening and at a read of it, and none before the end.
 const REFUSED: &str = "none\n\
     unread data/a device\n701 data/a md5\n701 data/b md5\n701 data/c md5\nend\n\
     bagit.txt\nmanifest-md5.txt\ndata/a\ndata/b\ndata/c\n\

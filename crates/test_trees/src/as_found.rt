@@ -28,7 +28,8 @@ impl Write for Mending {
     }
 }
 
-/// The files of a bag with two payload files, both of which hold another text than the manifest says.
+/// The files of a bag with two payload files, both of which hold another text than the manifest
+/// says.
 const FILES: &[(&str, &str)] = &[
     (
         "bagit.txt",

@@ -53,7 +53,8 @@ fn lists_deep_folders(rt: HostRuntime) {
     remove_deep(&rt, &rt, bag.as_str());
 }
 
-/// A folder isn't listed while its deepest folder has another deep one in it, and a file isn't read there.
+/// A folder isn't listed while its deepest folder has another deep one in it, and a file isn't read
+/// there.
 fn try_too_long(stop: &impl Abort, rt: &HostRuntime, bag: &str, tail: &str) {
     let joint = deep_place(stop, rt, bag, "tail");
     fs::rename(rt, tail, joint.as_str()).expect(stop, "succeeds");

@@ -1,4 +1,5 @@
-//! Digests of bytes that come in pieces, and of files of trees in memory, however the reads are cut, and where a call is refused.
+//! Digests of bytes that come in pieces, and of files of trees in memory, however the reads are
+//! cut, and where a call is refused.
 ghost use Rattle.std.specs.Prelude.{◌<◌, length};
 
 use bag_store::{Digests, FailTree, FileEntry, HexFault, MemoryTree, Sums, TreeFault, digest_file};
@@ -103,8 +104,8 @@ pub(crate) fn bytes_of(stop: &impl Abort, alloc: Global, size: u32) -> Vec<u8> {
 
 const PATH: &str = "data/x";
 
-/// The digests of a file of these bytes, which is listed with a path and a size, of a tree of which the call of this number is
-/// refused.
+/// The digests of a file of these bytes, which is listed with a path and a size, of a tree of which
+/// the call of this number is refused.
 fn sums_of(
     stop: &impl Abort,
     alloc: Global,
@@ -149,7 +150,8 @@ fn files_are_summed_through_any_buffer(rt: HostRuntime) {
     }
 }
 
-/// How a file of seven bytes is listed, its path and its size, each with what its digests are refused for.
+/// How a file of seven bytes is listed, its path and its size, each with what its digests are
+/// refused for.
 const REFUSED: &[((&str, u64), TreeFault)] = &[
     ((PATH, 0), TreeFault::Changed),
     ((PATH, 6), TreeFault::Changed),
@@ -176,7 +178,8 @@ fn other_sizes_and_paths_are_refused(rt: HostRuntime) {
     try_refused(&rt, rt.alloc(), &mut [0; 65_536]);
 }
 
-/// A pass makes a call for the opening, one for each piece, and one for the end: at most two more than there are bytes.
+/// A pass makes a call for the opening, one for each piece, and one for the end: at most two more
+/// than there are bytes.
 fn try_calls(stop: &impl Abort, alloc: Global, size: u32, buffer: &mut [u8])
     requires { 0 < length buffer.old }
 {

@@ -74,7 +74,8 @@ fn is_there(stop: &impl Abort, rt: &HostRuntime, folders: &str, (path, held): Pl
         .is_symlink()
 }
 
-/// A trial is right in a folder that is made for it; its links stand as before, and nothing is outside.
+/// A trial is right in a folder that is made for it; its links stand as before, and nothing is
+/// outside.
 fn try_below(stop: &impl Abort, rt: &HostRuntime, folders: &str, trial: &Trial) {
     let base = place(stop, rt, folders, "base");
     let outside = place(stop, rt, folders, "outside");
@@ -158,7 +159,7 @@ fn write_text<D: WritableDisk>(disk: &mut D, text: &str) -> Result<(), DiskFault
     Ok(())
 }
 
-/// Makes a file, writes a text to it and another behind it, and syncs it.
+/// Makes a file, writes a text to it and another after it, and syncs it.
 fn make_file<D: WritableDisk>(
     disk: &mut D,
     path: &str,
@@ -201,7 +202,7 @@ const ANSWERS: [Result<(), DiskFault>; 10] = [
     Err(DiskFault::NotFound),
 ];
 
-/// A long file stands there then, of a text and another behind it.
+/// A long file stands there then, of a text and another after it.
 #[test]
 fn changes_a_real_folder(rt: HostRuntime) {
     let base = fresh_folder(&rt, &rt, "changes");

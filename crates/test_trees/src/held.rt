@@ -48,7 +48,7 @@ pub(crate) fn disk(stop: &impl Abort, alloc: Global, places: &[Place]) -> Memory
     maybe_disk(stop, alloc, places).expect(stop, "a disk")
 }
 
-/// Writes what a file of a tree holds, behind `=`.
+/// Writes what a file of a tree holds, after `=`.
 fn write_text<T: Tree>(
     stop: &impl Abort,
     alloc: Global,
@@ -61,7 +61,8 @@ fn write_text<T: Tree>(
     write!(text, "={held}").expect(stop, "succeeds");
 }
 
-/// The listing of a tree as a text, each file with its size or with what it holds, or the word of its refusal.
+/// The listing of a tree as a text, each file with its size or with what it holds, or the word of
+/// its refusal.
 fn told<T: Tree>(stop: &impl Abort, alloc: Global, tree: &mut T, has_texts: bool) -> String {
     let listing = match tree.list() {
         Ok(listing) => listing,

@@ -1,6 +1,6 @@
-//! Examples of trees, disks and digests: trees in memory, disks in memory and disks that a test makes up, real folders, and the
-//! trees over them, which are listed, read and changed step by step, or refuse a call; digests in pieces; and the program over disks
-//! in memory.
+//! Examples of trees, disks and digests: trees in memory, disks in memory and disks that a test
+//! makes up, real folders, and the trees over them, which are listed, read and changed step by
+//! step, or refuse a call; digests in pieces; and the program over disks in memory.
 #![tactic(auto)]
 
 mod same_disks;

@@ -115,8 +115,8 @@ const ONE: &[Place] = &[(b"a", File("abc"))];
 
 const TWO: &[Place] = &[(b"a", File("abc")), (b"b", File("b"))];
 
-/// What stands on a disk, what its file `a` holds when it is opened, a path that is listed with a size, and the text of the file or
-/// how it is refused.
+/// What stands on a disk, what its file `a` holds when it is opened, a path that is listed with a
+/// size, and the text of the file or how it is refused.
 type Opened = (
     &'static [Place],
     Option<&'static str>,

@@ -1,7 +1,7 @@
 //! Trees over disks that no disk is: what they name stands twice, or at no path, or is too much.
 ghost use Rattle.bag_disk.specs.SystemDisk.{system_state};
 ghost use Rattle.bag_disk.specs.Disk.{empty_disk};
-ghost use Rattle.bag_disk.specs.Failures.{count_of};
+ghost use Rattle.bag_disk.specs.Failures.{failures_counted};
 
 use crate::held::{ends, listed};
 use crate::steps::count_listed;
@@ -59,7 +59,8 @@ impl MadeUp {
 }
 
 impl Disk for MadeUp {
-    ghost state = { λ disk. system_state disk.openings disk.has_open (count_of disk.failures) };
+    ghost state = { λ disk.
+        system_state disk.openings disk.has_open (failures_counted disk.failures) };
 
     ghost is_disk = { λ _. empty_disk };
 

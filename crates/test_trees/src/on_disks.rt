@@ -9,7 +9,8 @@ use std::process::Abort;
 use std::str;
 use test_disk::{Call, RefusingDisk};
 
-/// Puts what stands at a path into a tree. One folder of the tables is empty; the others come with their files.
+/// Puts what stands at a path into a tree. One folder of the tables is empty; the others come with
+/// their files.
 fn put(stop: &impl Abort, tree: &mut MemoryTree, (path, held): Place) {
     let path = str::from_utf8(path).expect(stop, "succeeds");
     match held {
@@ -70,8 +71,8 @@ const FAULTS: &[(DiskFault, TreeFault)] = &[
     (DiskFault::Device, TreeFault::Device),
 ];
 
-/// A step, the number of a call of it, and what the tree holds where it is refused at that: a file that is made isn't there, is
-/// empty, or isn't known to be kept.
+/// A step, the number of a call of it, and what the tree holds where it is refused at that: a file
+/// that is made isn't there, is empty, or isn't known to be kept.
 const REFUSED: &[(Step, u64, &str)] = &[
     (Step::MakeFolder(Name::M), 0, SAMPLE_HELD),
     (Step::MoveIn(Name::X, Name::N), 0, SAMPLE_HELD),
@@ -89,7 +90,8 @@ const REFUSED: &[(Step, u64, &str)] = &[
     ),
 ];
 
-/// How a step is refused by a fault of its call of this number: the one that creates a file is believed that something is there.
+/// How a step is refused by a fault of its call of this number: the one that creates a file is
+/// believed that something is there.
 fn refusal_of(step: Step, number: u64, (fault, wanted): (DiskFault, TreeFault)) -> TreeFault {
     match (step, number, fault) {
         (Step::Create(_, _), 0, DiskFault::Exists) => TreeFault::Exists,

@@ -26,7 +26,7 @@ const OTHER_VERSION: &[Place] = &[
     (b"data", Folder),
 ];
 
-/// What is written of a disk, with the status behind.
+/// What is written of a disk, with the status after it.
 const REPORTS: &[(&[Place], &str)] = &[
     (DECLARED, "d has a good declaration\n||0"),
     (
@@ -67,7 +67,8 @@ fn an_honest_disk_has_its_report(rt: HostRuntime) {
     }
 }
 
-/// What the program writes for words over disks that hold a declaration, what it says beside that, and the status.
+/// What the program writes for words over disks that hold a declaration, what it says beside that,
+/// and the status.
 fn told(stop: &impl Abort, alloc: Global, words: &[&str]) -> String {
     let held = disk(stop, alloc, DECLARED);
     let disks = SameDisks { held: &held };
@@ -98,7 +99,7 @@ fn help_ends_well(rt: HostRuntime) {
 }
 
 #[test]
-fn want_of_memory_is_told(rt: HostRuntime) {
+fn out_of_memory_is_reported(rt: HostRuntime) {
     let mut err = WriterOut::new(Vec::<u8>::new(rt.alloc()));
     let refusal = ProfileRefusal::Refused(ProfileFault::Memory);
     assert!(rt; refuse_profile(refusal, &mut err) == 3);

@@ -58,7 +58,8 @@ fn each_refused_look_refuses_the_listing(rt: HostRuntime) {
     }
 }
 
-/// The number of a call, its fault, and how reading the file is refused where it is. The first call opens the file.
+/// The number of a call, its fault, and how reading the file is refused where it is. The first call
+/// opens the file.
 const READS: &[(u64, DiskFault, TreeFault)] = &[
     (0, DiskFault::NotFound, TreeFault::NotFound),
     (0, DiskFault::Exists, TreeFault::Device),

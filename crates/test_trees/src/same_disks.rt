@@ -1,16 +1,17 @@
 //! Honest disks with files, and the program over them.
 ghost use Rattle.std.specs.Prelude.{◌≡◌, List, None, ℕ};
-ghost use Rattle.bag_cli.specs.Told.{IsCheckOfOne, TellsReport};
+ghost use Rattle.bag_cli.specs.Reported.{IsCheckOfOne, TellsReport};
 ghost use Rattle.bag_store.specs.DiskBag.{bag_of};
 ghost use Rattle.test_disk.specs.MemoryDisk.{fresh, state_of};
 
-use bag_cli::laws::honest_disks_are_told;
+use bag_cli::laws::honest_disks_are_reported;
 use bag_cli::{Disks, Folders, Plan, ReadFault, perform};
 use bag_tree::Out;
 use std::alloc::{AllocError, Global};
 use test_disk::MemoryDisk;
 
-/// Disks that hold the same below each base folder, and no file beside them. Below `no memory` there is none, for want of memory.
+/// Disks that hold the same below each base folder, and no file beside them. Below `no memory`
+/// there is none, when out of memory.
 #[derive(Drop)]
 pub(crate) struct SameDisks<'a> {
     pub(crate) held: &'a MemoryDisk,
@@ -37,8 +38,8 @@ impl<'a> Disks for SameDisks<'a> {
 
 /// Checks what a disk holds as the program does, and gives the status.
 ///
-/// Unless the status is 3, for a plan that checks one directory without a profile the output took the report of the bag that
-/// stands on the disk.
+/// Unless the status is 3, for a plan that checks one directory without a profile the output took
+/// the report of the bag that stands on the disk.
 pub fn checked<O: Out, E: Out>(
     alloc: Global,
     held: &MemoryDisk,
@@ -47,9 +48,10 @@ pub fn checked<O: Out, E: Out>(
     err: &mut E,
 ) -> u8
     ensures { (name : List ℕ) → IsCheckOfOne plan.now name
-        → TellsReport plan.now None (bag_of (state_of held.now).nodes) name (O.state out.old) (O.state out.new) result }
+        → TellsReport plan.now None (bag_of (state_of held.now).nodes) name (O.state out.old)
+        (O.state out.new) result }
 {
-    honest_disks_are_told();
+    honest_disks_are_reported();
     let disks = SameDisks { held };
     let (folders, mut visits) = Folders::of(&disks);
     perform(alloc, &folders, plan, &mut visits, out, err)

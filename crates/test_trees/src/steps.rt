@@ -125,7 +125,8 @@ pub(crate) fn take<T: WriteTree>(tree: &mut T, step: Step) -> Answer {
     }
 }
 
-/// The steps of a trial are answered so on a tree that holds what stands there before, and it holds what it is to hold then.
+/// The steps of a trial are answered so on a tree that holds what stands there before, and it holds
+/// what it is to hold then.
 pub(crate) fn follow<T: WriteTree>(stop: &impl Abort, alloc: Global, tree: &mut T, trial: &Trial) {
     for (step, answer) in trial.steps {
         let found = take(tree, *step);

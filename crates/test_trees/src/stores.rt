@@ -1,4 +1,5 @@
-//! What no contract says of trees in memory and of writers: that the calls succeed while there is memory and room.
+//! What no contract says of trees in memory and of writers: that the calls succeed while there is
+//! memory and room.
 use crate::digests::bytes_of;
 use bag_store::{MemoryTree, Out, Refused, Tree, WriterOut, read_whole};
 use bag_text::check_path;

@@ -9,4 +9,7 @@ loop-alg-preserved c =
 
 pub returns : goal.returns
 returns c =
-    rw (take_all c.loop-alg.alg-index algs (omega arith), with_rules-map (λ (alg : Alg). flag (name alg)) (app_of c.args.command) algs) at c.loop-alg.invariant
+    rw (
+      take_all c.loop-alg.alg-index algs (omega arith),
+      with_rules-map (λ (alg : Alg). flag (name alg)) (app_of c.args.command) algs,
+    ) at c.loop-alg.invariant

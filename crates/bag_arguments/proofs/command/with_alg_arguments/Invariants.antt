@@ -3,4 +3,6 @@ use Rattle.bag_arguments.proofs.command.with_alg_arguments.Given as goal
 
 abbrev pub invariant-loop-alg : goal.invariant-loop-alg
 invariant-loop-alg l =
-    app_of l.extended ≡ fold (λ (a : App) (alg : Alg). with_rule a (flag (name alg))) (app_of l.initial.extended) (take l.alg-index l.alg-items)
+    app_of l.extended
+    ≡ fold (λ (a : App) (alg : Alg). with_rule a (flag (name alg))) (app_of l.initial.extended)
+    (take l.alg-index l.alg-items)

@@ -7,4 +7,8 @@ loop-label-preserved c = grind (arith, added, fold_more)
 
 pub returns : goal.returns
 returns c =
-    rw (take_all c.loop-label.label-index c.args.labels.now (omega arith), with_rules-map (λ (label : Label). option (label_option label)) (app_of c.args.command) c.args.labels.now) at c.loop-label.invariant
+    rw (
+      take_all c.loop-label.label-index c.args.labels.now (omega arith),
+      with_rules-map (λ (label : Label). option (label_option label)) (app_of c.args.command) c.args.labels.now,
+    ) at
+    c.loop-label.invariant

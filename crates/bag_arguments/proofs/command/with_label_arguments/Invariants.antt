@@ -3,4 +3,6 @@ use Rattle.bag_arguments.proofs.command.with_label_arguments.Given as goal
 
 abbrev pub invariant-loop-label : goal.invariant-loop-label
 invariant-loop-label l =
-    app_of l.extended ≡ fold (λ (a : App) (label : Label). with_rule a (option (label_option label))) (app_of l.initial.extended) (take l.label-index l.labels)
+    app_of l.extended
+    ≡ fold (λ (a : App) (label : Label). with_rule a (option (label_option label))) (app_of l.initial.extended)
+    (take l.label-index l.labels)

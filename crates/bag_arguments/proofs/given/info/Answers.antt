@@ -8,4 +8,5 @@ pub loop-label-preserved : goal.loop-label-preserved
 loop-label-preserved c =
     c.in_ok-push_some.ensures
     ∙ ap₂ (λ (xs : List InfoItem) (o : Option InfoItem). xs ++ listed o) c.loop-label.invariant c.in_ok-element.ensures
-    ∙ sym (filter_map_more (element (rows_of (found_of c.args.matches.now))) c.args.labels.now c.loop-label.label-index SourceOrganization (omega arith))
+    ∙ sym (filter_map_more (element (rows_of (found_of c.args.matches.now))) c.args.labels.now c.loop-label.label-index
+    SourceOrganization (omega arith))

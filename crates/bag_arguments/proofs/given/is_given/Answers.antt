@@ -6,5 +6,6 @@ pub returns : goal.returns
 returns c =
     let found = found_of c.args.matches.now in
     let id = c.args.id.now in
-    c.unwrap_or.ensures ∙ flag_read _ (one_text found id) c.get_one.result c.get_one.ensures.none c.get_one.ensures.value
+    c.unwrap_or.ensures
+    ∙ flag_read _ (one_text found id) c.get_one.result c.get_one.ensures.none c.get_one.ensures.value
     ∙ ap (λ o. bytes_eq (unwrap_or o []) (codes "true")) (one_text-rows found id)

@@ -1,4 +1,6 @@
-use Rattle.bag_arguments.proofs.Common.{◌≡◌, ◌∙◌, true, refl, ap, map, subst, IfErr-weaker, IfOk-weaker, App, FailsBy, fault_of, is_simple, is_simple_and_free, matches_of, takes, command, clap_on_literals, refusals, is_taken, matches}
+use Rattle.bag_arguments.proofs.Common.{◌≡◌, ◌∙◌, true, refl, ap, map, subst, IfErr-weaker, IfOk-weaker, App, FailsBy}
+use Rattle.bag_arguments.proofs.Common.{fault_of, is_simple, is_simple_and_free, matches_of, takes, command}
+use Rattle.bag_arguments.proofs.Common.{clap_on_literals, refusals, is_taken, matches}
 use Rattle.bag_arguments.proofs.Limits.{limit_passes}
 use Rattle.bag_arguments.proofs.planning.parse.Goals as goal
 
@@ -12,8 +14,15 @@ returns c =
     let parse = c.try_get_matches_from in
     let is = c.in_ok-command.ensures in
     let words = map (λ word. word.now) c.args.words.now in record {
-      matches = IfOk-weaker parse.result _ _ (λ m h. (h (ap is_simple is ∙ computed.0)).0 ∙ ap (λ (a : App). matches_of a words) is) parse.ensures.matches;
-      refusals = subst (λ (a : App). FailsBy (fault_of a words) parse.result) is (parse.ensures.kinds (ap is_simple_and_free is ∙ computed.1));
+      matches =
+          IfOk-weaker parse.result _ _
+          (λ m h. (h (ap is_simple is ∙ computed.0)).0 ∙ ap (λ (a : App). matches_of a words) is)
+          parse.ensures.matches;
+      refusals =
+          subst (λ (a : App). FailsBy (fault_of a words) parse.result) is
+          (parse.ensures.kinds (ap is_simple_and_free is ∙ computed.1));
       limit = IfOk-weaker parse.result _ _ (λ m p. limit_passes _ m p is) parse.ensures.parsed;
-      taken = IfErr-weaker parse.result _ _ (λ e h same. h (ap (λ (a : App). takes a words) is ∙ same)) parse.ensures.passes;
+      taken =
+          IfErr-weaker parse.result _ _ (λ e h same. h (ap (λ (a : App). takes a words) is ∙ same))
+          parse.ensures.passes;
     }

@@ -3,7 +3,8 @@ use Rattle.bag_arguments.proofs.Common.{arith, ◌≡◌, ◌≢◌, ◌==◌, L
 use Rattle.bag_arguments.proofs.Answering.{declined_answered, plans_not_refused, taken_answered}
 use Rattle.bag_arguments.proofs.planning.plan_of.Goals as goal
 
-some_words : (words : List (Bor Text)) (is_empty : Bool) → is_empty ≡ (length words == 0) → is_empty ≡ false → map (λ word. word.now) words ≢ []
+some_words : (words : List (Bor Text)) (is_empty : Bool) → is_empty ≡ (length words == 0) → is_empty ≡ false
+    → map (λ word. word.now) words ≢ []
 some_words words is_empty is not_empty e = grind (arith, common_steps)
 
 pub returns-in-Ok : goal.returns-in-Ok

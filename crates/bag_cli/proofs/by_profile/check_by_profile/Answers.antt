@@ -9,7 +9,15 @@ returns-in-Ok g c =
     let read = Read c.in-Some.path file.answer in (
       read ∷ done.0,
       added _ _ _ (read ∷ []) done.0 (rw c.as_str.ensures at file.visits) done.1,
-      rw c.in-Some.is (file.answer, Ok c.in-Ok.profile, done.0, refl, rw c.as_str.ensures at file.is_answer, file.is_read, done.2),
+      rw c.in-Some.is (
+        file.answer,
+        Ok c.in-Ok.profile,
+        done.0,
+        refl,
+        rw c.as_str.ensures at file.is_answer,
+        file.is_read,
+        done.2,
+      ),
     )
 
 pub returns-in-Err : goal.returns-in-Err
@@ -17,5 +25,13 @@ returns-in-Err g c =
     let file = c.in-Err.ensures in (
       Read c.in-Some.path file.answer ∷ [],
       rw c.as_str.ensures at file.visits,
-      rw c.in-Some.is (file.answer, Err c.in-Err.refusal, [], refl, rw c.as_str.ensures at file.is_answer, file.is_read, (c.refuse_profile.ensures.status, refl, refl)),
+      rw c.in-Some.is (
+        file.answer,
+        Err c.in-Err.refusal,
+        [],
+        refl,
+        rw c.as_str.ensures at file.is_answer,
+        file.is_read,
+        (c.refuse_profile.ensures.status, refl, refl),
+      ),
     )

@@ -7,4 +7,6 @@ returns-in_err-put_pieces g c =
     (IsCut-append _ _ _ _ c.in_err-put_pieces.ensures.0, c.in_err-put_pieces.ensures.1)
 
 pub returns : goal.returns
-returns g c = writes_after (g.E.Out.state c.args.err.now) (g.E.Out.state c.put_pieces.new.out) (g.E.Out.state c.put_line.new.out) _ _ _ c.put_line.ensures c.in_ok-put_pieces.ensures
+returns g c =
+    writes_after (g.E.Out.state c.args.err.now) (g.E.Out.state c.put_pieces.new.out) (g.E.Out.state c.put_line.new.out)
+    _ _ _ c.put_line.ensures c.in_ok-put_pieces.ensures

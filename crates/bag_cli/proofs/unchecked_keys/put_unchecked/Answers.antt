@@ -7,4 +7,6 @@ returns-in_err-put_pieces g c =
     (IsCut-append _ _ _ _ c.in_err-put_pieces.ensures.0, c.in_err-put_pieces.ensures.1)
 
 pub returns : goal.returns
-returns g c = writes_after (g.O.Out.state c.args.out.now) (g.O.Out.state c.put_pieces.new.out) (g.O.Out.state c.put_line.new.out) _ _ _ c.put_line.ensures c.in_ok-put_pieces.ensures
+returns g c =
+    writes_after (g.O.Out.state c.args.out.now) (g.O.Out.state c.put_pieces.new.out) (g.O.Out.state c.put_line.new.out)
+    _ _ _ c.put_line.ensures c.in_ok-put_pieces.ensures

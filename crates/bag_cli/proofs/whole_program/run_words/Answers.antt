@@ -5,4 +5,5 @@ pub returns-in-Ok : goal.returns-in-Ok
 returns-in-Ok g c = grind arith
 
 pub returns-in-Err : goal.returns-in-Err
-returns-in-Err g c = ([], sym (append-nil (visits_of c.args.visits.now)), inl (c.refuse_words.ensures.status, refl, refl))
+returns-in-Err g
+    c = ([], sym (append-nil (visits_of c.args.visits.now)), inl (c.refuse_words.ensures.status, refl, refl))

@@ -1,4 +1,5 @@
-use Rattle.bag_conformance.proofs.Common.{◌≡◌, ◌≤◌, ◌∙◌, length, take, true, false, ap, sym, subst, rules, of_calls, IsPartitionedBy, IsPartitionPoint, always_returns_same}
+use Rattle.bag_conformance.proofs.Common.{◌≡◌, ◌≤◌, ◌∙◌, length, take, true, false, ap, sym, subst, rules, of_calls}
+use Rattle.bag_conformance.proofs.Common.{IsPartitionedBy, IsPartitionPoint, always_returns_same}
 use Rattle.bag_conformance.specs.ElementFaults as told
 use Rattle.bag_conformance.proofs.ByLabel.{is_below, has_label, below_first, label_first, run_is}
 use Rattle.bag_conformance.proofs.by_label.labelled.Goals as goal
@@ -11,10 +12,13 @@ returns c =
     let k = c.partition_point-count.result in
     let rest = c.split_at.ensures.back in
     let split : IsPartitionPoint (λ e. is_below label e ≡ true) (λ e. is_below label e ≡ false) sorted i =
-    c.partition_point-before.ensures.partitioned (is_below label) (always_returns_same _ _ _ (λ a r f called. search (rules, of_calls))) (below_first label sorted c.requires) in
+    c.partition_point-before.ensures.partitioned (is_below label)
+    (always_returns_same _ _ _ (λ a r f called. search (rules, of_calls))) (below_first label sorted c.requires) in
     let part : IsPartitionPoint (λ e. has_label label e ≡ true) (λ e. has_label label e ≡ false) c.split_at.result.1.now k =
-    c.partition_point-count.ensures.partitioned (has_label label) (always_returns_same _ _ _ (λ a r f called. search (rules, of_calls)))
+    c.partition_point-count.ensures.partitioned (has_label label)
+    (always_returns_same _ _ _ (λ a r f called. search (rules, of_calls)))
     (subst (IsPartitionedBy (has_label label)) (sym rest) (label_first label sorted c.requires i split)) in
     ap told.lent (c.split_at-2.ensures.front ∙ ap (take k) rest)
-    ∙ run_is label sorted c.requires i split k c.partition_point-before.ensures.bound (subst (λ xs. k ≤ length xs) rest c.partition_point-count.ensures.bound)
+    ∙ run_is label sorted c.requires i split k c.partition_point-before.ensures.bound
+    (subst (λ xs. k ≤ length xs) rest c.partition_point-count.ensures.bound)
     (subst (λ xs. IsPartitionPoint (λ e. has_label label e ≡ true) (λ e. has_label label e ≡ false) xs k) rest part)

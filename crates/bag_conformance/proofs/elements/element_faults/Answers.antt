@@ -11,6 +11,17 @@ returns c = λ bag of deep.
     let sorted = c.in_ok-sorted.sorted.items in
     let all = c.in_ok-faults.faults.items in
     let list = labelled_are bag elements (c.elements_of.ensures bag of deep) in
-    permuted_all (IsOfElements bag c.args.profile.now) all c.sort_by_key.new.self.items c.sort_by_key.ensures.permutation
-    (elements_are bag c.args.profile.now (told.lent sorted) (λ label. subst (AreOf bag label) (sym (c.in_ok-sorted.ensures.labelled label)) (list label)) all
-    (c.in_ok-faults.ensures ∙ rw (c.in_ok-of_name.ensures, c.in_ok-of_rules.ensures, c.labelled-naming.ensures, c.as_slice.ensures.value, c.as_slice-2.ensures.value, c.identifier.ensures, c.labels.ensures.labels)))
+    permuted_all (IsOfElements bag c.args.profile.now) all c.sort_by_key.new.self.items
+    c.sort_by_key.ensures.permutation
+    (elements_are bag c.args.profile.now (told.lent sorted)
+    (λ label. subst (AreOf bag label) (sym (c.in_ok-sorted.ensures.labelled label)) (list label)) all
+    (c.in_ok-faults.ensures
+    ∙ rw (
+      c.in_ok-of_name.ensures,
+      c.in_ok-of_rules.ensures,
+      c.labelled-naming.ensures,
+      c.as_slice.ensures.value,
+      c.as_slice-2.ensures.value,
+      c.identifier.ensures,
+      c.labels.ensures.labels,
+    )))

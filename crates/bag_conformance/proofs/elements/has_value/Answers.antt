@@ -5,5 +5,6 @@ use Rattle.bag_conformance.proofs.elements.has_value.Goals as goal
 
 pub returns : goal.returns
 returns c =
-    any_from_yields_List (λ e. told.has_value c.args.value.now e.now) _ _ _ c.any.ensures.ran (YieldsList-from_slice c.args.elements.now c.iter.ensures.rest) (λ x b q k. search (rules, tests))
+    any_from_yields_List (λ e. told.has_value c.args.value.now e.now) _ _ _ c.any.ensures.ran
+    (YieldsList-from_slice c.args.elements.now c.iter.ensures.rest) (λ x b q k. search (rules, tests))
     ∙ sym (lent_any (told.has_value c.args.value.now) c.args.elements.now)

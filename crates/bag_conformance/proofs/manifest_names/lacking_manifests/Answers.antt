@@ -3,15 +3,18 @@ use Rattle.std.proofs.lemmas.Bool.{both_ways}
 use Rattle.bag_conformance.proofs.FaultSets.{all_items, one_next}
 use Rattle.bag_conformance.proofs.Manifests.{lacking_all, lacking_fault, listed_as, IsLacking}
 use Rattle.bag_conformance.proofs.manifest_names.lacking_manifests.Goals as goal
-use Rattle.bag_conformance.proofs.manifest_names.lacking_manifests.Goals.{then-not-has_manifest+in_ok-file_fault+in_ok-push, else-not-has_manifest}
+use Rattle.bag_conformance.proofs.manifest_names.lacking_manifests.Goals.{then-not-has_manifest+in_ok-file_fault+in_ok-push}
+use Rattle.bag_conformance.proofs.manifest_names.lacking_manifests.Goals.{else-not-has_manifest}
 
 pub loop-name-preserved : goal.loop-name-preserved
 loop-name-preserved c = λ bag facts.
     let name = c.name-item.result in
     let tells = c.has_manifest.ensures bag facts name (c.as_str.ensures ∙ c.in_ok-path.ensures) in
     one_next (lacking_fault bag c.args.profile.now c.args.kind)
-    (IsLacking bag c.args.profile.now c.args.kind) c.listed-required.result.now c.loop-name.name-index name c.loop-name.faults.items
-    c.loop-name-test.true c.name-item.is (c.loop-name.invariant bag facts) c.if-not-has_manifest.faults.items (elim c.if-not-has_manifest.branch [
+    (IsLacking bag c.args.profile.now c.args.kind) c.listed-required.result.now c.loop-name.name-index name
+    c.loop-name.faults.items
+    c.loop-name-test.true c.name-item.is (c.loop-name.invariant bag facts) c.if-not-has_manifest.faults.items
+    (elim c.if-not-has_manifest.branch [
       | then-not-has_manifest+in_ok-file_fault+in_ok-push w ↦ inl (
         w.in_ok-file_fault.field-0,
         rw w.faults-is w.in_ok-push.ensures.items,
@@ -29,4 +32,5 @@ returns c = λ bag facts.
     lacking_all bag profile c.args.kind required c.loop-name.faults.items
     (listed_as profile c.args.kind required c.required_list.result c.required_list.ensures c.listed-required.ensures)
     (all_items (lacking_fault bag profile c.args.kind)
-    (IsLacking bag profile c.args.kind) required c.loop-name.name-index c.loop-name.faults.items c.loop-name-test.false (c.loop-name.invariant bag facts))
+    (IsLacking bag profile c.args.kind) required c.loop-name.name-index c.loop-name.faults.items c.loop-name-test.false
+    (c.loop-name.invariant bag facts))

@@ -6,4 +6,5 @@ use Rattle.bag_conformance.proofs.manifest_names.lacking_manifests.Given as goal
 abbrev pub invariant-loop-name : goal.invariant-loop-name
 invariant-loop-name l =
     (bag : Bag) → IsFactsOf bag l.facts
-    → AreAll (FaultsOf (lacking_fault bag l.profile l.kind) (IsLacking bag l.profile l.kind) (take l.name-index l.required)) l.faults.items
+    → AreAll (FaultsOf (lacking_fault bag l.profile l.kind) (IsLacking bag l.profile l.kind)
+    (take l.name-index l.required)) l.faults.items

@@ -4,7 +4,8 @@ use Rattle.bag_conformance.proofs.FaultSets.{all_items, one_next}
 use Rattle.bag_conformance.proofs.FilesThere.{fault_of, HoldsOf}
 use Rattle.bag_conformance.proofs.Manifests.{other_all}
 use Rattle.bag_conformance.proofs.manifest_names.other_manifests.Goals as goal
-use Rattle.bag_conformance.proofs.manifest_names.other_manifests.Goals.{then-is_other_manifest+in_ok-file_fault+in_ok-push, else-is_other_manifest}
+use Rattle.bag_conformance.proofs.manifest_names.other_manifests.Goals.{then-is_other_manifest+in_ok-file_fault+in_ok-push}
+use Rattle.bag_conformance.proofs.manifest_names.other_manifests.Goals.{else-is_other_manifest}
 
 pub loop-entry-preserved : goal.loop-entry-preserved
 loop-entry-preserved c =
@@ -12,21 +13,29 @@ loop-entry-preserved c =
     let other = IsOtherManifest c.args.profile.now c.args.kind in
     let tells = rw c.as_str.ensures at c.is_other_manifest.ensures in
     one_next (fault_of (other_code c.args.kind) other)
-    (HoldsOf (other_code c.args.kind) other) c.files-files.result.now c.loop-entry.entry-index entry c.loop-entry.faults.items
-    c.loop-entry-test.true c.entry-item.is c.loop-entry.invariant c.if-is_other_manifest.faults.items (elim c.if-is_other_manifest.branch [
+    (HoldsOf (other_code c.args.kind) other) c.files-files.result.now c.loop-entry.entry-index entry
+    c.loop-entry.faults.items
+    c.loop-entry-test.true c.entry-item.is c.loop-entry.invariant c.if-is_other_manifest.faults.items
+    (elim c.if-is_other_manifest.branch [
       | then-is_other_manifest+in_ok-file_fault+in_ok-push w ↦ inl (
         w.in_ok-file_fault.field-0,
         rw w.faults-is w.in_ok-push.ensures.items,
         w.in_ok-file_fault.ensures ∙ ap (λ code. of_path code entry.path None []) c.other_code-code.ensures,
         tells.0 w.if-is_other_manifest.true,
       )
-      | else-is_other_manifest w ↦ inr (rw w.faults-is refl, λ is. both_ways _ w.if-is_other_manifest.false (tells.1 is))
+      | else-is_other_manifest w ↦ inr (
+        rw w.faults-is refl,
+        λ is.
+            both_ways _ w.if-is_other_manifest.false (tells.1 is),
+      )
     ])
 
 pub returns : goal.returns
 returns c = λ bag facts.
     let files = c.files-files.result.now in
     let other = IsOtherManifest c.args.profile.now c.args.kind in
-    other_all bag c.args.profile.now c.args.kind files c.loop-entry.faults.items (rw c.files-files.ensures facts.listing.files)
+    other_all bag c.args.profile.now c.args.kind files c.loop-entry.faults.items
+    (rw c.files-files.ensures facts.listing.files)
     (all_items (fault_of (other_code c.args.kind) other)
-    (HoldsOf (other_code c.args.kind) other) files c.loop-entry.entry-index c.loop-entry.faults.items c.loop-entry-test.false c.loop-entry.invariant)
+    (HoldsOf (other_code c.args.kind) other) files c.loop-entry.entry-index c.loop-entry.faults.items
+    c.loop-entry-test.false c.loop-entry.invariant)

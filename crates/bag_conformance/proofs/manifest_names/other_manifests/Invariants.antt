@@ -5,4 +5,5 @@ use Rattle.bag_conformance.proofs.manifest_names.other_manifests.Given as goal
 
 abbrev pub invariant-loop-entry : goal.invariant-loop-entry
 invariant-loop-entry l =
-    AreAll (FaultsOf (fault_of (other_code l.kind) (IsOtherManifest l.profile l.kind)) (HoldsOf (other_code l.kind) (IsOtherManifest l.profile l.kind)) (take l.entry-index l.files)) l.faults.items
+    AreAll (FaultsOf (fault_of (other_code l.kind) (IsOtherManifest l.profile l.kind))
+    (HoldsOf (other_code l.kind) (IsOtherManifest l.profile l.kind)) (take l.entry-index l.files)) l.faults.items

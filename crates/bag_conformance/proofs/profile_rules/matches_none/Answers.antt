@@ -6,4 +6,5 @@ returns-in_default c = matches_none_none c.args.profile.now c.args.rule c.in_def
 
 pub returns : goal.returns
 returns c =
-    matches_none_some c.args.profile.now c.args.rule c.in-Some.patterns.now c.in-Some.ensures.names c.args.name.now c.matches_some.result c.matches_some.ensures
+    matches_none_some c.args.profile.now c.args.rule c.in-Some.patterns.now c.in-Some.ensures.names c.args.name.now
+    c.matches_some.result c.matches_some.ensures

@@ -6,4 +6,5 @@ use Rattle.bag_conformance.proofs.tag_files.lacking_tag_files.Given as goal
 abbrev pub invariant-loop-path : goal.invariant-loop-path
 invariant-loop-path l =
     (bag : Bag) → IsFactsOf bag l.facts
-    → AreAll (FaultsOf (lacking_fault bag l.profile) (IsLacking bag l.profile) (take l.path-index l.required)) l.faults.items
+    → AreAll (FaultsOf (lacking_fault bag l.profile) (IsLacking bag l.profile) (take l.path-index l.required))
+    l.faults.items

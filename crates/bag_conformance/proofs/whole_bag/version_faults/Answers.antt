@@ -3,7 +3,8 @@ use Rattle.bag_conformance.proofs.WholeBag.{accepted_all, excluded_all, undeclar
 use Rattle.bag_conformance.proofs.whole_bag.version_faults.Goals as goal
 
 pub returns-in_default : goal.returns-in_default
-returns-in_default c = λ bag facts. undeclared_all bag c.args.profile.now c.new.result.items c.new.ensures.items (c.in_default.ensures bag facts)
+returns-in_default c = λ bag facts.
+    undeclared_all bag c.args.profile.now c.new.result.items c.new.ensures.items (c.in_default.ensures bag facts)
 
 pub returns-then-not-excludes : goal.returns-then-not-excludes
 returns-then-not-excludes c = λ bag facts.
@@ -13,5 +14,7 @@ returns-then-not-excludes c = λ bag facts.
 
 pub returns : goal.returns
 returns c = λ bag facts.
-    excluded_all bag c.args.profile.now c.in-Some.version.now (c.in-Some.ensures bag facts) c.in_ok-vec.field-0.items c.in_ok-version_fault.field-0
-    c.in_ok-vec.ensures.items c.in_ok-version_fault.ensures ((rw c.as_str.ensures at c.excludes.ensures).0 c.if-not-excludes.false)
+    excluded_all bag c.args.profile.now c.in-Some.version.now (c.in-Some.ensures bag facts) c.in_ok-vec.field-0.items
+    c.in_ok-version_fault.field-0
+    c.in_ok-vec.ensures.items c.in_ok-version_fault.ensures
+    ((rw c.as_str.ensures at c.excludes.ensures).0 c.if-not-excludes.false)

@@ -1,4 +1,5 @@
-use Rattle.bag_disk.proofs.Common.{IsTrue, None, node, ◌≡◌, err_from_is_err_and, arith, ◌∙◌, ap, Err, bytes_of, file_of_disk}
+use Rattle.bag_disk.proofs.Common.{IsTrue, None, node, ◌≡◌, err_from_is_err_and, arith, ◌∙◌, ap, Err, bytes_of}
+use Rattle.bag_disk.proofs.Common.{file_of_disk}
 use Rattle.bag_disk.proofs.DiskSteps.{file_there, folder_there, looks_on}
 use Rattle.bag_disk.proofs.DiskPaths.{no_path}
 use Rattle.bag_disk.proofs.Looked.{had_before}
@@ -15,7 +16,9 @@ returns-in_err-check_folders-clause-refused g c =
     let p = err_from_is_err_and c.from_residual.result c.from_residual.ensures.1 in
     let old = g.D.Disk.state c.args.disk.now in
     rw (p.1, p.2)
-    (due_for (MeetsSpecial old) ⊥ (IsTrue old.honest → node old.nodes c.args.path.now ≡ None) ⊥ _ _ _ _ _ (λ special. special) (λ never. never) (λ none honest. file_of_disk _ _ ∙ ap bytes_of (none honest)) (λ never. never)
+    (due_for (MeetsSpecial old) ⊥ (IsTrue old.honest → node old.nodes c.args.path.now ≡ None) ⊥ _ _ _ _ _
+    (λ special. special) (λ never. never) (λ none honest. file_of_disk _ _ ∙ ap bytes_of (none honest)) (λ never.
+    never)
     c.in_err-check_folders.ensures.refused)
 
 pub returns-in-Ok-Folder-clause-refused : goal.returns-in-Ok-Folder-clause-refused
@@ -26,7 +29,12 @@ returns-in-Ok-Other-clause-refused g c = λ honest. grind (arith, had_before, ot
 
 pub returns-in-Err-clause-refused : goal.returns-in-Err-clause-refused
 returns-in-Err-clause-refused g c =
-    due_of_path _ _ _ _ c.in-Err.fault c.of_path.result c.of_path.ensures (λ is honest. grind (arith, file_of_disk (g.D.Disk.state c.args.disk.now).nodes c.args.path.now, c.in-Err.ensures.absent (ap Err is)))
+    due_of_path _ _ _ _ c.in-Err.fault c.of_path.result c.of_path.ensures (λ is honest.
+    grind (
+      arith,
+      file_of_disk (g.D.Disk.state c.args.disk.now).nodes c.args.path.now,
+      c.in-Err.ensures.absent (ap Err is),
+    ))
 
 pub returns-in-Ok-clause-honest : goal.returns-in-Ok-clause-honest
 returns-in-Ok-clause-honest g c = λ honest. grind (arith, file_of_disk, file_there, looks_on)

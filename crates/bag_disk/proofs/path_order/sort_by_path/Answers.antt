@@ -3,4 +3,5 @@ use Rattle.bag_disk.proofs.path_order.sort_by_path.Goals as goal
 
 pub returns-clause-sorted : goal.returns-clause-sorted
 returns-clause-sorted c =
-    c.sort_unstable_by.ensures.sorted (λ x y. is_lt (text_cmp x.path y.path)) (ranks_by nat_list_cmp_total (λ file. file.path)) (answers_always _ _ _ (λ f a r g called. search rules))
+    c.sort_unstable_by.ensures.sorted (λ x y. is_lt (text_cmp x.path y.path))
+    (ranks_by nat_list_cmp_total (λ file. file.path)) (answers_always _ _ _ (λ f a r g called. search rules))

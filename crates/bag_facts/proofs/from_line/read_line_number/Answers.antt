@@ -10,12 +10,14 @@ returns-then-eq c line small e =
 pub returns-in-Ok : goal.returns-in-Ok
 returns-in-Ok c line small e =
     let written = decimal_written line c.args.field.now e (sym c.eq.ensures ∙ c.if-eq.false) in
-    let parsed : c.parse.result ≡ Ok line = parse-decimal 64 line c.args.field.now c.parse.result small small written c.parse.ensures.value.0 in
+    let parsed : c.parse.result ≡ Ok line =
+    parse-decimal 64 line c.args.field.now c.parse.result small small written c.parse.ensures.value.0 in
     let same : c.in-Ok.line ≡ line = cc in
     ap Ok same
 
 pub returns-in-Err : goal.returns-in-Err
 returns-in-Err c line small e =
     let written = decimal_written line c.args.field.now e (sym c.eq.ensures ∙ c.if-eq.false) in
-    let parsed : c.parse.result ≡ Ok line = parse-decimal 64 line c.args.field.now c.parse.result small small written c.parse.ensures.value.0 in
+    let parsed : c.parse.result ≡ Ok line =
+    parse-decimal 64 line c.args.field.now c.parse.result small small written c.parse.ensures.value.0 in
     cc

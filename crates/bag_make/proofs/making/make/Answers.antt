@@ -1,4 +1,5 @@
-use Rattle.bag_make.proofs.Common.{IsTrue, on_ok_weaker, IfErr-weaker, declaration_again, info_again, manifest_again, Leaves, MayRefuseMaking}
+use Rattle.bag_make.proofs.Common.{IsTrue, on_ok_weaker, IfErr-weaker, declaration_again, info_again, manifest_again}
+use Rattle.bag_make.proofs.Common.{Leaves, MayRefuseMaking}
 use Rattle.bag_make.proofs.NoFault.{made_is_valid}
 use Rattle.bag_make.proofs.Made.{made_has_no_fault, leaves_bag}
 use Rattle.bag_make.proofs.making.make.Goals as goal

@@ -8,7 +8,8 @@ returns-in-Ok-clause-made g c =
     let read = c.in_ok-steps.ensures in
     has_made c.args.algs c.args.info.now _ _ _ _ (g.met.T.Tree.is_bag c.args.tree.now) read.keeps read.planned
     (rw c.deref.ensures.value at c.in-Ok.ensures.taken)
-    c.in_ok-check_request.ensures.good c.in_ok-check_request.ensures.texts read.ascend read.plain read.calm read.opened
+    c.in_ok-check_request.ensures.good c.in_ok-check_request.ensures.texts read.ascend read.plain read.no_failure
+    read.opened
 
 pub returns-clause-refused : goal.returns-clause-refused
 returns-clause-refused g c =
@@ -21,8 +22,10 @@ returns-clause-refused g c =
         steps = λ honest. (read.planned honest).0;
         read = g.T.Tree.state c.read_and_plan.new.tree;
         keeps = read.keeps;
-        failures = read.calm;
-        openings = λ honest. opens_nothing stopped.step stopped.before (g.T.Tree.state c.take_steps.new.tree) stopped.left ∙ stopped.taken.openings
+        failures = read.no_failure;
+        openings = λ honest.
+            opens_nothing stopped.step stopped.before (g.T.Tree.state c.take_steps.new.tree) stopped.left
+            ∙ stopped.taken.openings
             ∙ read.opened honest;
         stopped = rw c.deref.ensures.value at stopped;
       },

@@ -1,25 +1,36 @@
 use Rattle.bag_make.proofs.Common.{◌∙◌, inr, sym}
-use Rattle.bag_make.proofs.ReadFolder.{nothing_refused, files_are, listing_refused, opens_folder, opened_folder, files_refused}
+use Rattle.bag_make.proofs.ReadFolder.{nothing_refused, files_are, listing_refused, opens_folder, opened_folder}
+use Rattle.bag_make.proofs.ReadFolder.{files_refused}
 use Rattle.bag_make.proofs.making.read_and_plan.Goals as goal
 
 pub returns-in-Err-clause-refused : goal.returns-in-Err-clause-refused
 returns-in-Err-clause-refused g c =
     listing_refused (g.T.Tree.state c.args.tree.now)
-    (g.T.Tree.state c.list.new.self) c.in-Err.cause c.without_path.result c.stopped.result c.without_path.ensures.cause c.without_path.ensures.path
+    (g.T.Tree.state c.list.new.self) c.in-Err.cause c.without_path.result c.stopped.result c.without_path.ensures.cause
+    c.without_path.ensures.path
     c.list.ensures.openings c.list.ensures.rest c.in-Err.ensures.refused c.in-Err.ensures.last c.stopped.ensures
 
 pub returns-in-Err-sum_files-clause-opens : goal.returns-in-Err-sum_files-clause-opens
 returns-in-Err-sum_files-clause-opens g c =
-    opens_folder c.in-Ok.listing c.in-Ok.ensures.ordered _ _ c.list.ensures.keeps c.list.ensures.openings c.in-Ok.ensures.honest
+    opens_folder c.in-Ok.listing c.in-Ok.ensures.ordered _ _ c.list.ensures.keeps c.list.ensures.openings
+    c.in-Ok.ensures.honest
     (g.T.Tree.state c.sum_files.new.tree) (rw c.as_slice.ensures at c.sum_files.ensures.opens)
 
 pub returns-in-Err-sum_files-clause-refused : goal.returns-in-Err-sum_files-clause-refused
 returns-in-Err-sum_files-clause-refused g c =
-    files_refused c.in-Ok.listing c.in-Ok.ensures.ordered _ _ c.list.ensures.keeps c.list.ensures.openings c.in-Ok.ensures.honest
+    files_refused c.in-Ok.listing c.in-Ok.ensures.ordered _ _ c.list.ensures.keeps c.list.ensures.openings
+    c.in-Ok.ensures.honest
     (g.T.Tree.state c.sum_files.new.tree)
-    (record { keeps = c.list.ensures.keeps; failures = c.in-Ok.ensures.calm; plain = c.in-Ok.ensures.plain; openings = c.list.ensures.openings; last = c.in-Ok.ensures.last })
+    (record {
+      keeps = c.list.ensures.keeps;
+      failures = c.in-Ok.ensures.no_failure;
+      plain = c.in-Ok.ensures.plain;
+      openings = c.list.ensures.openings;
+      last = c.in-Ok.ensures.last;
+    })
     c.in-Err-sum_files.stop c.stopped-in-Err-sum_files.result
-    (λ honest. sym (c.is_in_the_way.ensures.of_bag (g.T.Tree.state c.args.tree.now).bag c.in-Ok.ensures.ordered (c.in-Ok.ensures.honest honest))
+    (λ honest. sym (c.is_in_the_way.ensures.of_bag (g.T.Tree.state c.args.tree.now).bag c.in-Ok.ensures.ordered
+    (c.in-Ok.ensures.honest honest))
     ∙ c.if-is_in_the_way.false)
     (rw c.as_slice.ensures at c.in-Err-sum_files.ensures.stop) c.stopped-in-Err-sum_files.ensures
 
@@ -28,28 +39,38 @@ returns-in-Ok-steps_of-clause-planned g c = λ honest.
     let bag = (g.T.Tree.state c.args.tree.now).bag in
     let ordered = c.in-Ok.ensures.ordered in
     let of = c.in-Ok.ensures.honest honest in
-    let summed = files_are c.in-Ok.listing ordered _ _ c.list.ensures.keeps c.list.ensures.openings c.in-Ok.ensures.honest
+    let summed =
+    files_are c.in-Ok.listing ordered _ _ c.list.ensures.keeps c.list.ensures.openings c.in-Ok.ensures.honest
     c.args.algs c.in-Ok-sum_files.payload.items (rw c.as_slice.ensures at c.in-Ok-sum_files.ensures.summed) honest in
     let free = sym (c.is_in_the_way.ensures.of_bag bag ordered of) ∙ c.if-is_in_the_way.false in
     (c.in-Ok-steps_of.ensures.of_bag bag ordered of (rw c.deref.ensures.value summed), free)
 
 pub returns-in-Ok-steps_of-clause-opened : goal.returns-in-Ok-steps_of-clause-opened
 returns-in-Ok-steps_of-clause-opened g c =
-    opened_folder c.in-Ok.listing c.in-Ok.ensures.ordered _ _ c.list.ensures.keeps c.list.ensures.openings c.in-Ok.ensures.honest
+    opened_folder c.in-Ok.listing c.in-Ok.ensures.ordered _ _ c.list.ensures.keeps c.list.ensures.openings
+    c.in-Ok.ensures.honest
     (g.T.Tree.state c.sum_files.new.tree) (rw c.as_slice.ensures at c.in-Ok-sum_files.ensures.opened)
 
 pub returns-in-Ok-steps_of-clause-opens : goal.returns-in-Ok-steps_of-clause-opens
 returns-in-Ok-steps_of-clause-opens g c =
-    opens_folder c.in-Ok.listing c.in-Ok.ensures.ordered _ _ c.list.ensures.keeps c.list.ensures.openings c.in-Ok.ensures.honest
+    opens_folder c.in-Ok.listing c.in-Ok.ensures.ordered _ _ c.list.ensures.keeps c.list.ensures.openings
+    c.in-Ok.ensures.honest
     (g.T.Tree.state c.sum_files.new.tree) (rw c.as_slice.ensures at c.sum_files.ensures.opens)
 
 pub returns-clause-opens : goal.returns-clause-opens
 returns-clause-opens g c =
-    opens_folder c.in-Ok.listing c.in-Ok.ensures.ordered _ _ c.list.ensures.keeps c.list.ensures.openings c.in-Ok.ensures.honest
+    opens_folder c.in-Ok.listing c.in-Ok.ensures.ordered _ _ c.list.ensures.keeps c.list.ensures.openings
+    c.in-Ok.ensures.honest
     (g.T.Tree.state c.sum_files.new.tree) (rw c.as_slice.ensures at c.sum_files.ensures.opens)
 
 pub returns-clause-refused : goal.returns-clause-refused
 returns-clause-refused g c =
     inr (nothing_refused _ _ (g.T.Tree.state c.sum_files.new.tree)
-    (record { keeps = c.list.ensures.keeps; failures = c.in-Ok.ensures.calm; plain = c.in-Ok.ensures.plain; openings = c.list.ensures.openings; last = c.in-Ok.ensures.last })
-    c.in-Ok-sum_files.ensures.calm)
+    (record {
+      keeps = c.list.ensures.keeps;
+      failures = c.in-Ok.ensures.no_failure;
+      plain = c.in-Ok.ensures.plain;
+      openings = c.list.ensures.openings;
+      last = c.in-Ok.ensures.last;
+    })
+    c.in-Ok-sum_files.ensures.no_failure)

@@ -1,4 +1,6 @@
-use Rattle.bag_make.proofs.Common.{arith, ◌≡◌, ◌∷◌, ◌++◌, [], All, map, append_assoc, ap, sym, ◌∙◌, subst, not-true, texts_of, has_new, listed_tops, new_file, steps_for, IsStep, MakeFolder, MoveIn, Rename}
+use Rattle.bag_make.proofs.Common.{arith, ◌≡◌, ◌∷◌, ◌++◌, [], All, map, append_assoc, ap, sym, ◌∙◌, subst, not-true}
+use Rattle.bag_make.proofs.Common.{lent_texts, has_new, listed_tops, new_file, steps_for, IsStep, MakeFolder, MoveIn}
+use Rattle.bag_make.proofs.Common.{Rename}
 use Rattle.bag_make.proofs.OfTheBag.{tops_are, top_is, steps_fit}
 use Rattle.bag_make.proofs.plan.plan.Goals as goal
 
@@ -11,7 +13,7 @@ returns-clause-fit c = λ ordered free names.
     let listing = c.args.listing.now in
     let planned : c.push_files.new.steps.items ≡ steps_for (listed_tops listing) files =
     c.in_ok-push_files.ensures ∙ ap (λ steps. steps ++ map new_file files) c.in_ok-steps.ensures
-    ∙ append_assoc (MakeFolder ∷ map MoveIn (texts_of c.as_slice.result.now)) (Rename ∷ []) (map new_file files)
-    ∙ ap (λ names. steps_for names files) (ap texts_of c.as_slice.ensures.value ∙ c.in_ok-names.ensures) in
+    ∙ append_assoc (MakeFolder ∷ map MoveIn (lent_texts c.as_slice.result.now)) (Rename ∷ []) (map new_file files)
+    ∙ ap (λ names. steps_for names files) (ap lent_texts c.as_slice.ensures.value ∙ c.in_ok-names.ensures) in
     subst (All IsStep) (sym planned)
     (steps_fit (listed_tops listing) files (top_is listing ordered (not-true (has_new listing) free)) names)

@@ -1,4 +1,5 @@
-use Rattle.bag_make.proofs.Common.{◌≡◌, ◌++◌, ◌∷◌, ◌∙◌, [], List, ap, oxum_label, oxum_text, NewElement, info_text, size_of}
+use Rattle.bag_make.proofs.Common.{◌≡◌, ◌++◌, ◌∷◌, ◌∙◌, [], List, ap, oxum_label, oxum_text, NewElement, info_text}
+use Rattle.bag_make.proofs.Common.{size_of}
 use Rattle.bag_make.proofs.texts.info_file.Goals as goal
 
 pub returns-in-Ok : goal.returns-in-Ok

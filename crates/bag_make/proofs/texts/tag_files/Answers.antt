@@ -5,7 +5,8 @@ use Rattle.bag_make.proofs.texts.tag_files.Goals as goal
 pub returns-clause-files : goal.returns-clause-files
 returns-clause-files c = λ files same are.
     let named = c.in_ok-files.files.items in
-    tag_files_are files c.args.listed.now c.args.payload.now c.args.algs c.args.info.now same are named c.swap.new.self.items c.in_ok-summed.summed.items
+    tag_files_are files c.args.listed.now c.args.payload.now c.args.algs c.args.info.now same are named
+    c.swap.new.self.items c.in_ok-summed.summed.items
     (c.in_ok-files.ensures ∙ ap (λ xs. named_of c.args.listed.now c.args.payload.now xs c.args.info.now)
     (c.deref.ensures.value ∙ c.in_ok-members.ensures.items))
     (rw c.as_slice.ensures.value at c.in_ok-summed.ensures)

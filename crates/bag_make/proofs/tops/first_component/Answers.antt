@@ -7,4 +7,6 @@ pub returns-in_default : goal.returns-in_default
 returns-in_default c = grind (arith, split_once_first, lit<, whole)
 
 pub returns : goal.returns
-returns c = (split_once_first 47 c.args.path.now (Some (c.in-Some.first, c.in-Some.field-0-1)) c.in-Some.ensures.cases (lit< tt)).1
+returns c =
+    (split_once_first 47 c.args.path.now (Some (c.in-Some.first, c.in-Some.field-0-1)) c.in-Some.ensures.cases
+    (lit< tt)).1

@@ -5,10 +5,12 @@ use Rattle.bag_memory.proofs.Folders.{parent_put, no_parent, put_and_taken, put_
 use Rattle.bag_memory.proofs.folder_set.put_parent.Goals as goal
 
 pub returns-in_default-clause-put : goal.returns-in_default-clause-put
-returns-in_default-clause-put c = no_parent (folder_set c.args.folders.now.keys) c.args.path.now (split_once_first 47 c.args.path.now None c.in_default.ensures.cases (lit< tt))
+returns-in_default-clause-put c = no_parent (folder_set c.args.folders.now.keys) c.args.path.now
+    (split_once_first 47 c.args.path.now None c.in_default.ensures.cases (lit< tt))
 
 pub returns-then-contains-clause-put : goal.returns-then-contains-clause-put
-returns-then-contains-clause-put c = grind (arith, split_once_first, lit<, parent_put, put_again, set.contains-from_list nat_list_cmp_total)
+returns-then-contains-clause-put c = grind
+    (arith, split_once_first, lit<, parent_put, put_again, set.contains-from_list nat_list_cmp_total)
 
 pub returns-clause-put : goal.returns-clause-put
 returns-clause-put c = grind (arith, split_once_first, lit<, parent_put)

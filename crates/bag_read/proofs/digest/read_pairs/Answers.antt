@@ -10,4 +10,5 @@ pub loop-k-preserved : goal.loop-k-preserved
 loop-k-preserved c =
     let high = c.value.ensures in
     let low = c.value-in-loop-k.ensures in
-    pair_read c.args.digits.now c.loop-k.bytes c.loop-k.k c.value.result c.value-in-loop-k.result (omega arith) (omega arith) high.small low.small high.digit low.digit c.loop-k.invariant
+    pair_read c.args.digits.now c.loop-k.bytes c.loop-k.k c.value.result c.value-in-loop-k.result (omega arith)
+    (omega arith) high.small low.small high.digit low.digit c.loop-k.invariant

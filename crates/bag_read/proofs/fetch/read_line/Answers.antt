@@ -10,11 +10,14 @@ returns-in_ok-entry-in-Ok c =
     let first = c.split_at_blanks.ensures in
     let next = c.split_at_blanks-2.ensures in
     let read = sym c.in-Ok.is ∙ c.in_ok-path.ensures ∙ ap (path_spelled c.args.rules) c.without_prefix.ensures in
-    ap {B = Result FetchEntry Reason} Ok c.in_ok-entry-in-Ok.ensures ∙ line_read c.args.rules c.args.line.now _ _ _ _ first.front first.back next.front next.back c.args.number _ (sym c.if-lacks_part.ensures) read
+    ap {B = Result FetchEntry Reason} Ok c.in_ok-entry-in-Ok.ensures
+    ∙ line_read c.args.rules c.args.line.now _ _ _ _ first.front first.back next.front next.back c.args.number _
+    (sym c.if-lacks_part.ensures) read
 
 pub returns-in-Err : goal.returns-in-Err
 returns-in-Err c =
     let first = c.split_at_blanks.ensures in
     let next = c.split_at_blanks-2.ensures in
     let read = sym c.in-Err.is ∙ c.in_ok-path.ensures ∙ ap (path_spelled c.args.rules) c.without_prefix.ensures in
-    line_read c.args.rules c.args.line.now _ _ _ _ first.front first.back next.front next.back c.args.number _ (sym c.if-lacks_part.ensures) read
+    line_read c.args.rules c.args.line.now _ _ _ _ first.front first.back next.front next.back c.args.number _
+    (sym c.if-lacks_part.ensures) read

@@ -1,4 +1,6 @@
-use Rattle.bag_read.proofs.Common.{List, append_assoc, arith, ℕ, ◌∷◌, ◌≡◌, begins_with_blank, is_blank_line, Rules, split, Numbered, after_line, all_elements, all_faults, elements, faults, value_on, wrong}
+use Rattle.bag_read.proofs.Common.{List, append_assoc, arith, ℕ, ◌∷◌, ◌≡◌, begins_with_blank, is_blank_line, Rules}
+use Rattle.bag_read.proofs.Common.{split, Numbered, after_line, all_elements, all_faults, elements, faults, value_on}
+use Rattle.bag_read.proofs.Common.{wrong}
 use Rattle.bag_read.specs.declared.info_reader.Reader.{Reader}
 use Rattle.bag_read.proofs.info.read_text.Goals as goal
 

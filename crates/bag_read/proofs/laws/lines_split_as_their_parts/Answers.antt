@@ -1,4 +1,7 @@
-use Rattle.bag_read.proofs.Common.{List, Some, [], ap, arith, bytes_eq, false, inl, inr, length-append, not, refl, sym, true, ℕ, ◌&&◌, ◌++◌, ◌∙◌, ◌∷◌, ◌≡◌, get_or-append_seam, cond_some, slice_get-get_or, after_first, before_first, list_any, ◌↔◌, byte, ends_with_blank, is_blank, Rules, is_colon, is_label, split}
+use Rattle.bag_read.proofs.Common.{List, Some, [], ap, arith, bytes_eq, false, inl, inr, length-append, not, refl, sym}
+use Rattle.bag_read.proofs.Common.{true, ℕ, ◌&&◌, ◌++◌, ◌∙◌, ◌∷◌, ◌≡◌, get_or-append_seam, cond_some, slice_get-get_or}
+use Rattle.bag_read.proofs.Common.{after_first, before_first, list_any, ◌↔◌, byte, ends_with_blank, is_blank, Rules}
+use Rattle.bag_read.proofs.Common.{is_colon, is_label, split}
 use Rattle.bag_text.specs.Rules.{label_of, may_follow_colon}
 use Rattle.bag_text.specs.Trim.{EndsWithNoBlank}
 use Rattle.bag_text.specs.declared.rules.Rules.TheVariants.{V10, V097}
@@ -26,7 +29,8 @@ no_blank_last t e front c same = sym (ends_as front c) ∙ ap ends_with_blank (s
 
 not_ending : (t : List ℕ) → EndsWithNoBlank t → ends_with_blank t ≡ false
 not_ending [] h = refl
-not_ending (c ∷ t) h = let last = has_last c t in ap ends_with_blank last.2 ∙ ends_as last.0 last.1 ∙ h last.0 last.1 last.2
+not_ending (c ∷ t) h =
+    let last = has_last c t in ap ends_with_blank last.2 ∙ ends_as last.0 last.1 ∙ h last.0 last.1 last.2
 
 -- ---- the label and what follows
 
@@ -52,7 +56,9 @@ module _ (rules : Rules) (line label part : List ℕ) where
 
   line_parts : split rules line ≡ Some (label, part) → SplitsAs rules line label part
   line_parts e =
-      let (tests, pair) = cond_some (list_any is_colon line && is_label named && may_follow_colon rules behind) (named, behind) (label, part) e in
+      let (tests, pair) =
+      cond_some (list_any is_colon line && is_label named && may_follow_colon rules behind) (named, behind)
+      (label, part) e in
       let same : named ≡ label = ap (λ (x : List ℕ × List ℕ). x.0) pair in
       let rest : behind ≡ part = ap (λ (x : List ℕ × List ℕ). x.1) pair in
       let outer = both_true (list_any is_colon line && is_label named) (may_follow_colon rules behind) tests in
@@ -72,7 +78,15 @@ module _ (rules : Rules) (line label part : List ℕ) where
   parts_line r =
       let front = before_is (byte ":") r.before part line r.no_colon r.line_is in
       let rest = behind_is (byte ":") r.before part line r.no_colon r.line_is in
-      rw (has_mark (byte ":") r.before part line r.no_colon r.line_is, front, (label_is rules r.before label).0 r.its_label, rest, empty_test label r.some_label, not_ending label r.no_blank_last, (may_follow rules part).0 r.follows) refl
+      rw (
+        has_mark (byte ":") r.before part line r.no_colon r.line_is,
+        front,
+        (label_is rules r.before label).0 r.its_label,
+        rest,
+        empty_test label r.some_label,
+        not_ending label r.no_blank_last,
+        (may_follow rules part).0 r.follows,
+      ) refl
 
 pub returns : goal.returns
 returns c = λ rules line label part. (line_parts rules line label part, parts_line rules line label part)

@@ -10,6 +10,10 @@ pub returns-in-Err : goal.returns-in-Err
 returns-in-Err c =
     let other = is_no_text _ c.in-Err.ensures.text in
     record {
-      items = listed_so _ _ c.unread.result (λ parsed. parsed.items) _ (entries_of_no_text c.args.rules c.args.kind c.args.alg c.args.bytes.now other) c.unread.ensures.items;
-      faults = listed_so _ _ c.unread.result (λ parsed. parsed.faults) _ (faults_of_no_text c.args.rules c.args.kind c.args.alg c.args.bytes.now other) c.unread.ensures.faults;
+      items =
+          listed_so _ _ c.unread.result (λ parsed. parsed.items) _
+          (entries_of_no_text c.args.rules c.args.kind c.args.alg c.args.bytes.now other) c.unread.ensures.items;
+      faults =
+          listed_so _ _ c.unread.result (λ parsed. parsed.faults) _
+          (faults_of_no_text c.args.rules c.args.kind c.args.alg c.args.bytes.now other) c.unread.ensures.faults;
     }

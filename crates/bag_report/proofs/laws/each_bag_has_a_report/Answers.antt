@@ -1,5 +1,8 @@
 -- Every bag has a report.
-use Rattle.bag_report.proofs.Common.{filter, Option, same_members, Bag, fault_cmp, Fault, fault_cmp_total, fault_cmp_same, kept, passed, IsOfCompleteness, IsOfConformance, conformance_faults_are_listed, Profile, IsOfDeclaration, IsOfFetch, IsOfManifests, IsOfMetadata, IsOfParts, IsOfValidity, Check, asks, IsReported, Is}
+use Rattle.bag_report.proofs.Common.{filter, Option, same_members, Bag, fault_cmp, Fault, fault_cmp_total}
+use Rattle.bag_report.proofs.Common.{fault_cmp_same, kept, passed, IsOfCompleteness, IsOfConformance}
+use Rattle.bag_report.proofs.Common.{conformance_faults_are_listed, Profile, IsOfDeclaration, IsOfFetch, IsOfManifests}
+use Rattle.bag_report.proofs.Common.{IsOfMetadata, IsOfParts, IsOfValidity, Check, asks, IsReported, Is}
 use Rattle.bag_stages.proofs.CompletenessList.{completeness_faults_are_listed}
 use Rattle.bag_stages.specs.HasList.{HasList}
 use Rattle.bag_stages.proofs.DeclarationList.{declaration_faults_are_listed}
@@ -22,7 +25,8 @@ faults_are_listed bag profile =
     (either (IsOfFetch bag) _ (fetch_faults_are_listed bag)
     (either (IsOfManifests bag) _ (manifest_faults_are_listed bag)
     (either (IsOfCompleteness bag) _ (completeness_faults_are_listed bag)
-    (either (IsOfValidity bag) (IsOfConformance bag profile) (validity_faults_are_listed bag) (conformance_faults_are_listed bag profile)))))))
+    (either (IsOfValidity bag) (IsOfConformance bag profile) (validity_faults_are_listed bag)
+    (conformance_faults_are_listed bag profile)))))))
 
 -- those that are asked for
 reported_are_listed : (check : Check) → HasList (IsReported check)
@@ -39,5 +43,8 @@ reported_are_listed check =
 pub returns : goal.returns
 returns c check =
     let listed = reported_are_listed check in
-    let report = ascending_list fault_cmp fault_cmp_total fault_cmp_same listed.0 in
-    (report.0, same_members fault_cmp _ (IsReported check) report.0 (λ f c. (listed.1 f).0 c) (λ f h. (listed.1 f).1 h) report.1)
+    let report = ascending_list fault_cmp fault_cmp_total fault_cmp_same listed.0 in (
+      report.0,
+      same_members fault_cmp _ (IsReported check) report.0 (λ f c. (listed.1 f).0 c) (λ f h. (listed.1 f).1 h)
+          report.1,
+    )

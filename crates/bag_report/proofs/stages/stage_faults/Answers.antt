@@ -5,7 +5,8 @@ use Rattle.bag_report.proofs.stages.stage_faults.Goals as goal
 
 pub returns-then-not-has_stage-clause-faults : goal.returns-then-not-has_stage-clause-faults
 returns-then-not-has_stage-clause-faults c = λ bag facts other.
-    let check : Check = record { bag = bag; profile = option_copied c.args.profile; options = c.args.facts.now.options } in
+    let check : Check =
+    record { bag = bag; profile = option_copied c.args.profile; options = c.args.facts.now.options } in
     not_reached check c.args.stage _ (sym c.has_stage.ensures ∙ c.if-not-has_stage.true) c.new.ensures.items
 
 pub returns-clause-faults : goal.returns-clause-faults
@@ -14,5 +15,7 @@ returns-clause-faults c = λ bag facts other.
     let check : Check = record { bag = bag; profile = option_copied c.args.profile; options = options } in
     let reach : reaches options.depth c.args.stage ≡ true = sym c.has_stage.ensures ∙ c.if-not-has_stage.false in
     let found = c.in_ok-faults.faults.items in
-    let kept : c.retain.new.self.items ≡ filter (λ f. asks options f.code) found = filter_same _ (λ f. asks options f.code) _ (λ f b after call. search rules) _ _ c.retain.ensures.filtered in
-    rw kept (asked_of_stage check c.args.stage found (c.in_ok-faults.ensures.faults bag facts other (reads_more options.depth c.args.stage reach)))
+    let kept : c.retain.new.self.items ≡ filter (λ f. asks options f.code) found =
+    filter_same _ (λ f. asks options f.code) _ (λ f b after call. search rules) _ _ c.retain.ensures.filtered in
+    rw kept (asked_of_stage check c.args.stage found
+    (c.in_ok-faults.ensures.faults bag facts other (reads_more options.depth c.args.stage reach)))

@@ -3,8 +3,11 @@ use Rattle.bag_stages.proofs.completeness.clashes_asked.Goals as goal
 
 pub returns-then-is_asked : goal.returns-then-is_asked
 returns-then-is_asked c = IfOk-weaker c.clash_faults.result _ _
-    (λ faults list bag facts deep. same_members fault_cmp _ _ faults.items (λ f h. (h, c.if-is_asked.true)) (λ f h. h.0) (list bag facts deep))
+    (λ faults list bag facts deep.
+    same_members fault_cmp _ _ faults.items (λ f h. (h, c.if-is_asked.true)) (λ f h. h.0) (list bag facts deep))
     c.clash_faults.ensures
 
 pub returns-else-is_asked : goal.returns-else-is_asked
-returns-else-is_asked c = λ bag facts deep. rw c.new.ensures.items (nothing_listed fault_cmp _ (λ f h. let clash : false ≡ true = sym c.if-is_asked.false ∙ h.1 in cc))
+returns-else-is_asked c = λ bag facts deep.
+    rw c.new.ensures.items
+    (nothing_listed fault_cmp _ (λ f h. let clash : false ≡ true = sym c.if-is_asked.false ∙ h.1 in cc))

@@ -6,7 +6,8 @@ use Rattle.bag_stages.proofs.declaration.declaration_faults.Goals as goal
 pub returns-in-Some : goal.returns-in-Some
 returns-in-Some c = IfOk-weaker c.faults_in_file.result _ _
     (λ all e bag facts.
-    let read = read_bytes IsDeclarationOf (file bag bagit_txt) c.in-Some.declaration.now (c.in-Some.ensures bag facts) in
+    let read =
+    read_bytes IsDeclarationOf (file bag bagit_txt) c.in-Some.declaration.now (c.in-Some.ensures bag facts) in
     let is = rw (c.as_slice.ensures, c.in_ok-path.ensures) at e in
     rw is (declared_listed bag read.0 c.in-Some.declaration.now.faults read.1 read.2.faults))
     c.faults_in_file.ensures

@@ -6,15 +6,25 @@ use Rattle.bag_stages.proofs.expected.expected_by.Goals as goal
 pub returns-in_default : goal.returns-in_default
 returns-in_default c = λ bag facts deep.
     let are = c.entries.ensures.entries bag facts deep in
-    not_named bag c.args.path.now c.args.kind c.args.alg c.entries.result.now are (c.in_default.ensures (listed bag c.args.path.now c.args.kind c.args.alg _ are).ascending)
+    not_named bag c.args.path.now c.args.kind c.args.alg c.entries.result.now are
+    (c.in_default.ensures (listed bag c.args.path.now c.args.kind c.args.alg _ are).ascending)
 
 pub returns : goal.returns
 returns c = λ bag facts deep.
-    let all = listed bag c.args.path.now c.args.kind c.args.alg c.entries.result.now (c.entries.ensures.entries bag facts deep) in
+    let all =
+    listed bag c.args.path.now c.args.kind c.args.alg c.entries.result.now
+    (c.entries.ensures.entries bag facts deep) in
     let found = c.in-Some.ensures all.ascending in
     let entry = c.in-Some.entry.now in
     let inside = (all.members entry).0 found.0 in
-    let copied : c.new-digest.result ≡ c.bytes.result.now = c.new-digest.ensures ∙ all_bytes bag c.args.kind c.args.alg entry inside c.bytes.result.now c.bytes.ensures in (
+    let copied : c.new-digest.result ≡ c.bytes.result.now =
+    c.new-digest.ensures ∙ all_bytes bag c.args.kind c.args.alg entry inside c.bytes.result.now c.bytes.ensures in (
       refl,
-      record { entry = entry; listed = inside; path_is = found.1; digest_is = sym c.bytes.ensures ∙ ap encode_lower (sym copied) },
+      record {
+        entry = entry;
+        listed = inside;
+        path_is = found.1;
+        digest_is = sym c.bytes.ensures
+            ∙ ap encode_lower (sym copied);
+      },
     )

@@ -3,4 +3,5 @@ use Rattle.bag_stages.proofs.SumFaults.{AreGivenBy}
 use Rattle.bag_stages.proofs.expected.expected_of.Given as goal
 
 abbrev pub invariant-loop-alg : goal.invariant-loop-alg
-invariant-loop-alg l = OfBag l.facts (λ bag. AreGivenBy bag l.path l.kind (take l.alg-index l.alg-items) l.expected.items)
+invariant-loop-alg l = OfBag l.facts (λ bag.
+    AreGivenBy bag l.path l.kind (take l.alg-index l.alg-items) l.expected.items)

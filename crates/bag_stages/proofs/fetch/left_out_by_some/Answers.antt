@@ -9,10 +9,12 @@ loop-alg-init c = λ bag facts deep at fetched. rw c.new-faults.ensures.items (n
 pub loop-alg-preserved : goal.loop-alg-preserved
 loop-alg-preserved c = λ bag facts deep at fetched.
     rw c.in_ok-append.ensures.items
-    (next_alg_listed (IsFetchLeftOutByOne bag) (less_not_in bag) c.loop-alg.alg-index Md5 c.loop-alg.faults.items c.in_ok-of_alg.of_alg.items c.loop-alg-test.true
+    (next_alg_listed (IsFetchLeftOutByOne bag) (less_not_in bag) c.loop-alg.alg-index Md5 c.loop-alg.faults.items
+    c.in_ok-of_alg.of_alg.items c.loop-alg-test.true
     (c.loop-alg.invariant bag facts deep at fetched)
     (c.in_ok-of_alg.ensures bag facts deep at fetched))
 
 pub returns : goal.returns
 returns c = λ bag facts deep at fetched.
-    all_algs_listed (IsFetchLeftOutByOne bag) (less_not_in bag) c.loop-alg.alg-index c.loop-alg.faults.items c.loop-alg-test.false (c.loop-alg.invariant bag facts deep at fetched)
+    all_algs_listed (IsFetchLeftOutByOne bag) (less_not_in bag) c.loop-alg.alg-index c.loop-alg.faults.items
+    c.loop-alg-test.false (c.loop-alg.invariant bag facts deep at fetched)

@@ -6,4 +6,6 @@ use Rattle.bag_stages.proofs.left_out.named_by_none_among.Given as goal
 abbrev pub invariant-loop-entry : goal.invariant-loop-entry
 invariant-loop-entry l =
     OfBag l.facts (λ bag.
-    IsListOf fault_cmp (OfSome (WrongAt PayloadFileNotListed None (IsPathNamedByNone bag) (λ e. e.path)) (take l.entry-index l.entry-items)) l.faults.items)
+    IsListOf fault_cmp
+    (OfSome (WrongAt PayloadFileNotListed None (IsPathNamedByNone bag) (λ e. e.path))
+    (take l.entry-index l.entry-items)) l.faults.items)

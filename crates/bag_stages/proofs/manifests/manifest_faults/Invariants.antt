@@ -4,4 +4,5 @@ use Rattle.bag_stages.proofs.ManifestFaults.{OfTag}
 use Rattle.bag_stages.proofs.manifests.manifest_faults.Given as goal
 
 abbrev pub invariant-loop-tag : goal.invariant-loop-tag
-invariant-loop-tag l = (bag : Bag) → IsFactsOf bag l.facts → IsListOf fault_cmp (OfSome (OfTag bag) (take l.tag-index l.tag-items)) l.faults.items
+invariant-loop-tag l = (bag : Bag) → IsFactsOf bag l.facts
+    → IsListOf fault_cmp (OfSome (OfTag bag) (take l.tag-index l.tag-items)) l.faults.items

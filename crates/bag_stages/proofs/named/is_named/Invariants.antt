@@ -2,4 +2,5 @@ use Rattle.bag_stages.proofs.Common.{Alg, Payload, Contains, OfBag, Names, algs,
 use Rattle.bag_stages.proofs.named.is_named.Given as goal
 
 abbrev pub invariant-loop-alg : goal.invariant-loop-alg
-invariant-loop-alg l = OfBag l.facts (λ bag. (alg : Alg) → Contains (take l.alg-index algs) alg → ¬ (Names bag Payload alg l.path))
+invariant-loop-alg l = OfBag l.facts (λ bag.
+    (alg : Alg) → Contains (take l.alg-index algs) alg → ¬ (Names bag Payload alg l.path))

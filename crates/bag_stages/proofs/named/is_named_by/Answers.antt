@@ -6,7 +6,16 @@ pub returns-in-Some : goal.returns-in-Some
 returns-in-Some c = λ bag facts deep.
     let read = c.in-Some.ensures bag facts deep in
     let m = c.in-Some.manifest.now in
-    grind (arith, c.names.ensures (by_path bag Payload c.args.alg m read), entry_names bag Payload c.args.alg m read c.args.path.now, names_entry bag Payload c.args.alg m read c.args.path.now)
+    grind (
+      arith,
+      c.names.ensures (by_path bag Payload c.args.alg m read),
+      entry_names bag Payload c.args.alg m read c.args.path.now,
+      names_entry bag Payload c.args.alg m read c.args.path.now,
+    )
 
 pub returns-in-None : goal.returns-in-None
-returns-in-None c = λ bag facts deep. (λ yes. cc, λ named. absurd (names_nothing bag Payload c.args.alg (c.in-None.ensures bag facts deep) c.args.path.now named))
+returns-in-None c = λ bag facts deep. (
+  λ yes. cc,
+  λ named.
+      absurd (names_nothing bag Payload c.args.alg (c.in-None.ensures bag facts deep) c.args.path.now named),
+)

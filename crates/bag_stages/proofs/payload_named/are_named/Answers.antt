@@ -7,14 +7,16 @@ loop-file-init c = refl
 
 pub loop-file-preserved : goal.loop-file-preserved
 loop-file-preserved c =
-    before_next (entry_paths c.args.entries.now) (entry_paths c.loop-file.rest.now) c.args.files.now c.loop-file.file-index c.file-item.result
+    before_next (entry_paths c.args.entries.now) (entry_paths c.loop-file.rest.now) c.args.files.now
+    c.loop-file.file-index c.file-item.result
     c.loop-file-test.true c.file-item.is (entry_paths c.in-Some.after.now) c.loop-file.invariant c.in-Some.ensures
 
 pub returns-in_default : goal.returns-in_default
 returns-in_default c =
     grind (
       arith,
-      others_there (entry_paths c.args.entries.now) (entry_paths c.loop-file.rest.now) c.args.files.now c.loop-file.file-index c.file-item.result
+      others_there (entry_paths c.args.entries.now) (entry_paths c.loop-file.rest.now) c.args.files.now
+          c.loop-file.file-index c.file-item.result
           c.loop-file-test.true c.file-item.is c.loop-file.invariant c.in_default.ensures,
     )
 

@@ -5,10 +5,14 @@ use Rattle.bag_stages.proofs.payload_named.faults_of.Goals as goal
 
 pub returns-then-is_exact : goal.returns-then-is_exact
 returns-then-is_exact c = λ bag facts deep.
-    rw c.new.ensures.items (once_listed _ [] (nothing_listed fault_cmp _ (nothing_wrong bag c.args.alg ((c.is_exact.ensures bag facts deep).0 c.if-is_exact.true).1)))
+    rw c.new.ensures.items
+    (once_listed _ []
+    (nothing_listed fault_cmp _
+    (nothing_wrong bag c.args.alg ((c.is_exact.ensures bag facts deep).0 c.if-is_exact.true).1)))
 
 pub returns : goal.returns
 returns c = λ bag facts deep.
     rw c.in_ok-append.ensures.items
     (both_once _ _ c.in_ok-faults.faults.items c.in_ok-of_files.of_files.items (apart bag c.args.alg)
-    (once_listed _ c.in_ok-faults.faults.items (c.in_ok-faults.ensures bag facts deep)) (once_listed _ c.in_ok-of_files.of_files.items (c.in_ok-of_files.ensures bag facts deep)))
+    (once_listed _ c.in_ok-faults.faults.items (c.in_ok-faults.ensures bag facts deep))
+    (once_listed _ c.in_ok-of_files.of_files.items (c.in_ok-of_files.ensures bag facts deep)))

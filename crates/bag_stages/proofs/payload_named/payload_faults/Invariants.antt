@@ -3,4 +3,5 @@ use Rattle.bag_stages.proofs.ByItem.{OfSome}
 use Rattle.bag_stages.proofs.payload_named.payload_faults.Given as goal
 
 abbrev pub invariant-loop-alg : goal.invariant-loop-alg
-invariant-loop-alg l = OfBag l.facts (λ bag. HasEachOnce (OfSome (IsWrong bag) (take l.alg-index l.alg-items)) l.faults.items)
+invariant-loop-alg l = OfBag l.facts (λ bag.
+    HasEachOnce (OfSome (IsWrong bag) (take l.alg-index l.alg-items)) l.faults.items)

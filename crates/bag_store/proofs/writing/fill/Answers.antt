@@ -17,11 +17,14 @@ returns-in-Ok-sync_file-clause-failures g c = grind (arith, counted_since)
 
 pub returns-in-Err-sync_file-clause-asked : goal.returns-in-Err-sync_file-clause-asked
 returns-in-Err-sync_file-clause-asked g c = λ path at noted.
-    some_pieces path c.args.bytes.now (g.D.Disk.state c.args.disk.now).trail (g.D.Disk.state c.write_all.new.disk).trail (g.D.Disk.state c.sync_file.new.disk).trail
+    some_pieces path c.args.bytes.now (g.D.Disk.state c.args.disk.now).trail (g.D.Disk.state c.write_all.new.disk).trail
+    (g.D.Disk.state c.sync_file.new.disk).trail
     (c.in-Ok.ensures.asked path at noted) c.in-Err-sync_file.ensures.same.trail
 
 pub returns-in-Ok-sync_file-clause-asked : goal.returns-in-Ok-sync_file-clause-asked
 returns-in-Ok-sync_file-clause-asked g c = λ path at.
-    file_filled path c.args.bytes.now (g.D.Disk.state c.args.disk.now) (g.D.Disk.state c.write_all.new.disk) (g.D.Disk.state c.sync_file.new.disk) (g.D.Disk.state c.sync_names.new.disk) c.sync_names.result
-    (c.in-Ok.ensures.asked path at) c.in-Ok.ensures.whole.noted c.in-Ok-sync_file.ensures.closed.noted (λ noted. c.in-Ok-sync_file.ensures.noted noted path (c.in-Ok.ensures.same_file ∙ at))
+    file_filled path c.args.bytes.now (g.D.Disk.state c.args.disk.now) (g.D.Disk.state c.write_all.new.disk)
+    (g.D.Disk.state c.sync_file.new.disk) (g.D.Disk.state c.sync_names.new.disk) c.sync_names.result
+    (c.in-Ok.ensures.asked path at) c.in-Ok.ensures.whole.noted c.in-Ok-sync_file.ensures.closed.noted (λ noted.
+    c.in-Ok-sync_file.ensures.noted noted path (c.in-Ok.ensures.same_file ∙ at))
     c.sync_names.ensures.noted c.sync_names.ensures.same

@@ -1,6 +1,6 @@
-use Rattle.bag_tags.proofs.Common.{◌≡◌, take, texts_of}
+use Rattle.bag_tags.proofs.Common.{◌≡◌, take, lent_texts}
 use Rattle.bag_tags.specs.Entry as spec
 use Rattle.bag_tags.proofs.distinct.paths.Given as goal
 
 abbrev pub invariant-loop-entry : goal.invariant-loop-entry
-invariant-loop-entry l = texts_of l.paths.items ≡ spec.paths (take l.entry-index l.entries)
+invariant-loop-entry l = lent_texts l.paths.items ≡ spec.paths (take l.entry-index l.entries)

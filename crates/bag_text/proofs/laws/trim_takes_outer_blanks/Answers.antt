@@ -1,4 +1,8 @@
-use Rattle.bag_text.proofs.Common.{Bool, List, [], ap, append_assoc, arith, drop, false, length, refl, reverse, suc, sym, take, true, ℕ, ◌++◌, ◌+◌, ◌-◌, ◌∙◌, ◌∷◌, ◌≡◌, take-append_seam, and_parts, length-drop, length-reverse, reverse-append, reverse-reverse, take-append-drop, list_all-append, list_all, prefix_len, suffix_len, is_blank, without_leading_blanks, without_trailing_blanks}
+use Rattle.bag_text.proofs.Common.{Bool, List, [], ap, append_assoc, arith, drop, false, length, refl, reverse, suc}
+use Rattle.bag_text.proofs.Common.{sym, take, true, ℕ, ◌++◌, ◌+◌, ◌-◌, ◌∙◌, ◌∷◌, ◌≡◌, take-append_seam, and_parts}
+use Rattle.bag_text.proofs.Common.{length-drop, length-reverse, reverse-append, reverse-reverse, take-append-drop}
+use Rattle.bag_text.proofs.Common.{list_all-append, list_all, prefix_len, suffix_len, is_blank, without_leading_blanks}
+use Rattle.bag_text.proofs.Common.{without_trailing_blanks}
 use Rattle.bag_text.specs.Trim.{BeginsWithNoBlank}
 use Rattle.bag_text.proofs.laws.trim_takes_outer_blanks.Goals as goal
 
@@ -8,9 +12,11 @@ module _ (p : ℕ → Bool) where
   -- the characters at the front that pass a test
   front_passes : (t : List ℕ) → list_all p (take (prefix_len p t) t) ≡ true
   front_passes [] = refl
-  front_passes (c ∷ t) = let before = front_passes t in let on : suc (prefix_len p t) ≡ 1 + prefix_len p t = omega arith in grind (arith, p)
+  front_passes (c ∷ t) =
+      let before =
+      front_passes t in let on : suc (prefix_len p t) ≡ 1 + prefix_len p t = omega arith in grind (arith, p)
 
-  -- the first character behind them doesn't
+  -- the first character after them doesn't
   abbrev StopsAt : List ℕ → Type 0
   StopsAt t = (c : ℕ) (more : List ℕ) → t ≡ c ∷ more → p c ≡ false
 
@@ -49,7 +55,8 @@ module _ (p : ℕ → Bool) where
 
     last_stops : (front : List ℕ) (c : ℕ) → kept ≡ front ++ c ∷ [] → p c ≡ false
     last_stops front c is =
-        rest_stops (reverse t) c (reverse front) (sym (reverse-reverse (drop (suffix_len p t) (reverse t))) ∙ ap reverse is ∙ reverse-append front (c ∷ []))
+        rest_stops (reverse t) c (reverse front)
+        (sym (reverse-reverse (drop (suffix_len p t) (reverse t))) ∙ ap reverse is ∙ reverse-append front (c ∷ []))
 
 pub returns : goal.returns
 returns c t =
@@ -58,6 +65,16 @@ returns c t =
     let left = kept is_blank u in
     let back = gone is_blank u in
     let same : without_trailing_blanks u ≡ left = kept_is is_blank u in
-    let whole : t ≡ front ++ left ++ back = sym (take-append-drop (prefix_len is_blank t) t) ∙ ap (λ s. front ++ s) (cut is_blank u) ∙ sym (append_assoc front left back) in
-    let begins : BeginsWithNoBlank left = λ c more is. rest_stops is_blank t c (more ++ back) (cut is_blank u ∙ ap (λ s. s ++ back) is) in
-    (front, back, rw same whole, front_passes is_blank t, gone_passes is_blank u, rw same begins, rw same (last_stops is_blank u))
+    let whole : t ≡ front ++ left ++ back =
+    sym (take-append-drop (prefix_len is_blank t) t) ∙ ap (λ s. front ++ s) (cut is_blank u)
+    ∙ sym (append_assoc front left back) in
+    let begins : BeginsWithNoBlank left = λ c more is.
+    rest_stops is_blank t c (more ++ back) (cut is_blank u ∙ ap (λ s. s ++ back) is) in (
+      front,
+      back,
+      rw same whole,
+      front_passes is_blank t,
+      gone_passes is_blank u,
+      rw same begins,
+      rw same (last_stops is_blank u),
+    )

@@ -9,5 +9,7 @@ loop-end-preserved c =
     let none = rw size at (sym c.has_neither.ensures ∙ c.if-has_neither.true) in
     record {
       within = within;
-      nowhere = block_fails (is_byte2 c.args.a c.args.b) c.args.bytes.now c.loop-end.end 32 within c.loop-end.invariant.nowhere none;
+      nowhere =
+          block_fails (is_byte2 c.args.a c.args.b) c.args.bytes.now c.loop-end.end 32 within
+          c.loop-end.invariant.nowhere none;
     }

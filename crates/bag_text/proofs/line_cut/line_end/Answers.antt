@@ -6,4 +6,7 @@ pub returns : goal.returns
 returns c =
     let bytes = c.args.bytes.now in
     let found = c.first_of_two in
-    record { found = first_byte is_line_end bytes found.result found.ensures; none = no_byte is_line_end bytes found.result found.ensures }
+    record {
+      found = first_byte is_line_end bytes found.result found.ensures;
+      none = no_byte is_line_end bytes found.result found.ensures;
+    }

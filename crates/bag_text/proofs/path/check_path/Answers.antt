@@ -14,10 +14,15 @@ loop-byte-preserved c =
     let within : place < length text = rw c.as_bytes-byte-items.ensures.value at c.loop-byte-test.true in
     elim c.if-byte-ne-SLASH.branch [
       | then-byte-ne-SLASH w ↦ (
-          let other = not_slash (get_or text place 0) (rw c.as_bytes-byte-items.ensures.value at w.if-byte-ne-SLASH.true) in
+          let other =
+          not_slash (get_or text place 0) (rw c.as_bytes-byte-items.ensures.value at w.if-byte-ne-SLASH.true) in
           let made = rw c.as_bytes-byte-items.ensures.value at w.with-part.ensures in
-          subst (λ (x : Part). IsReadTo x text (place + 1)) (sym (w.part-is ∙ made)) (read_byte c.loop-byte.part text place within other c.loop-byte.invariant))
+          subst (λ (x : Part). IsReadTo x text (place + 1)) (sym (w.part-is ∙ made))
+          (read_byte c.loop-byte.part text place within other c.loop-byte.invariant))
       | else-byte-ne-SLASH+then-is_name w ↦ (
-          let slash : is_slash (get_or text place 0) ≡ true = ap is_slash (rw c.as_bytes-byte-items.ensures.value at w.if-byte-ne-SLASH.false) in
-          subst (λ (x : Part). IsReadTo x text (place + 1)) (sym w.part-is) (read_slash c.loop-byte.part text place within slash (sym w.is_name.ensures ∙ w.if-is_name.true) c.loop-byte.invariant))
+          let slash : is_slash (get_or text place 0) ≡ true =
+          ap is_slash (rw c.as_bytes-byte-items.ensures.value at w.if-byte-ne-SLASH.false) in
+          subst (λ (x : Part). IsReadTo x text (place + 1)) (sym w.part-is)
+          (read_slash c.loop-byte.part text place within slash (sym w.is_name.ensures ∙ w.if-is_name.true)
+          c.loop-byte.invariant))
     ]

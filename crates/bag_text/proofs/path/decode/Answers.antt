@@ -1,21 +1,26 @@
-use Rattle.bag_text.proofs.Common.{◌≡◌, ◌++◌, ◌∷◌, [], ap, ◌∙◌, lit<, rules, string_bytes, encode_utf8, encode_ascii, split_parts}
+use Rattle.bag_text.proofs.Common.{◌≡◌, ◌++◌, ◌∷◌, [], ap, ◌∙◌, lit<, rules, string_bytes, encode_utf8, encode_ascii}
+use Rattle.bag_text.proofs.Common.{split_parts}
 use Rattle.bag_text.proofs.Spellings.{read_none, read_escape, read_all}
 use Rattle.bag_text.proofs.path.decode.Goals as goal
 
 pub unreachable-requires : goal.unreachable-requires
 unreachable-requires c =
     let parts = rw c.in-Some.is at (split_parts 37 _ _ c.split_once.ensures.cases (lit< tt)) in
-    c.requires (read_none c.args.text.now _ _ _ _ c.loop-plain.invariant.read parts.0 parts.1 c.in_default-escaped_char.ensures.value)
+    c.requires (read_none c.args.text.now _ _ _ _ c.loop-plain.invariant.read parts.0 parts.1
+    c.in_default-escaped_char.ensures.value)
 
 pub loop-plain-preserved : goal.loop-plain-preserved
 loop-plain-preserved c =
     let parts = rw c.in-Some.is at (split_parts 37 _ _ c.split_once.ensures.cases (lit< tt)) in
     let one = encode_ascii c.in-Some-escaped_char.c c.in-Some-escaped_char.ensures.ascii in
     let now : string_bytes c.push.new.self ≡ (string_bytes c.loop-plain.path ++ c.in-Some.plain.now) ++ c.in-Some-escaped_char.c ∷ [] =
-    c.in_ok-push.ensures.bytes ∙ ap (λ x. x ++ encode_utf8 c.in-Some-escaped_char.c) c.in_ok-push_str.ensures.bytes ∙ ap (λ x. (string_bytes c.loop-plain.path ++ c.in-Some.plain.now) ++ x) one in
+    c.in_ok-push.ensures.bytes ∙ ap (λ x. x ++ encode_utf8 c.in-Some-escaped_char.c) c.in_ok-push_str.ensures.bytes
+    ∙ ap (λ x. (string_bytes c.loop-plain.path ++ c.in-Some.plain.now) ++ x) one in
     record {
       utf8 = search rules;
-      read = read_escape c.args.text.now _ _ _ _ c.in-Some-escaped_char.more.now _ _ c.loop-plain.invariant.read parts.0 parts.1 c.in-Some-escaped_char.ensures.value now;
+      read =
+          read_escape c.args.text.now _ _ _ _ c.in-Some-escaped_char.more.now _ _ c.loop-plain.invariant.read parts.0
+          parts.1 c.in-Some-escaped_char.ensures.value now;
     }
 
 pub returns : goal.returns

@@ -8,7 +8,7 @@ loop-count-preserved g c =
     let before = c.loop-count.invariant in
     record {
       keeps = search rules;
-      calm = c.in_ok-count.ensures.calm ∙ before.calm;
+      no_failure = c.in_ok-count.ensures.no_failure ∙ before.no_failure;
       opened = c.read.ensures.openings ∙ before.opened;
       file_open = c.in_ok-count.ensures.file_open.1;
       given = omega (arith, c.in_ok-count.ensures.given, before.given, c.if-left-count.false);
@@ -16,7 +16,8 @@ loop-count-preserved g c =
         front = before.taken.front ++ take c.in_ok-count.count c.read.new.buffer;
         size = grind (arith, common_steps);
         taken = c.update.ensures _ before.taken.front before.taken.taken;
-        honest = λ h. read_more _ _ _ _ _ _ (before.taken.honest h) (c.in_ok-count.ensures.honest (still before.keeps h));
+        honest =
+            λ h. read_more _ _ _ _ _ _ (before.taken.honest h) (c.in_ok-count.ensures.honest (still before.keeps h));
       };
     }
 
@@ -28,7 +29,9 @@ returns-then-left-eq0-clause-sums g c =
       bytes = before.taken.taken.bytes;
       size = omega (arith, before.taken.size, c.if-left-eq0.true);
       sums_of = c.finish.ensures _ before.taken.front before.taken.taken;
-      honest = λ h. read_all _ _ _ _ _ (before.taken.honest h) (rw c.if-count-eq0.true at (c.in_ok-count.ensures.honest (still before.keeps h)));
+      honest =
+          λ h. read_all _ _ _ _ _ (before.taken.honest h)
+          (rw c.if-count-eq0.true at (c.in_ok-count.ensures.honest (still before.keeps h)));
     }
 
 pub returns-in_err-count-clause-opens : goal.returns-in_err-count-clause-opens
@@ -54,7 +57,8 @@ returns-then-left-count-clause-refused g c =
         omega (arith, c.in_ok-count.ensures.given, before.given, c.if-left-count.true),
       ),
       λ h.
-          longer_than _ _ _ _ _ _ _ (before.taken.honest h) (c.in_ok-count.ensures.honest (still before.keeps h)) (omega (arith, before.taken.size, c.if-left-count.true)),
+          longer_than _ _ _ _ _ _ _ (before.taken.honest h) (c.in_ok-count.ensures.honest (still before.keeps h))
+          (omega (arith, before.taken.size, c.if-left-count.true)),
     )
 
 pub returns-else-left-eq0-clause-refused : goal.returns-else-left-eq0-clause-refused
@@ -65,7 +69,9 @@ returns-else-left-eq0-clause-refused g c =
         omega (arith, c.in_ok-count.ensures.given, c.if-count-eq0.true, before.given, c.if-left-eq0.false),
       ),
       λ h.
-          ended_after _ _ _ _ _ _ (before.taken.honest h) (rw c.if-count-eq0.true at (c.in_ok-count.ensures.honest (still before.keeps h))) (omega (arith, before.taken.size, c.if-left-eq0.false)),
+          ended_after _ _ _ _ _ _ (before.taken.honest h)
+          (rw c.if-count-eq0.true at (c.in_ok-count.ensures.honest (still before.keeps h)))
+          (omega (arith, before.taken.size, c.if-left-eq0.false)),
     )
 
 pub returns-then-left-count-clause-answered : goal.returns-then-left-count-clause-answered
@@ -75,15 +81,23 @@ pub returns-else-left-eq0-clause-answered : goal.returns-else-left-eq0-clause-an
 returns-else-left-eq0-clause-answered g c = λ other. absurd (other refl)
 
 pub returns-in_err-count-clause-refused_at : goal.returns-in_err-count-clause-refused_at
-returns-in_err-count-clause-refused_at g c = on_error c.from_residual-in_err-count.result _ (inr (ap is_some c.in_err-count.ensures.same ∙ c.loop-count.invariant.file_open, c.read.ensures.openings ∙ c.loop-count.invariant.opened))
+returns-in_err-count-clause-refused_at g c = on_error c.from_residual-in_err-count.result _
+    (inr (
+      ap is_some c.in_err-count.ensures.same ∙ c.loop-count.invariant.file_open,
+      c.read.ensures.openings
+          ∙ c.loop-count.invariant.opened,
+    ))
 
 pub returns-then-left-count-clause-refused_at : goal.returns-then-left-count-clause-refused_at
-returns-then-left-count-clause-refused_at g c = inr (c.in_ok-count.ensures.file_open.1, c.read.ensures.openings ∙ c.loop-count.invariant.opened)
+returns-then-left-count-clause-refused_at g c = inr
+    (c.in_ok-count.ensures.file_open.1, c.read.ensures.openings ∙ c.loop-count.invariant.opened)
 
 pub returns-else-left-eq0-clause-refused_at : goal.returns-else-left-eq0-clause-refused_at
-returns-else-left-eq0-clause-refused_at g c = inr (c.in_ok-count.ensures.file_open.1, c.read.ensures.openings ∙ c.loop-count.invariant.opened)
+returns-else-left-eq0-clause-refused_at g c = inr
+    (c.in_ok-count.ensures.file_open.1, c.read.ensures.openings ∙ c.loop-count.invariant.opened)
 
-pub returns-then-left-eq0-clause-calm : goal.returns-then-left-eq0-clause-calm
-returns-then-left-eq0-clause-calm g c =
+pub returns-then-left-eq0-clause-no_failure : goal.returns-then-left-eq0-clause-no_failure
+returns-then-left-eq0-clause-no_failure g c =
     let state = g.T.Tree.state in
-    nothing_read (state c.args.tree.now) (state c.read.new.self) c.in_ok-count.count (c.in_ok-count.ensures.calm ∙ c.loop-count.invariant.calm) c.in_ok-count.ensures.last
+    nothing_read (state c.args.tree.now) (state c.read.new.self) c.in_ok-count.count
+    (c.in_ok-count.ensures.no_failure ∙ c.loop-count.invariant.no_failure) c.in_ok-count.ensures.last

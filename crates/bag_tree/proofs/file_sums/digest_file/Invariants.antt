@@ -7,7 +7,7 @@ invariant-loop-count g l =
     let state = g.T.Tree.state in
     record {
       keeps : Keeps (state l.fn.tree) (state l.tree);
-      calm : (state l.tree).failures ≡ (state l.fn.tree).failures;
+      no_failure : (state l.tree).failures ≡ (state l.fn.tree).failures;
       opened : (state l.tree).openings ≡ (state l.fn.tree).openings ++ l.entry.path ∷ [];
       file_open : HasOpen (state l.tree);
       given : (state l.tree).given + l.left ≡ l.entry.size;

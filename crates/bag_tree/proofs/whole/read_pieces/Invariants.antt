@@ -6,12 +6,13 @@ invariant-loop-bytes g l =
     let state = g.T.Tree.state in
     record {
       keeps : Keeps (state l.fn.tree) (state l.tree);
-      calm : (state l.tree).failures ≡ (state l.fn.tree).failures;
+      no_failure : (state l.tree).failures ≡ (state l.fn.tree).failures;
       opened : (state l.tree).openings ≡ (state l.fn.tree).openings ++ l.entry.path ∷ [];
       file_open : HasOpen (state l.tree);
       given : (state l.tree).given ≡ vec_len l.bytes;
       within : vec_len l.bytes ≤ l.entry.size;
-      honest : IsTrue (state l.fn.tree).honest → HasRead (file (state l.fn.tree).bag l.entry.path) l.bytes.items (state l.tree).rest;
+      honest : IsTrue (state l.fn.tree).honest
+          → HasRead (file (state l.fn.tree).bag l.entry.path) l.bytes.items (state l.tree).rest;
     }
 
 abbrev pub decreases-loop-bytes : goal.decreases-loop-bytes

@@ -8,4 +8,8 @@ loop-piece-preserved g c = grind (arith, taken_piece)
 pub returns-in_err-put_all : goal.returns-in_err-put_all
 returns-in_err-put_all g c =
     let p = err_from_is_err_and c.from_residual.result c.from_residual.ensures.1 in
-    rw p.1 (cut_piece _ _ _ _ _ c.in-Some.piece.now _ c.loop-piece.invariant c.in-Some.ensures.steps (rw c.as_bytes.ensures.value at c.in_err-put_all.ensures.0), c.in_err-put_all.ensures.1)
+    rw p.1 (
+      cut_piece _ _ _ _ _ c.in-Some.piece.now _ c.loop-piece.invariant c.in-Some.ensures.steps
+          (rw c.as_bytes.ensures.value at c.in_err-put_all.ensures.0),
+      c.in_err-put_all.ensures.1,
+    )

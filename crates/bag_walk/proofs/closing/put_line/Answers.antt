@@ -8,4 +8,6 @@ returns-in_err-put_field g c =
     rw p.1 (IsCut-append _ _ _ _ c.in_err-put_field.ensures.0, c.in_err-put_field.ensures.1)
 
 pub returns : goal.returns
-returns g c = writes_after (g.W.Out.state c.args.out.now) (g.W.Out.state c.put_field.new.out) (g.W.Out.state c.put_pieces.new.out) _ _ _ c.put_pieces.ensures c.in_ok-put_field.ensures
+returns g c =
+    writes_after (g.W.Out.state c.args.out.now) (g.W.Out.state c.put_field.new.out) (g.W.Out.state c.put_pieces.new.out)
+    _ _ _ c.put_pieces.ensures c.in_ok-put_field.ensures

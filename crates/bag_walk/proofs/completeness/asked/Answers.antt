@@ -8,4 +8,5 @@ pub returns-then-has_stage-clause-none : goal.returns-then-has_stage-clause-none
 returns-then-has_stage-clause-none c = grind arith
 
 pub returns-else-has_stage-clause-sought : goal.returns-else-has_stage-clause-sought
-returns-else-has_stage-clause-sought c = λ bag facts reach. let clash : false ≡ true = sym c.if-has_stage.false ∙ c.has_stage.ensures ∙ reach in cc
+returns-else-has_stage-clause-sought c = λ bag facts reach.
+    let clash : false ≡ true = sym c.if-has_stage.false ∙ c.has_stage.ensures ∙ reach in cc

@@ -9,5 +9,6 @@ returns c = IfOk-weaker c.merged.result _ _
     let after = option_copied c.args.after in
     let algs = c.in_ok-of_algs.ensures bag facts deep in
     let all = cut_above after (IsV097LeftOutByAll bag) _ (c.in_ok-left_out_by_all.ensures bag facts deep) in
-    rw (is algs.ascending (rw c.above-of_all.ensures all.ascending), c.above-of_all.ensures) (algs_and_all after bag _ _ algs all))
+    rw (is algs.ascending (rw c.above-of_all.ensures all.ascending), c.above-of_all.ensures)
+    (algs_and_all after bag _ _ algs all))
     c.merged.ensures

@@ -4,4 +4,5 @@ use Rattle.bag_walk.proofs.files.files_to_sum.Given as goal
 
 abbrev pub invariant-loop-file : goal.invariant-loop-file
 invariant-loop-file l =
-    (bag : Bag) → IsFactsOf bag l.facts → l.facts.options.depth ≡ depth_of.Full → AreToSum bag (option_copied l.after) (take l.file-index l.file-items) l.files.items
+    (bag : Bag) → IsFactsOf bag l.facts → l.facts.options.depth ≡ depth_of.Full
+    → AreToSum bag (option_copied l.after) (take l.file-index l.file-items) l.files.items

@@ -4,7 +4,8 @@ use Rattle.bag_walk.proofs.UnitedLists.{above_none}
 use Rattle.bag_walk.proofs.fixed.above.Goals as goal
 
 pub returns-in-Some : goal.returns-in-Some
-returns-in-Some c = let after = option_copied c.args.after in filter_same _ (is_above after) _ (λ f b after call. search rules) _ _ c.retain.ensures.filtered
+returns-in-Some c = let after = option_copied c.args.after
+    in filter_same _ (is_above after) _ (λ f b after call. search rules) _ _ c.retain.ensures.filtered
 
 pub returns-in_default : goal.returns-in_default
 returns-in_default c = rw c.in_default.is (above_none c.args.faults.items)

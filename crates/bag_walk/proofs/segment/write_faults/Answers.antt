@@ -1,8 +1,12 @@
-use Rattle.bag_walk.proofs.Common.{◌≡◌, ◌++◌, ◌∙◌, ◌+◌, ◌-◌, ◌∷◌, [], inl, inr, refl, sym, ap, arith, append_assoc, length-append, option_copied, nothing_asked, nothing_then, keeps_itself, keeps_on, rest_of, shown_by, to_give}
+use Rattle.bag_walk.proofs.Common.{◌≡◌, ◌++◌, ◌∙◌, ◌+◌, ◌-◌, ◌∷◌, [], inl, inr, refl, sym, ap, arith, append_assoc}
+use Rattle.bag_walk.proofs.Common.{length-append, option_copied, nothing_asked, nothing_then, keeps_itself, keeps_on}
+use Rattle.bag_walk.proofs.Common.{rest_of, shown_by, to_give}
 use Rattle.bag_walk.proofs.Writing.{Appends-nil}
 use Rattle.bag_walk.proofs.Filling.{again_on, once, opens_on}
 use Rattle.bag_walk.proofs.RunLines.{last_given}
-use Rattle.bag_walk.proofs.SegmentLines.{behind_now, ends_at_end, ends_unread, ends_unwritten, last_is, left_at, left_at_end, left_is, none_opened, one_line_more, opens_nothing, seen_now, stops_now, waits_now}
+use Rattle.bag_walk.proofs.SegmentLines.{behind_now, ends_at_end, ends_unread, ends_unwritten, last_is, left_at}
+use Rattle.bag_walk.proofs.SegmentLines.{left_at_end, left_is, none_opened, one_line_more, opens_nothing, seen_now}
+use Rattle.bag_walk.proofs.SegmentLines.{stops_now, waits_now}
 use Rattle.bag_walk.proofs.segment.write_faults.Goals as goal
 
 pub given-init : goal.given-init
@@ -10,7 +14,7 @@ given-init g c =
     let state = g.T.Tree.state c.args.walk.now.tree in
     record {
       keeps = keeps_itself state;
-      calm = nothing_asked state;
+      no_failure = nothing_asked state;
       within = omega arith;
       given = [];
       count_is = refl;
@@ -34,19 +38,26 @@ given-preserved g c =
     let line = rw (c.as_bytes.ensures.value, c.in-Ok-fill.ensures.next) at c.in_default-put_all.ensures in
     record {
       keeps = keeps_on old mid (state new.tree) has.keeps c.step.ensures.keeps;
-      calm = nothing_then old mid (state new.tree) has.calm c.in-Ok.ensures.calm;
+      no_failure = nothing_then old mid (state new.tree) has.no_failure c.in-Ok.ensures.no_failure;
       within = omega (arith, c.given-test.true);
       given = has.given ++ f ∷ [];
       count_is = length-append has.given (f ∷ []) ∙ ap (λ n. n + 1) has.count_is;
-      written_so_far = one_line_more has.given f (out c.args.out.now) (out c.given.out) (out c.put_all.new.out) has.written_so_far line;
-      last = λ rest. last_given has.given rest f c.given.written _ _ has.count_is (c.fill.ensures.fault, c.turn.ensures ∙ c.in-Ok-fill.ensures.next);
+      written_so_far =
+          one_line_more has.given f (out c.args.out.now) (out c.given.out) (out c.put_all.new.out) has.written_so_far
+          line;
+      last =
+          λ rest. last_given has.given rest f c.given.written _ _ has.count_is
+          (c.fill.ensures.fault, c.turn.ensures ∙ c.in-Ok-fill.ensures.next);
       opens = opens_on has.opens c.in-Ok.ensures.opens;
       behind = rw one_back (behind_now has (once c.in-Ok.ensures.opens) c.step.ensures.behind);
       seen = λ bag h sees.
           let next = seen_now has _ c.in-Ok.ensures.next bag h sees in
-          let rest = rest_of (to_give (shown_by c.given.walk.is_shown (g.S.Source.found c.given.walk.source)) (g.S.Source.remaining bag c.given.walk.source)) in (
+          let rest =
+          rest_of (to_give (shown_by c.given.walk.is_shown (g.S.Source.found c.given.walk.source))
+          (g.S.Source.remaining bag c.given.walk.source)) in (
             next.0,
-            left_at has bag h sees (shown_by new.is_shown (g.S.Source.found new.source)) next.1.0 f (sym c.shown.ensures ∙ ap option_copied c.in-Some.is)
+            left_at has bag h sees (shown_by new.is_shown (g.S.Source.found new.source)) next.1.0 f
+                (sym c.shown.ensures ∙ ap option_copied c.in-Some.is)
                 ∙ sym (append_assoc has.given (f ∷ []) rest) ∙ ap (λ l. (has.given ++ f ∷ []) ++ l) (sym next.1.1),
           );
     }
@@ -58,18 +69,21 @@ returns-in-Err g c =
     let stop = c.in-Err.ensures in
     record {
       keeps = keeps_on _ _ _ has.keeps c.step.ensures.keeps;
-      calm = λ read. absurd read;
+      no_failure = λ read. absurd read;
       opens = again_on has.opens stop.again;
       behind = behind_now has stop.again c.step.ensures.behind;
       waits = waits_now has c.in-Err.stop.path stop.waits;
       seen = λ bag h sees. rw (left_is has bag h sees) (ends_unread has _ c.in-Err.stop c.given-test.true);
       last = λ bag h sees. last_is has bag h sees _ refl;
       unseen = (_, ends_unread has [] c.in-Err.stop c.given-test.true);
-      stop = stops_now has (g.T.Tree.state new.tree) (g.S.Source.todo new.source) c.in-Err.stop stop.reached stop.anyway.wanting stop.stop;
+      stop =
+          stops_now has (g.T.Tree.state new.tree) (g.S.Source.todo new.source) c.in-Err.stop stop.reached
+          stop.anyway.wanting stop.stop;
     }
 
-pub returns-in_default-clause-calm : goal.returns-in_default-clause-calm
-returns-in_default-clause-calm g c = λ read. nothing_then _ _ _ c.given.invariant.calm c.in-Ok.ensures.calm
+pub returns-in_default-clause-no_failure : goal.returns-in_default-clause-no_failure
+returns-in_default-clause-no_failure g c = λ read.
+    nothing_then _ _ _ c.given.invariant.no_failure c.in-Ok.ensures.no_failure
 
 pub returns-in_default-clause-opens : goal.returns-in_default-clause-opens
 returns-in_default-clause-opens g c = again_on c.given.invariant.opens (once c.in-Ok.ensures.opens)
@@ -82,7 +96,8 @@ returns-in_default-clause-seen g c = λ bag h sees.
     let has = c.given.invariant in
     let new = c.step.new.self in
     let next = seen_now has _ c.in-Ok.ensures.next bag h sees in
-    rw (left_at_end has bag h sees (shown_by new.is_shown (g.S.Source.found new.source)) next.1.0 (sym c.shown.ensures ∙ ap option_copied c.in_default.is))
+    rw (left_at_end has bag h sees (shown_by new.is_shown (g.S.Source.found new.source)) next.1.0
+    (sym c.shown.ensures ∙ ap option_copied c.in_default.is))
     (ends_at_end has c.given-test.true)
 
 pub returns-in_default-clause-last : goal.returns-in_default-clause-last
@@ -93,14 +108,14 @@ returns-in_default-fill g c =
     let has = c.given.invariant in
     record {
       keeps = keeps_on _ _ _ has.keeps c.step.ensures.keeps;
-      calm = λ read. absurd read;
+      no_failure = λ read. absurd read;
       opens = again_on has.opens (once c.in-Ok.ensures.opens);
       behind = behind_now has (once c.in-Ok.ensures.opens) c.step.ensures.behind;
       waits = λ bag h sees some. absurd (some c.out_of_memory.ensures.1);
       seen = λ bag h sees. rw (left_is has bag h sees) (ends_unread has _ c.out_of_memory.result c.given-test.true);
       last = λ bag h sees. last_is has bag h sees _ c.fill.ensures.last;
       unseen = (_, ends_unread has [] c.out_of_memory.result c.given-test.true);
-      stop = inl (c.out_of_memory.ensures, inr (nothing_then _ _ _ has.calm c.in-Ok.ensures.calm));
+      stop = inl (c.out_of_memory.ensures, inr (nothing_then _ _ _ has.no_failure c.in-Ok.ensures.no_failure));
     }
 
 pub returns-in-Err-put_all : goal.returns-in-Err-put_all
@@ -112,13 +127,14 @@ returns-in-Err-put_all g c =
     let refused = rw (c.as_bytes.ensures.value, c.in-Ok-fill.ensures.next) at c.in-Err-put_all.ensures in
     record {
       keeps = keeps_on _ _ _ has.keeps c.step.ensures.keeps;
-      calm = λ read. nothing_then _ _ _ has.calm c.in-Ok.ensures.calm;
+      no_failure = λ read. nothing_then _ _ _ has.no_failure c.in-Ok.ensures.no_failure;
       opens = again_on has.opens (once c.in-Ok.ensures.opens);
       behind = behind_now has (once c.in-Ok.ensures.opens) c.step.ensures.behind;
       waits = tt;
       seen = λ bag h sees.
           let next = seen_now has _ c.in-Ok.ensures.next bag h sees in
-          rw (left_at has bag h sees (shown_by new.is_shown (g.S.Source.found new.source)) next.1.0 f (sym c.shown.ensures ∙ ap option_copied c.in-Some.is))
+          rw (left_at has bag h sees (shown_by new.is_shown (g.S.Source.found new.source)) next.1.0 f
+          (sym c.shown.ensures ∙ ap option_copied c.in-Some.is))
           (ends_unwritten has f _ out c.given-test.true refused.1 refused.0);
       last = λ bag h sees. last_is has bag h sees _ c.fill.ensures.last;
       unseen = (has.given ++ f ∷ [], ends_unwritten has f [] out c.given-test.true refused.1 refused.0);

@@ -14,13 +14,14 @@ returns-clause-stop g c =
     let new = c.write_faults-segment.new.walk in
     rw c.into_tree.ensures
     (stops_segment (g.S.Source.todo walk.source) (g.S.Source.todo new.source) (state walk.tree) (state new.tree)
-    (IsTrue (state walk.tree).honest → g.S.Source.is_of (state walk.tree).bag walk.source) c.write_faults-segment.result.end c.write_faults-segment.ensures.stop)
+    (IsTrue (state walk.tree).honest → g.S.Source.is_of (state walk.tree).bag walk.source)
+    c.write_faults-segment.result.end c.write_faults-segment.ensures.stop)
 
 pub returns-clause-behind : goal.returns-clause-behind
 returns-clause-behind g c = λ bag h sees. rw c.into_tree.ensures (c.write_faults-segment.ensures.behind bag h sees)
 
-pub returns-clause-calm : goal.returns-clause-calm
-returns-clause-calm g c = rw c.into_tree.ensures c.write_faults-segment.ensures.calm
+pub returns-clause-no_failure : goal.returns-clause-no_failure
+returns-clause-no_failure g c = rw c.into_tree.ensures c.write_faults-segment.ensures.no_failure
 
 pub returns-clause-unseen : goal.returns-clause-unseen
 returns-clause-unseen g c = c.write_faults-segment.ensures.unseen

@@ -5,5 +5,7 @@ use Rattle.bag_walk.proofs.steps.stage_above.Goals as goal
 pub returns : goal.returns
 returns c = λ bag facts.
     let after = option_copied c.args.after in
-    let check : Check = record { bag = bag; profile = option_copied c.args.profile; options = c.args.facts.now.options } in
-    subst (IsStageAbove check c.args.stage after) (sym c.above.ensures) (stage_ahead check after c.args.stage _ (c.in_ok-stage_faults.ensures.faults bag facts c.requires))
+    let check : Check =
+    record { bag = bag; profile = option_copied c.args.profile; options = c.args.facts.now.options } in
+    subst (IsStageAbove check c.args.stage after) (sym c.above.ensures)
+    (stage_ahead check after c.args.stage _ (c.in_ok-stage_faults.ensures.faults bag facts c.requires))

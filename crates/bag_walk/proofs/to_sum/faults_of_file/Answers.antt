@@ -7,28 +7,36 @@ pub returns-in-Ok-faults_above-clause-faults : goal.returns-in-Ok-faults_above-c
 returns-in-Ok-faults_above-clause-faults g c = λ honest.
     let sums = c.in-Ok-digest_file.ensures.sums in
     c.in-Ok-faults_above.ensures sums.content
-    (λ one d. sums.sums_of.each one.alg (c.algs_of-algs.ensures one (subst (λ l. Contains l one) (sym c.as_slice.ensures) d)))
+    (λ one d. sums.sums_of.each one.alg
+    (c.algs_of-algs.ensures one (subst (λ l. Contains l one) (sym c.as_slice.ensures) d)))
     ∙ ap (λ o. above (option_copied c.args.after) (faults_at c.args.to_sum.now o)) (sym (sums.honest honest))
 
 pub returns-in-Err-clause-refused : goal.returns-in-Err-clause-refused
 returns-in-Err-clause-refused g c =
-    named_at (g.T.Tree.state c.args.tree.now).openings c.in-Err.cause c.args.to_sum.now.file.path (g.T.Tree.state c.digest_file.new.tree) c.refusal_of.result
+    named_at (g.T.Tree.state c.args.tree.now).openings c.in-Err.cause c.args.to_sum.now.file.path
+    (g.T.Tree.state c.digest_file.new.tree) c.refusal_of.result
     (rw c.in-Ok.ensures at c.refusal_of.ensures) c.in-Err.ensures.refused_at
 
 pub returns-in_default-clause-stop : goal.returns-in_default-clause-stop
 returns-in_default-clause-stop g c = λ rest is.
-    let memory = c.without_path in filling_of_memory memory.result (memory.ensures.cause, memory.ensures.path) (inr (nothing_asked _))
+    let memory =
+    c.without_path in filling_of_memory memory.result (memory.ensures.cause, memory.ensures.path)
+    (inr (nothing_asked _))
 
 pub returns-in_default-clause-anyway : goal.returns-in_default-clause-anyway
 returns-in_default-clause-anyway g c = λ rest.
-    let memory = c.without_path in anyway_of_memory memory.result (memory.ensures.cause, memory.ensures.path) (inr (nothing_asked _))
+    let memory =
+    c.without_path in anyway_of_memory memory.result (memory.ensures.cause, memory.ensures.path)
+    (inr (nothing_asked _))
 
 pub returns-in-Err-clause-stop : goal.returns-in-Err-clause-stop
 returns-in-Err-clause-stop g c = λ rest.
     let stop = c.in-Err.ensures in
-    filling_of_refusal c.args.to_sum.now.file rest c.in-Err.cause c.refusal_of.result stop.refused stop.answered (rw c.in-Ok.ensures at c.refusal_of.ensures)
+    filling_of_refusal c.args.to_sum.now.file rest c.in-Err.cause c.refusal_of.result stop.refused stop.answered
+    (rw c.in-Ok.ensures at c.refusal_of.ensures)
 
 pub returns-in-Err-clause-anyway : goal.returns-in-Err-clause-anyway
 returns-in-Err-clause-anyway g c = λ rest.
     let stop = c.in-Err.ensures in
-    anyway_of_refusal c.args.to_sum.now.file rest c.in-Err.cause c.refusal_of.result stop.refused stop.answered (rw c.in-Ok.ensures at c.refusal_of.ensures)
+    anyway_of_refusal c.args.to_sum.now.file rest c.in-Err.cause c.refusal_of.result stop.refused stop.answered
+    (rw c.in-Ok.ensures at c.refusal_of.ensures)

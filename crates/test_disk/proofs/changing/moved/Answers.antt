@@ -8,4 +8,5 @@ use Rattle.test_disk.proofs.changing.moved.Goals as goal
 pub returns : goal.returns
 returns c =
     let is : nodes_of c.loop-path.moved.entries ≡ with_renamed c.args.from.now c.args.to.now map.empty (entries_of c.args.nodes.now.entries) = search rules in
-    held_moved c.args.nodes.now.entries c.args.from.now c.args.to.now (nodes_of c.loop-path.moved.entries) c.iter-path-items.ensures.ordered is
+    held_moved c.args.nodes.now.entries c.args.from.now c.args.to.now (nodes_of c.loop-path.moved.entries)
+    c.iter-path-items.ensures.ordered is

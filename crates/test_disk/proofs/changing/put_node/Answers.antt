@@ -4,4 +4,5 @@ use Rattle.test_disk.proofs.HeldPut.{nodes_put}
 use Rattle.test_disk.proofs.changing.put_node.Goals as goal
 
 pub returns-clause-put : goal.returns-clause-put
-returns-clause-put c = ap nodes_of c.in_ok-insert.ensures.entries ∙ nodes_put c.args.nodes.now.entries c.args.path c.args.node
+returns-clause-put c = ap nodes_of c.in_ok-insert.ensures.entries
+    ∙ nodes_put c.args.nodes.now.entries c.args.path c.args.node

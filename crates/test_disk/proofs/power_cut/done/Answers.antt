@@ -3,15 +3,19 @@ use Rattle.test_disk.proofs.CutBags.{created_then, made_then, synced_then}
 use Rattle.test_disk.proofs.power_cut.done.Goals as goal
 
 pub returns-in-MakeFolder : goal.returns-in-MakeFolder
-returns-in-MakeFolder c = made_then c.with_folder.result c.args.disk.now c.args.event.now c.in-MakeFolder.name c.as_str.result.now c.in-MakeFolder.is c.as_str.ensures c.with_folder.ensures
+returns-in-MakeFolder c = made_then c.with_folder.result c.args.disk.now c.args.event.now c.in-MakeFolder.name
+    c.as_str.result.now c.in-MakeFolder.is c.as_str.ensures c.with_folder.ensures
 
 pub returns-in-Create : goal.returns-in-Create
-returns-in-Create c = created_then c.with_file.result c.args.disk.now c.args.event.now c.in-Create.name c.as_str-in-Create.result.now c.in-Create.is c.as_str-in-Create.ensures c.with_file.ensures
+returns-in-Create c = created_then c.with_file.result c.args.disk.now c.args.event.now c.in-Create.name
+    c.as_str-in-Create.result.now c.in-Create.is c.as_str-in-Create.ensures c.with_file.ensures
 
 pub returns-in_ok-fresh_copy-in-Sync : goal.returns-in_ok-fresh_copy-in-Sync
 returns-in_ok-fresh_copy-in-Sync c =
-    synced_then c.in_ok-fresh_copy-in-Sync.field-0 c.args.disk.now c.args.event.now (event.Sync _) c.in-Sync.is tt (λ i. (c.in_ok-fresh_copy-in-Sync.ensures.disk i).nodes)
+    synced_then c.in_ok-fresh_copy-in-Sync.field-0 c.args.disk.now c.args.event.now (event.Sync _) c.in-Sync.is tt (λ i.
+    (c.in_ok-fresh_copy-in-Sync.ensures.disk i).nodes)
 
 pub returns-in_ok-fresh_copy-in-SyncFolder : goal.returns-in_ok-fresh_copy-in-SyncFolder
 returns-in_ok-fresh_copy-in-SyncFolder c =
-    synced_then c.in_ok-fresh_copy-in-SyncFolder.field-0 c.args.disk.now c.args.event.now (event.SyncFolder _) c.in-SyncFolder.is tt (λ i. (c.in_ok-fresh_copy-in-SyncFolder.ensures.disk i).nodes)
+    synced_then c.in_ok-fresh_copy-in-SyncFolder.field-0 c.args.disk.now c.args.event.now (event.SyncFolder _)
+    c.in-SyncFolder.is tt (λ i. (c.in_ok-fresh_copy-in-SyncFolder.ensures.disk i).nodes)

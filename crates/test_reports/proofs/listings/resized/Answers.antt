@@ -7,11 +7,12 @@ use Rattle.std.specs.List.Sorted.{IsStrictlySortedBy}
 use Rattle.std.specs.Vec.Iter.{into_iter_items}
 use Rattle.bag_text.specs.Path.{is_path}
 use Rattle.bag_text.specs.Text.{text_cmp}
-use Rattle.bag_disk.specs.FolderWalk.{paths_of}
+use Rattle.bag_disk.specs.FolderWalk.{walked_paths}
 use Rattle.test_reports.proofs.listings.resized.Goals as goal
 
 -- what holds of the texts of some items holds of items with the same texts
-held_by_same : {A : Type 0} (key : A → List ℕ) (P : List ℕ → Type 0) (xs ys : List A) → map key xs ≡ map key ys → All (λ y. P (key y)) ys → All (λ x. P (key x)) xs
+held_by_same : {A : Type 0} (key : A → List ℕ) (P : List ℕ → Type 0) (xs ys : List A) → map key xs ≡ map key ys
+    → All (λ y. P (key y)) ys → All (λ x. P (key x)) xs
 held_by_same key P [] ys same all = All-nil (λ x. P (key x))
 held_by_same key P (x ∷ xs) [] same all = cc
 held_by_same key P (x ∷ xs) (y ∷ ys) same all =
@@ -26,8 +27,12 @@ returns g c =
     let source = c.into_iter-file-iterator.result in
     let same : into_iter_items source ≡ items = search (rules, c.into_iter-file-iterator.ensures.into_iter_gives) in
     let all = YieldsList-from_vec items same (source.rest.ok.0 ∙ ap length same) in
-    let end = YieldsList-end all c.loop-file.yielded c.loop-file.file-iterator c.loop-file.yielded_by c.next.result c.next.new.self c.in-None.is c.next.ensures.steps in
-    let paths = c.loop-file.invariant ∙ ap paths_of (sym (map-id c.loop-file.yielded) ∙ end.0) in record {
+    let end =
+    YieldsList-end all c.loop-file.yielded c.loop-file.file-iterator c.loop-file.yielded_by c.next.result
+    c.next.new.self c.in-None.is c.next.ensures.steps in
+    let paths = c.loop-file.invariant ∙ ap walked_paths (sym (map-id c.loop-file.yielded) ∙ end.0) in record {
       ascending = subst (IsStrictlySortedBy text_cmp) (sym paths) c.requires.ascending;
-      paths = held_by_same (λ entry. entry.path) (λ path. IsTrue (is_path path)) c.loop-file.resized items paths c.requires.paths;
+      paths =
+          held_by_same (λ entry. entry.path) (λ path. IsTrue (is_path path)) c.loop-file.resized items paths
+          c.requires.paths;
     }

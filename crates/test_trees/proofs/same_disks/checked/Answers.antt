@@ -19,10 +19,12 @@ returns g c name one =
     let n = c.perform.result in
     let performed = c.perform.ensures.performed in
     let visits = performed.0 in
-    let over : SameDisks → Type 0 = λ disks. IsPerformed (λ _. fresh (state_of disks.held.now).nodes) file plan before after visits n in
+    let over : SameDisks → Type 0 = λ disks.
+    IsPerformed (λ _. fresh (state_of disks.held.now).nodes) file plan before after visits n in
     let done = subst over c.of-visits.ensures.disks performed.2 in
     let acted = subst (λ (action : Action). IsDoneBy action below file plan before after visits n) one.0 done in
     let checks = subst (λ (path : Option (List ℕ)). IsChecked below file plan path before after visits n) one.1 acted in
     let tree_of : List ℕ → TreeState = λ name. tree_state (below name) 0 in
-    let check = subst (λ (names : List (List ℕ)). AreChecksOf plan None tree_of names before after visits n) one.2 checks in
-    c.honest_disks_are_told.ensures plan None below name before after visits n refl check
+    let check =
+    subst (λ (names : List (List ℕ)). AreChecksOf plan None tree_of names before after visits n) one.2 checks in
+    c.honest_disks_are_reported.ensures plan None below name before after visits n refl check

@@ -9,5 +9,5 @@ pub returns : goal.returns
 returns g c = (
   _,
   added _ _ _ (Entered c.args.directory.now ∷ []) (Left _ ∷ []) c.in_ok-tree.ensures.entered c.leave.ensures,
-  record { new = _; visit = refl; making = rw c.in_ok-tree.ensures.state at c.make_and_tell-tree.ensures },
+  record { new = _; visit = refl; making = rw c.in_ok-tree.ensures.state at c.make_and_report-tree.ensures },
 )

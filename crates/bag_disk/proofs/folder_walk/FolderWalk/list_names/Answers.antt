@@ -5,7 +5,15 @@ use Rattle.bag_disk.proofs.Refusals.{due_for, due_of_name}
 use Rattle.bag_disk.proofs.folder_walk.FolderWalk.list_names.Goals as goal
 
 pub loop-self-init : goal.loop-self-init
-loop-self-init g c = (looks_at_first (g.D.Disk.state c.args.disk.now), λ honest listed now. now, refl, omega arith, λ paths. paths, refl)
+loop-self-init g c = (
+  looks_at_first (g.D.Disk.state c.args.disk.now),
+  λ honest listed now.
+      now,
+  refl,
+  omega arith,
+  λ paths. paths,
+  refl,
+)
 
 pub add-requires-clause-name : goal.add-requires-clause-name
 add-requires-clause-name g c = rw c.as_str.ensures (rw c.in-Ok-Some.field-0-is at c.in-Ok-Some.ensures.path)
@@ -14,8 +22,11 @@ pub loop-self-preserved : goal.loop-self-preserved
 loop-self-preserved g c =
     let added = c.in_ok-add-in-Ok-Some.ensures in (
       looks_on _ _ _ (looks_on _ _ _ c.loop-self.invariant.0 c.in-Ok-Some.ensures.looks) added.looks,
-      λ honest listed begun. rw added.names (turn _ _ _ c.in-Ok-Some.field-0 _ _ _ _ listed c.args.folder.now c.in-Ok-Some.name c.as_str.result.now
-          c.loop-self.invariant.0 c.in-Ok-Some.ensures.looks c.in-Ok-Some.field-0-is c.in-Ok-Some.ensures.honest c.as_str.ensures added.walked honest (c.loop-self.invariant.1 honest listed begun)),
+      λ honest listed begun.
+          rw added.names (turn _ _ _ c.in-Ok-Some.field-0 _ _ _ _ listed c.args.folder.now c.in-Ok-Some.name
+          c.as_str.result.now
+          c.loop-self.invariant.0 c.in-Ok-Some.ensures.looks c.in-Ok-Some.field-0-is c.in-Ok-Some.ensures.honest
+          c.as_str.ensures added.walked honest (c.loop-self.invariant.1 honest listed begun)),
       added.listed ∙ c.loop-self.invariant.2,
       omega (arith, added.left, c.loop-self.invariant.3),
       λ paths. added.paths (c.loop-self.invariant.4 paths),
@@ -24,11 +35,21 @@ loop-self-preserved g c =
 
 pub returns-in_err-add-in-Ok-Some-clause-refused : goal.returns-in_err-add-in-Ok-Some-clause-refused
 returns-in_err-add-in-Ok-Some-clause-refused g c =
-    let looks = looks_on (g.D.Disk.state c.args.disk.now) _ (g.D.Disk.state c.next_name.new.self) c.loop-self.invariant.0 c.in-Ok-Some.ensures.looks in
+    let looks =
+    looks_on (g.D.Disk.state c.args.disk.now) _ (g.D.Disk.state c.next_name.new.self) c.loop-self.invariant.0
+    c.in-Ok-Some.ensures.looks in
     let p = err_from_is_err_and c.from_residual.result c.from_residual.ensures.1 in
-    rw (p.1, p.2) (due_for (IsTrue (g.D.Disk.state c.next_name.new.self).honest → Has (g.D.Disk.state c.next_name.new.self).nodes (path_in c.args.folder.now c.as_str.result.now) → HasSpecial (g.D.Disk.state c.next_name.new.self).nodes) ⊥ ⊥ ⊥ _ _ _ _ _
-    (λ special honest listed begun. rw looks.nodes at (special (looks.honest ∙ honest) (next_there _ _ _ c.in-Ok-Some.field-0 _ _ listed c.args.folder.now c.in-Ok-Some.name c.as_str.result.now
-    c.loop-self.invariant.0 c.in-Ok-Some.ensures.looks c.in-Ok-Some.field-0-is c.in-Ok-Some.ensures.honest c.as_str.ensures honest (c.loop-self.invariant.1 honest listed begun))))
+    rw (p.1, p.2) (due_for
+    (IsTrue (g.D.Disk.state c.next_name.new.self).honest
+    → Has (g.D.Disk.state c.next_name.new.self).nodes (path_in c.args.folder.now c.as_str.result.now)
+    → HasSpecial (g.D.Disk.state c.next_name.new.self).nodes) ⊥ ⊥ ⊥ _ _ _ _ _
+    (λ special honest listed begun.
+    rw looks.nodes at
+    (special (looks.honest ∙ honest)
+    (next_there _ _ _ c.in-Ok-Some.field-0 _ _ listed c.args.folder.now c.in-Ok-Some.name
+    c.as_str.result.now
+    c.loop-self.invariant.0 c.in-Ok-Some.ensures.looks c.in-Ok-Some.field-0-is c.in-Ok-Some.ensures.honest
+    c.as_str.ensures honest (c.loop-self.invariant.1 honest listed begun))))
     (λ never. absurd never) (λ never. never) (λ never. absurd never) c.in_err-add-in-Ok-Some.ensures.refused)
 
 pub returns-in-Ok-None-clause-paths : goal.returns-in-Ok-None-clause-paths
@@ -41,7 +62,8 @@ pub returns-in-Err-clause-refused : goal.returns-in-Err-clause-refused
 returns-in-Err-clause-refused g c =
     let nodes = (g.D.Disk.state c.args.disk.now).nodes in
     due_of_name _ _ _ _ c.in-Err.fault c.of_name.result c.of_name.ensures (λ is honest listed begun.
-    unnamed_there nodes c.args.folder.now _ (c.loop-self.invariant.1 honest listed begun).there (c.in-Err.ensures.unnamed (ap Err is) (c.loop-self.invariant.0.honest ∙ honest)))
+    unnamed_there nodes c.args.folder.now _ (c.loop-self.invariant.1 honest listed begun).there
+    (c.in-Err.ensures.unnamed (ap Err is) (c.loop-self.invariant.0.honest ∙ honest)))
 
 pub returns-clause-refused : goal.returns-clause-refused
 returns-clause-refused g c = λ honest listed begun. grind (arith, all_stand)

@@ -4,4 +4,5 @@ use Rattle.bag_facts.proofs.facts.Facts.algs.Given as goal
 
 abbrev pub invariant-loop-alg : goal.invariant-loop-alg
 invariant-loop-alg l =
-    (bag : Bag) → IsFactsOf bag l.self → AreThose (λ alg. HasFile bag (tag_path (Manifest l.fn.kind alg))) (take l.alg-index l.alg-items) l.algs
+    (bag : Bag) → IsFactsOf bag l.self
+    → AreThose (λ alg. HasFile bag (tag_path (Manifest l.fn.kind alg))) (take l.alg-index l.alg-items) l.algs

@@ -18,39 +18,74 @@ after_code f = word f.code ++ 32 ∷ after_word f
 
 pub returns-in_default : goal.returns-in_default
 returns-in_default c f is =
-    absurd (has_parts _ (decimal (number f.code)) (after_code f) _ c.split_once.ensures.cases (number_clean f.code) is.text c.in_default.is)
+    absurd (has_parts _ (decimal (number f.code)) (after_code f) _ c.split_once.ensures.cases (number_clean f.code)
+    is.text c.in_default.is)
 
 pub returns-in_default-split_once : goal.returns-in_default-split_once
 returns-in_default-split_once c f is =
-    let code = parts_of _ (decimal (number f.code)) (after_code f) _ _ c.split_once.ensures.cases (number_clean f.code) is.text c.in-Some.is in
-    absurd (has_parts _ (word f.code) (after_word f) _ c.split_once-2.ensures.cases (word_clean f.code) (sym code.1) c.in_default-split_once.is)
+    let code =
+    parts_of _ (decimal (number f.code)) (after_code f) _ _ c.split_once.ensures.cases (number_clean f.code) is.text
+    c.in-Some.is in
+    absurd (has_parts _ (word f.code) (after_word f) _ c.split_once-2.ensures.cases (word_clean f.code) (sym code.1)
+    c.in_default-split_once.is)
 
 pub returns-in_default-split_once-2 : goal.returns-in_default-split_once-2
 returns-in_default-split_once-2 c f is =
-    let code = parts_of _ (decimal (number f.code)) (after_code f) _ _ c.split_once.ensures.cases (number_clean f.code) is.text c.in-Some.is in
-    let word_of = parts_of _ (word f.code) (after_word f) _ _ c.split_once-2.ensures.cases (word_clean f.code) (sym code.1) c.in-Some-split_once.is in
-    absurd (has_parts _ (field f.path) (after_path f) _ c.split_once-3.ensures.cases (field_clean f.path) (sym word_of.1) c.in_default-split_once-2.is)
+    let code =
+    parts_of _ (decimal (number f.code)) (after_code f) _ _ c.split_once.ensures.cases (number_clean f.code) is.text
+    c.in-Some.is in
+    let word_of =
+    parts_of _ (word f.code) (after_word f) _ _ c.split_once-2.ensures.cases (word_clean f.code) (sym code.1)
+    c.in-Some-split_once.is in
+    absurd (has_parts _ (field f.path) (after_path f) _ c.split_once-3.ensures.cases (field_clean f.path)
+    (sym word_of.1) c.in_default-split_once-2.is)
 
 pub returns-in_default-split_once-3 : goal.returns-in_default-split_once-3
 returns-in_default-split_once-3 c f is =
-    let code = parts_of _ (decimal (number f.code)) (after_code f) _ _ c.split_once.ensures.cases (number_clean f.code) is.text c.in-Some.is in
-    let word_of = parts_of _ (word f.code) (after_word f) _ _ c.split_once-2.ensures.cases (word_clean f.code) (sym code.1) c.in-Some-split_once.is in
-    let path = parts_of _ (field f.path) (after_path f) _ _ c.split_once-3.ensures.cases (field_clean f.path) (sym word_of.1) c.in-Some-split_once-2.is in
-    absurd (has_parts _ (alg_field f.alg) (after_alg f) _ c.split_once-4.ensures.cases (alg_clean f.alg) (sym path.1) c.in_default-split_once-3.is)
+    let code =
+    parts_of _ (decimal (number f.code)) (after_code f) _ _ c.split_once.ensures.cases (number_clean f.code) is.text
+    c.in-Some.is in
+    let word_of =
+    parts_of _ (word f.code) (after_word f) _ _ c.split_once-2.ensures.cases (word_clean f.code) (sym code.1)
+    c.in-Some-split_once.is in
+    let path =
+    parts_of _ (field f.path) (after_path f) _ _ c.split_once-3.ensures.cases (field_clean f.path) (sym word_of.1)
+    c.in-Some-split_once-2.is in
+    absurd (has_parts _ (alg_field f.alg) (after_alg f) _ c.split_once-4.ensures.cases (alg_clean f.alg) (sym path.1)
+    c.in_default-split_once-3.is)
 
 pub returns-in_default-split_once-4 : goal.returns-in_default-split_once-4
 returns-in_default-split_once-4 c f is =
-    let code = parts_of _ (decimal (number f.code)) (after_code f) _ _ c.split_once.ensures.cases (number_clean f.code) is.text c.in-Some.is in
-    let word_of = parts_of _ (word f.code) (after_word f) _ _ c.split_once-2.ensures.cases (word_clean f.code) (sym code.1) c.in-Some-split_once.is in
-    let path = parts_of _ (field f.path) (after_path f) _ _ c.split_once-3.ensures.cases (field_clean f.path) (sym word_of.1) c.in-Some-split_once-2.is in
-    let alg = parts_of _ (alg_field f.alg) (after_alg f) _ _ c.split_once-4.ensures.cases (alg_clean f.alg) (sym path.1) c.in-Some-split_once-3.is in
-    absurd (has_parts _ (line_field f.line) (field f.detail) _ c.split_once-5.ensures.cases (line_clean f.line is.fault.line) (sym alg.1) c.in_default-split_once-4.is)
+    let code =
+    parts_of _ (decimal (number f.code)) (after_code f) _ _ c.split_once.ensures.cases (number_clean f.code) is.text
+    c.in-Some.is in
+    let word_of =
+    parts_of _ (word f.code) (after_word f) _ _ c.split_once-2.ensures.cases (word_clean f.code) (sym code.1)
+    c.in-Some-split_once.is in
+    let path =
+    parts_of _ (field f.path) (after_path f) _ _ c.split_once-3.ensures.cases (field_clean f.path) (sym word_of.1)
+    c.in-Some-split_once-2.is in
+    let alg =
+    parts_of _ (alg_field f.alg) (after_alg f) _ _ c.split_once-4.ensures.cases (alg_clean f.alg) (sym path.1)
+    c.in-Some-split_once-3.is in
+    absurd (has_parts _ (line_field f.line) (field f.detail) _ c.split_once-5.ensures.cases
+    (line_clean f.line is.fault.line) (sym alg.1) c.in_default-split_once-4.is)
 
 pub returns : goal.returns
 returns c f is =
-    let code = parts_of _ (decimal (number f.code)) (after_code f) _ _ c.split_once.ensures.cases (number_clean f.code) is.text c.in-Some.is in
-    let word_of = parts_of _ (word f.code) (after_word f) _ _ c.split_once-2.ensures.cases (word_clean f.code) (sym code.1) c.in-Some-split_once.is in
-    let path = parts_of _ (field f.path) (after_path f) _ _ c.split_once-3.ensures.cases (field_clean f.path) (sym word_of.1) c.in-Some-split_once-2.is in
-    let alg = parts_of _ (alg_field f.alg) (after_alg f) _ _ c.split_once-4.ensures.cases (alg_clean f.alg) (sym path.1) c.in-Some-split_once-3.is in
-    let line = parts_of _ (line_field f.line) (field f.detail) _ _ c.split_once-5.ensures.cases (line_clean f.line is.fault.line) (sym alg.1) c.in-Some-split_once-4.is in
+    let code =
+    parts_of _ (decimal (number f.code)) (after_code f) _ _ c.split_once.ensures.cases (number_clean f.code) is.text
+    c.in-Some.is in
+    let word_of =
+    parts_of _ (word f.code) (after_word f) _ _ c.split_once-2.ensures.cases (word_clean f.code) (sym code.1)
+    c.in-Some-split_once.is in
+    let path =
+    parts_of _ (field f.path) (after_path f) _ _ c.split_once-3.ensures.cases (field_clean f.path) (sym word_of.1)
+    c.in-Some-split_once-2.is in
+    let alg =
+    parts_of _ (alg_field f.alg) (after_alg f) _ _ c.split_once-4.ensures.cases (alg_clean f.alg) (sym path.1)
+    c.in-Some-split_once-3.is in
+    let line =
+    parts_of _ (line_field f.line) (field f.detail) _ _ c.split_once-5.ensures.cases
+    (line_clean f.line is.fault.line) (sym alg.1) c.in-Some-split_once-4.is in
     record { code = code.0; path = path.0; alg = alg.0; line = line.0; detail = line.1 }

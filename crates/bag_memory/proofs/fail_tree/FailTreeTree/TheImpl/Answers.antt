@@ -12,7 +12,7 @@ read-tells g c = record {
     noted = grind arith;
     trail = grind arith;
   };
-  calm = grind arith;
+  no_failure = grind arith;
   openings = grind arith;
   file_open = grind arith;
   within = grind arith;

@@ -5,7 +5,7 @@ use Rattle.bag_memory.proofs.fail_tree.FailTreeWriteTree.TheImpl.Goals as goal
 pub move_in-tells : goal.move_in-tells
 move_in-tells g c = record {
   changed = grind arith;
-  calm = grind arith;
+  no_failure = grind arith;
   possible = grind arith;
   last = grind arith;
   leaves = grind arith;
@@ -16,7 +16,7 @@ move_in-tells g c = record {
 pub rename_folder-tells : goal.rename_folder-tells
 rename_folder-tells g c = record {
   changed = grind arith;
-  calm = grind arith;
+  no_failure = grind arith;
   possible = grind arith;
   last = grind arith;
   leaves = grind arith;

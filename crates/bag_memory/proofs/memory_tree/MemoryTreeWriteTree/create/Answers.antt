@@ -5,14 +5,18 @@ use Rattle.bag_memory.proofs.memory_tree.MemoryTreeWriteTree.create.Goals as goa
 
 pub invariant_of-self : goal.invariant_of-self
 invariant_of-self c = record {
-  passes = file_put_passes _ _ c.args.name.now c.args.bytes.now c.in-Ok.ensures.added (no_folder_for_name _ c.args.name.now c.requires)
-      (text_path_of c.args.name.now (and_parts _ _ c.requires).0 c.utf8.name) (bytes_below c.args.bytes.now c.type_inv.bytes) c.args.self.now.passes;
+  passes =
+      file_put_passes _ _ c.args.name.now c.args.bytes.now c.in-Ok.ensures.added
+      (no_folder_for_name _ c.args.name.now c.requires)
+      (text_path_of c.args.name.now (and_parts _ _ c.requires).0 c.utf8.name)
+      (bytes_below c.args.bytes.now c.type_inv.bytes) c.args.self.now.passes;
 }
 
 pub returns-in-Ok-clause-creates : goal.returns-in-Ok-clause-creates
 returns-in-Ok-clause-creates c = record {
-  changed = memory_changed _ _ _ _ _ _ _ _ _ c.in-Ok.ensures.added refl (count_created c.args.name.now c.args.bytes.now _);
-  calm = refl;
+  changed =
+      memory_changed _ _ _ _ _ _ _ _ _ c.in-Ok.ensures.added refl (count_created c.args.name.now c.args.bytes.now _);
+  no_failure = refl;
   possible = grind arith;
   last = refl;
   leaves = tt;

@@ -7,12 +7,15 @@ use Rattle.bag_store.proofs.file_tree.FileTreeWriteTree.rename_folder.Goals as g
 pub returns-in-Ok-clause-renames : goal.returns-in-Ok-clause-renames
 returns-in-Ok-clause-renames g c = record {
   changed =
-      renamed_changed _ _ _ _ _ _ _ _ c.args.from.now c.args.to.now (g.met.D.Disk.is_disk c.args.self.now.disk) (g.met.D.Disk.is_disk c.rename_folder.new.disk) c.requires.from c.requires.to
+      renamed_changed _ _ _ _ _ _ _ _ c.args.from.now c.args.to.now (g.met.D.Disk.is_disk c.args.self.now.disk)
+      (g.met.D.Disk.is_disk c.rename_folder.new.disk) c.requires.from c.requires.to
       c.in-Ok.ensures.failures c.give.ensures.failures c.in-Ok.ensures.closed c.in-Ok.ensures.renamed;
-  calm = grind arith;
+  no_failure = grind arith;
   possible = λ honest.
-      let renames = c.in-Ok.ensures.renamed honest in
-      (has_it _ c.args.from.now c.requires.from renames.folder_is, not_taken _ c.args.to.now c.requires.to renames.free);
+      let renames = c.in-Ok.ensures.renamed honest in (
+        has_it _ c.args.from.now c.requires.from renames.folder_is,
+        not_taken _ c.args.to.now c.requires.to renames.free,
+      );
   last = grind arith;
   leaves = tt;
   refused = tt;
@@ -22,18 +25,23 @@ returns-in-Ok-clause-renames g c = record {
 pub returns-in-Err-clause-renames : goal.returns-in-Err-clause-renames
 returns-in-Err-clause-renames g c = record {
   changed = tt;
-  calm = tt;
+  no_failure = tt;
   possible = tt;
   last = grind arith;
   leaves =
-      step_same _ _ _ _ _ _ _ _ c.in-Err.ensures.same (count_grows c.in-Err.refusal _ _ _ _ c.in-Err.ensures.failures c.refuse.ensures.failures) c.refuse.ensures.given;
+      step_same _ _ _ _ _ _ _ _ c.in-Err.ensures.same
+      (count_grows c.in-Err.refusal _ _ _ _ c.in-Err.ensures.failures c.refuse.ensures.failures)
+      c.refuse.ensures.given;
   refused =
-      move_answered_so (g.D.Disk.state c.args.self.now.disk) (g.D.Disk.state c.rename_folder.new.disk) _ _ c.in-Err.refusal _ _ _ _ ⊥
-      c.in-Err.ensures.failures c.refuse.ensures.failures c.refuse.ensures.fault (λ none. none) (due_in_move _ _ _ _ c.in-Err.refusal c.in-Err.ensures.refused);
+      move_answered_so (g.D.Disk.state c.args.self.now.disk) (g.D.Disk.state c.rename_folder.new.disk) _ _
+      c.in-Err.refusal _ _ _ _ ⊥
+      c.in-Err.ensures.failures c.refuse.ensures.failures c.refuse.ensures.fault (λ none. none)
+      (due_in_move _ _ _ _ c.in-Err.refusal c.in-Err.ensures.refused);
   asked = c.in-Err.ensures.asked;
 }
 
 pub returns-in-Err-clause-cause : goal.returns-in-Err-clause-cause
 returns-in-Err-clause-cause g c =
-    tells_move (g.D.Disk.state c.args.self.now.disk) (g.D.Disk.state c.rename_folder.new.disk) c.args.self.now.answered.failures c.in-Err.refusal _ _ _ ⊥
+    tells_move (g.D.Disk.state c.args.self.now.disk) (g.D.Disk.state c.rename_folder.new.disk)
+    c.args.self.now.answered.failures c.in-Err.refusal _ _ _ ⊥
     c.refuse.ensures.fault c.in-Err.ensures.failures (due_in_move _ _ _ _ c.in-Err.refusal c.in-Err.ensures.refused)

@@ -1,4 +1,4 @@
-use Rattle.bag_walk.proofs.Common.{IsSome, sym, subst, NoneBehind}
+use Rattle.bag_walk.proofs.Common.{IsSome, sym, subst, NoFaultBefore}
 use Rattle.bag_walk.proofs.Filling.{taken_first}
 use Rattle.bag_walk.proofs.fixed.ThenSource.advance.Goals as goal
 
@@ -8,6 +8,10 @@ returns-then-self-clause-rest g c = rw c.if-self.true (λ bag h.
     let others = g.B.Source.remaining bag c.args.self.now.second in
     let done = c.advance.ensures.rest bag h.0.0 in
     let some : IsSome (g.A.Source.found first) = rw c.if-self.true at c.requires in
-    let two = taken_first (g.A.Source.found first) (g.A.Source.remaining bag first) others (g.A.Source.remaining bag c.advance.new.self) some
-    (λ f e. g.met.A.Source.is_first bag first f h.0.0 e) done.1 h.0.1 in
-    (((done.0, two.0, (λ ordered. subst (NoneBehind others) (sym c.advance.ensures.todo) (h.0.2 ordered))), h.1), two.1))
+    let two =
+    taken_first (g.A.Source.found first) (g.A.Source.remaining bag first) others
+    (g.A.Source.remaining bag c.advance.new.self) some
+    (λ f e. g.met.A.Source.is_first bag first f h.0.0 e) done.1 h.0.1 in (
+      ((done.0, two.0, (λ ordered. subst (NoFaultBefore others) (sym c.advance.ensures.todo) (h.0.2 ordered))), h.1),
+      two.1,
+    ))

@@ -1,38 +1,52 @@
-use Rattle.bag_walk.proofs.Common.{◌≡◌, ◌++◌, ◌∙◌, [], inl, inr, sym, subst, on_ok_weaker, on_err_weaker, IfErr-weaker, Bag, keeps_on, nothing_then, Opens, Sees, none_is}
-use Rattle.bag_walk.proofs.Filling.{again_on, again_within, anyway_front, anyway_later, behind_first, behind_on, first_front, front_same, none_shown, once, opened_by, opens_front, opens_on, reached_front, reached_on, sees_later, sees_parts, some_shown, stop_front, stop_later, waits_first}
+use Rattle.bag_walk.proofs.Common.{◌≡◌, ◌++◌, ◌∙◌, [], inl, inr, sym, subst, on_ok_weaker, on_err_weaker, IfErr-weaker}
+use Rattle.bag_walk.proofs.Common.{Bag, keeps_on, nothing_then, Opens, Sees, none_is}
+use Rattle.bag_walk.proofs.Filling.{again_on, again_within, anyway_front, anyway_later, behind_first, behind_on}
+use Rattle.bag_walk.proofs.Filling.{first_front, front_same, none_shown, once, opened_by, opens_front, opens_on}
+use Rattle.bag_walk.proofs.Filling.{reached_front, reached_on, sees_later, sees_parts, some_shown, stop_front}
+use Rattle.bag_walk.proofs.Filling.{stop_later, waits_first}
 use Rattle.bag_walk.proofs.fixed.ThenSource.fill.Goals as goal
 
 pub returns-then-not-self-clause-behind : goal.returns-then-not-self-clause-behind
-returns-then-not-self-clause-behind g c = rw c.if-not-self.true (λ ordered bag h sees. c.fill.ensures.behind ordered.1 bag h.1 sees)
+returns-then-not-self-clause-behind g c = rw c.if-not-self.true (λ ordered bag h sees.
+    c.fill.ensures.behind ordered.1 bag h.1 sees)
 
 pub returns-then-not-self-clause-reached : goal.returns-then-not-self-clause-reached
-returns-then-not-self-clause-reached g c = rw c.if-not-self.true (IfErr-weaker c.fill.result _ _ (λ stop reached ordered. reached ordered.1) c.fill.ensures.reached)
+returns-then-not-self-clause-reached g c = rw c.if-not-self.true
+    (IfErr-weaker c.fill.result _ _ (λ stop reached ordered. reached ordered.1) c.fill.ensures.reached)
 
 pub returns-then-not-self-clause-waits : goal.returns-then-not-self-clause-waits
-returns-then-not-self-clause-waits g c = rw c.if-not-self.true (IfErr-weaker c.fill.result _ _ (λ stop waits ordered bag h sees. waits ordered.1 bag h.1 sees) c.fill.ensures.waits)
+returns-then-not-self-clause-waits g c = rw c.if-not-self.true
+    (IfErr-weaker c.fill.result _ _ (λ stop waits ordered bag h sees. waits ordered.1 bag h.1 sees)
+    c.fill.ensures.waits)
 
 pub returns-in-Err-clause-same : goal.returns-in-Err-clause-same
 returns-in-Err-clause-same g c = rw c.if-not-self.false (λ bag h sees.
     let first = c.args.self.now.first in
     let second = c.args.self.now.second in
-    let seen = (sees_parts (g.T.Tree.state c.args.tree.now) (g.A.Source.todo first) (g.B.Source.todo second) bag sees).0 in
-    front_same (g.A.Source.remaining bag first) (g.B.Source.remaining bag second) _ (g.A.Source.todo first) (g.A.Source.todo c.fill-2.new.self) _ _ _
-    (c.fill-2.ensures.same bag h.0.0 seen) h.0.1 h.0.2 h.1 (λ ordered. let again = c.in-Err.ensures.again ordered in (again.passed, again.left)))
+    let seen =
+    (sees_parts (g.T.Tree.state c.args.tree.now) (g.A.Source.todo first) (g.B.Source.todo second) bag sees).0 in
+    front_same (g.A.Source.remaining bag first) (g.B.Source.remaining bag second) _ (g.A.Source.todo first)
+    (g.A.Source.todo c.fill-2.new.self) _ _ _
+    (c.fill-2.ensures.same bag h.0.0 seen) h.0.1 h.0.2 h.1 (λ ordered.
+    let again = c.in-Err.ensures.again ordered in (again.passed, again.left)))
 
 pub returns-in-Err-clause-behind : goal.returns-in-Err-clause-behind
 returns-in-Err-clause-behind g c = rw c.if-not-self.false (λ ordered bag h sees.
     let state = g.T.Tree.state in
     let xs = g.A.Source.todo c.args.self.now.first in
     let seen = (sees_parts (state c.args.tree.now) xs (g.B.Source.todo c.args.self.now.second) bag sees).0 in
-    behind_first _ _ (state c.args.tree.now) (state c.fill-2.new.tree) xs (h.0.2 ordered.0) (c.in-Err.ensures.again ordered.0)
+    behind_first _ _ (state c.args.tree.now) (state c.fill-2.new.tree) xs (h.0.2 ordered.0)
+    (c.in-Err.ensures.again ordered.0)
     (c.fill-2.ensures.behind ordered.0 bag h.0.0 seen))
 
 pub returns-in-Err-clause-stop : goal.returns-in-Err-clause-stop
 returns-in-Err-clause-stop g c =
-    rw c.if-not-self.false (λ of. stop_front (g.B.Source.todo c.args.self.now.second) (c.in-Err.ensures.stop (λ honest. (of honest).0.0)))
+    rw c.if-not-self.false (λ of.
+    stop_front (g.B.Source.todo c.args.self.now.second) (c.in-Err.ensures.stop (λ honest. (of honest).0.0)))
 
 pub returns-in-Err-clause-anyway : goal.returns-in-Err-clause-anyway
-returns-in-Err-clause-anyway g c = rw c.if-not-self.false (anyway_front (g.B.Source.todo c.args.self.now.second) c.in-Err.ensures.anyway)
+returns-in-Err-clause-anyway g c = rw c.if-not-self.false
+    (anyway_front (g.B.Source.todo c.args.self.now.second) c.in-Err.ensures.anyway)
 
 pub returns-in-Err-clause-reached : goal.returns-in-Err-clause-reached
 returns-in-Err-clause-reached g c = rw c.if-not-self.false (λ ordered.
@@ -40,7 +54,9 @@ returns-in-Err-clause-reached g c = rw c.if-not-self.false (λ ordered.
     let self = c.args.self.now in
     elim (c.in-Err.ensures.reached ordered.0) [
       | inl memory ↦ inl memory
-      | inr reached ↦ inr (reached_front (state c.args.tree.now) (state c.fill-2.new.tree) (g.A.Source.todo self.first) (g.B.Source.todo self.second)
+      | inr reached ↦ inr
+          (reached_front (state c.args.tree.now) (state c.fill-2.new.tree) (g.A.Source.todo self.first)
+          (g.B.Source.todo self.second)
           c.in-Err.stop.path reached)
     ])
 
@@ -49,29 +65,38 @@ returns-in-Err-clause-waits g c = rw c.if-not-self.false (λ ordered bag h sees.
     let state = g.T.Tree.state in
     let xs = g.A.Source.todo c.args.self.now.first in
     let seen = (sees_parts (state c.args.tree.now) xs (g.B.Source.todo c.args.self.now.second) bag sees).0 in
-    waits_first _ _ (state c.args.tree.now) (state c.fill-2.new.tree) xs (h.0.2 ordered.0) c.in-Err.stop (c.in-Err.ensures.reached ordered.0)
+    waits_first _ _ (state c.args.tree.now) (state c.fill-2.new.tree) xs (h.0.2 ordered.0) c.in-Err.stop
+    (c.in-Err.ensures.reached ordered.0)
     (c.in-Err.ensures.waits ordered.0 bag h.0.0 seen))
 
 pub returns-then-is_some-clause-same : goal.returns-then-is_some-clause-same
 returns-then-is_some-clause-same g c = rw c.if-not-self.false (λ bag h sees.
     let first = c.args.self.now.first in
     let second = c.args.self.now.second in
-    let seen = (sees_parts (g.T.Tree.state c.args.tree.now) (g.A.Source.todo first) (g.B.Source.todo second) bag sees).0 in
-    front_same (g.A.Source.remaining bag first) (g.B.Source.remaining bag second) _ (g.A.Source.todo first) (g.A.Source.todo c.fill-2.new.self) _ _ _
-    (c.fill-2.ensures.same bag h.0.0 seen) h.0.1 h.0.2 h.1 (λ ordered. let opens = c.in-Ok.ensures.opens ordered in (opens.opened, opens.left)))
+    let seen =
+    (sees_parts (g.T.Tree.state c.args.tree.now) (g.A.Source.todo first) (g.B.Source.todo second) bag sees).0 in
+    front_same (g.A.Source.remaining bag first) (g.B.Source.remaining bag second) _ (g.A.Source.todo first)
+    (g.A.Source.todo c.fill-2.new.self) _ _ _
+    (c.fill-2.ensures.same bag h.0.0 seen) h.0.1 h.0.2 h.1 (λ ordered.
+    let opens = c.in-Ok.ensures.opens ordered in (opens.opened, opens.left)))
 
 pub returns-then-is_some-clause-first : goal.returns-then-is_some-clause-first
 returns-then-is_some-clause-first g c = rw c.if-not-self.false (λ bag h sees.
-    let seen = (sees_parts (g.T.Tree.state c.args.tree.now) (g.A.Source.todo c.args.self.now.first) (g.B.Source.todo c.args.self.now.second) bag sees).0 in
-    first_front (g.A.Source.found c.fill-2.new.self) (g.A.Source.remaining bag c.fill-2.new.self) (g.B.Source.remaining bag c.args.self.now.second)
-    (some_shown c.peek.result c.peek.ensures c.is_some.ensures c.if-is_some.true) (c.in-Ok.ensures.first bag h.0.0 seen))
+    let seen =
+    (sees_parts (g.T.Tree.state c.args.tree.now) (g.A.Source.todo c.args.self.now.first)
+    (g.B.Source.todo c.args.self.now.second) bag sees).0 in
+    first_front (g.A.Source.found c.fill-2.new.self) (g.A.Source.remaining bag c.fill-2.new.self)
+    (g.B.Source.remaining bag c.args.self.now.second)
+    (some_shown c.peek.result c.peek.ensures c.is_some.ensures c.if-is_some.true)
+    (c.in-Ok.ensures.first bag h.0.0 seen))
 
 pub returns-then-is_some-clause-behind : goal.returns-then-is_some-clause-behind
 returns-then-is_some-clause-behind g c = rw c.if-not-self.false (λ ordered bag h sees.
     let state = g.T.Tree.state in
     let xs = g.A.Source.todo c.args.self.now.first in
     let seen = (sees_parts (state c.args.tree.now) xs (g.B.Source.todo c.args.self.now.second) bag sees).0 in
-    behind_first _ _ (state c.args.tree.now) (state c.fill-2.new.tree) xs (h.0.2 ordered.0) (once (c.in-Ok.ensures.opens ordered.0))
+    behind_first _ _ (state c.args.tree.now) (state c.fill-2.new.tree) xs (h.0.2 ordered.0)
+    (once (c.in-Ok.ensures.opens ordered.0))
     (c.fill-2.ensures.behind ordered.0 bag h.0.0 seen))
 
 pub returns : goal.returns
@@ -88,21 +113,30 @@ returns g c = rw c.if-not-self.false (
     let one = c.in-Ok.ensures in
     let other = c.fill-3.ensures in
     let none = none_shown c.peek.result c.peek.ensures c.is_some.ensures c.if-is_some.false in
-    let opens : g.A.Source.in_order → Opens xs [] old mid = λ ordered. subst (λ l. Opens xs l old mid) (one.ended ordered none) (one.opens ordered) in
+    let opens : g.A.Source.in_order → Opens xs [] old mid = λ ordered.
+    subst (λ l. Opens xs l old mid) (one.ended ordered none) (one.opens ordered) in
     let all : g.A.Source.in_order → Opens (xs ++ ys) ys old mid = λ ordered. opens_front (opens ordered) ys in
-    let later : (bag : Bag) → Sees old (xs ++ ys) bag → Sees mid ys bag = λ bag sees. sees_later ys bag keeps (sees_parts old xs ys bag sees).1 in
+    let later : (bag : Bag) → Sees old (xs ++ ys) bag → Sees mid ys bag = λ bag sees.
+    sees_later ys bag keeps (sees_parts old xs ys bag sees).1 in
     let empty : (bag : Bag) → g.A.Source.is_of bag first → Sees old (xs ++ ys) bag → g.A.Source.remaining bag first ≡ [] = λ bag of sees.
     let seen = (sees_parts old xs ys bag sees).0 in
-    sym (c.fill-2.ensures.same bag of seen).1 ∙ none_is (g.A.Source.remaining bag c.fill-2.new.self) (sym (one.first bag of seen) ∙ none) in
+    sym (c.fill-2.ensures.same bag of seen).1
+    ∙ none_is (g.A.Source.remaining bag c.fill-2.new.self) (sym (one.first bag of seen) ∙ none) in
     record {
       keeps = keeps_on old mid new keeps other.keeps;
-      calm = on_ok_weaker result (λ calm. nothing_then old mid new one.calm calm) other.calm;
+      no_failure =
+          on_ok_weaker result (λ no_failure. nothing_then old mid new one.no_failure no_failure) other.no_failure;
       opens = on_ok_weaker result (λ opens ordered. opens_on (all ordered.0) (opens ordered.1)) other.opens;
       again = on_err_weaker result (λ again ordered. again_on (all ordered.0) (again ordered.1)) other.again;
       reached = IfErr-weaker result _ _
-          (λ stop reached ordered. elim (reached ordered.1) [ inl memory ↦ inl memory | inr at ↦ inr (reached_on (all ordered.0) new stop.path at) ])
+          (λ stop reached ordered.
+          elim (reached ordered.1)
+          [ inl memory ↦ inl memory | inr at ↦ inr (reached_on (all ordered.0) new stop.path at) ])
           other.reached;
-      waits = IfErr-weaker result _ _ (λ stop waits ordered bag h sees. rw (empty bag h.0.0 sees) (waits ordered.1 bag h.1 (later bag sees))) other.waits;
+      waits =
+          IfErr-weaker result _ _
+          (λ stop waits ordered bag h sees. rw (empty bag h.0.0 sees) (waits ordered.1 bag h.1 (later bag sees)))
+          other.waits;
       ended = on_ok_weaker result (λ ended ordered. ended ordered.1) other.ended;
       same = λ bag h sees.
           let b = other.same bag h.1 (later bag sees) in
@@ -111,11 +145,13 @@ returns g c = rw c.if-not-self.false (
       behind = λ ordered bag h sees.
           rw (empty bag h.0.0 sees)
           (behind_on (g.B.Source.remaining bag second) (g.B.Source.remaining bag second) (once (all ordered.0))
-          (opened_by result (on_ok_weaker result (λ opens. opens ordered.1) other.opens) (on_err_weaker result (λ again. again ordered.1) other.again))
+          (opened_by result (on_ok_weaker result (λ opens. opens ordered.1) other.opens)
+          (on_err_weaker result (λ again. again ordered.1) other.again))
           (λ opened e f path c d. h.0.2 ordered.0 f path c (again_within (once (opens ordered.0)) opened e path d))
           (other.behind ordered.1 bag h.1 (later bag sees)) (λ f c. c));
       stop = IfErr-weaker result _ _
-          (λ stop stops of. stop_later keeps one.calm
-          (stops (λ honest. subst (λ bag. g.B.Source.is_of bag second) (sym keeps.bag) (of (sym keeps.honest ∙ honest)).1))) other.stop;
-      anyway = IfErr-weaker result _ _ (λ stop anyway. anyway_later keeps one.calm anyway) other.anyway;
+          (λ stop stops of. stop_later keeps one.no_failure
+          (stops (λ honest. subst (λ bag. g.B.Source.is_of bag second) (sym keeps.bag)
+          (of (sym keeps.honest ∙ honest)).1))) other.stop;
+      anyway = IfErr-weaker result _ _ (λ stop anyway. anyway_later keeps one.no_failure anyway) other.anyway;
     })

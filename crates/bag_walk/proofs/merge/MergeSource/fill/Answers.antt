@@ -9,7 +9,9 @@ returns-in-Err-clause-again g c = λ quiet. grind (arith, once, opens_nothing)
 pub returns-in-Err-clause-same : goal.returns-in-Err-clause-same
 returns-in-Err-clause-same g c = λ bag h sees.
     let self = c.args.self.now in
-    let seen = sees_each (awaits_second self.filled) (g.A.Source.todo self.first) (g.B.Source.todo self.second) bag c.fill_unless.ensures.keeps sees in
+    let seen =
+    sees_each (awaits_second self.filled) (g.A.Source.todo self.first) (g.B.Source.todo self.second) bag
+    c.fill_unless.ensures.keeps sees in
     let a = c.fill_unless.ensures.same bag h.0 seen.0 in
     ((a.0, h.1, tt, tt), (λ i. union (a.1 i) (g.B.Source.remaining bag self.second)))
 
@@ -19,7 +21,8 @@ returns-in-Err-clause-behind g c = λ quiet bag h sees.
     (c.fill_unless.ensures.quiet quiet.0 (quiet.2 c.args.self.now.first))
 
 pub returns-in-Err-clause-stop : goal.returns-in-Err-clause-stop
-returns-in-Err-clause-stop g c = λ of. stop_front (g.B.Source.todo c.args.self.now.second) (c.in-Err.ensures.stop (λ honest. (of honest).0))
+returns-in-Err-clause-stop g c = λ of.
+    stop_front (g.B.Source.todo c.args.self.now.second) (c.in-Err.ensures.stop (λ honest. (of honest).0))
 
 pub returns-in-Err-clause-anyway : goal.returns-in-Err-clause-anyway
 returns-in-Err-clause-anyway g c = grind (arith, anyway_front)
@@ -30,8 +33,8 @@ returns-in-Err-clause-reached g c = λ quiet. grind (arith, quiet_stop)
 pub returns-in-Err-clause-waits : goal.returns-in-Err-clause-waits
 returns-in-Err-clause-waits g c = λ quiet bag h sees some. grind (arith, quiet_stop)
 
-pub returns-in-Ok-fill-clause-calm : goal.returns-in-Ok-fill-clause-calm
-returns-in-Ok-fill-clause-calm g c = grind (arith, nothing_then)
+pub returns-in-Ok-fill-clause-no_failure : goal.returns-in-Ok-fill-clause-no_failure
+returns-in-Ok-fill-clause-no_failure g c = grind (arith, nothing_then)
 
 pub returns-in-Ok-fill-clause-opens : goal.returns-in-Ok-fill-clause-opens
 returns-in-Ok-fill-clause-opens g c = λ quiet. grind (arith, quiet_again, once, opens_nothing)
@@ -42,7 +45,9 @@ returns-in-Ok-fill-clause-ended g c = λ quiet none. grind arith
 pub returns-in-Ok-fill-clause-same : goal.returns-in-Ok-fill-clause-same
 returns-in-Ok-fill-clause-same g c = λ bag h sees.
     let self = c.args.self.now in
-    let seen = sees_each (awaits_second self.filled) (g.A.Source.todo self.first) (g.B.Source.todo self.second) bag c.fill_unless.ensures.keeps sees in
+    let seen =
+    sees_each (awaits_second self.filled) (g.A.Source.todo self.first) (g.B.Source.todo self.second) bag
+    c.fill_unless.ensures.keeps sees in
     let a = c.fill_unless.ensures.same bag h.0 seen.0 in
     let b = c.fill.ensures.same bag h.1 seen.1 in
     let first = c.in-Ok.ensures.first bag h.0 seen.0 (rw c.awaits_second.ensures h.3) in
@@ -51,7 +56,9 @@ returns-in-Ok-fill-clause-same g c = λ bag h sees.
 pub returns-in-Ok-fill-clause-first : goal.returns-in-Ok-fill-clause-first
 returns-in-Ok-fill-clause-first g c = λ bag h sees.
     let self = c.args.self.now in
-    let seen = sees_each (awaits_second self.filled) (g.A.Source.todo self.first) (g.B.Source.todo self.second) bag c.fill_unless.ensures.keeps sees in
+    let seen =
+    sees_each (awaits_second self.filled) (g.A.Source.todo self.first) (g.B.Source.todo self.second) bag
+    c.fill_unless.ensures.keeps sees in
     let a = c.in-Ok.ensures.first bag h.0 seen.0 (rw c.awaits_second.ensures h.3) in
     let b = c.in-Ok-fill.ensures.first bag h.1 seen.1 in
     (λ i. least_of (a i) (b i))
@@ -63,7 +70,8 @@ pub returns-in-Ok-fill-clause-behind : goal.returns-in-Ok-fill-clause-behind
 returns-in-Ok-fill-clause-behind g c = λ quiet bag h sees.
     let self = c.args.self.now in
     nothing_opened _ (g.T.Tree.state c.args.tree.now) (g.T.Tree.state c.fill.new.tree)
-    (quiet_again (quiet.3 self.second) (once (c.in-Ok-fill.ensures.opens quiet.1)) ∙ c.fill_unless.ensures.quiet quiet.0 (quiet.2 self.first))
+    (quiet_again (quiet.3 self.second) (once (c.in-Ok-fill.ensures.opens quiet.1))
+    ∙ c.fill_unless.ensures.quiet quiet.0 (quiet.2 self.first))
 
 pub returns-in-Err-fill-clause-again : goal.returns-in-Err-fill-clause-again
 returns-in-Err-fill-clause-again g c = λ quiet. grind (arith, quiet_again, once, opens_nothing)
@@ -71,22 +79,28 @@ returns-in-Err-fill-clause-again g c = λ quiet. grind (arith, quiet_again, once
 pub returns-in-Err-fill-clause-same : goal.returns-in-Err-fill-clause-same
 returns-in-Err-fill-clause-same g c = λ bag h sees.
     let self = c.args.self.now in
-    let seen = sees_each (awaits_second self.filled) (g.A.Source.todo self.first) (g.B.Source.todo self.second) bag c.fill_unless.ensures.keeps sees in
+    let seen =
+    sees_each (awaits_second self.filled) (g.A.Source.todo self.first) (g.B.Source.todo self.second) bag
+    c.fill_unless.ensures.keeps sees in
     let a = c.fill_unless.ensures.same bag h.0 seen.0 in
-    let b = c.fill.ensures.same bag h.1 seen.1 in
-    ((a.0, b.0, tt, c.in-Ok.ensures.first bag h.0 seen.0 (rw c.awaits_second.ensures h.3)), (λ i. union (a.1 i) (b.1 i)))
+    let b = c.fill.ensures.same bag h.1 seen.1 in (
+      (a.0, b.0, tt, c.in-Ok.ensures.first bag h.0 seen.0 (rw c.awaits_second.ensures h.3)),
+      (λ i. union (a.1 i) (b.1 i)),
+    )
 
 pub returns-in-Err-fill-clause-behind : goal.returns-in-Err-fill-clause-behind
 returns-in-Err-fill-clause-behind g c = λ quiet bag h sees.
     let self = c.args.self.now in
     nothing_opened _ (g.T.Tree.state c.args.tree.now) (g.T.Tree.state c.fill.new.tree)
-    (quiet_again (quiet.3 self.second) (c.in-Err-fill.ensures.again quiet.1) ∙ c.fill_unless.ensures.quiet quiet.0 (quiet.2 self.first))
+    (quiet_again (quiet.3 self.second) (c.in-Err-fill.ensures.again quiet.1)
+    ∙ c.fill_unless.ensures.quiet quiet.0 (quiet.2 self.first))
 
 pub returns-in-Err-fill-clause-stop : goal.returns-in-Err-fill-clause-stop
 returns-in-Err-fill-clause-stop g c = λ of.
     let keeps = c.fill_unless.ensures.keeps in
-    stop_front (g.A.Source.todo c.fill_unless.new.source) (stop_later keeps c.in-Ok.ensures.calm
-    (c.in-Err-fill.ensures.stop (λ honest. subst (λ bag. g.B.Source.is_of bag c.args.self.now.second) (sym keeps.bag) (of (sym keeps.honest ∙ honest)).1)))
+    stop_front (g.A.Source.todo c.fill_unless.new.source) (stop_later keeps c.in-Ok.ensures.no_failure
+    (c.in-Err-fill.ensures.stop (λ honest.
+    subst (λ bag. g.B.Source.is_of bag c.args.self.now.second) (sym keeps.bag) (of (sym keeps.honest ∙ honest)).1)))
 
 pub returns-in-Err-fill-clause-anyway : goal.returns-in-Err-fill-clause-anyway
 returns-in-Err-fill-clause-anyway g c = grind (arith, anyway_front, anyway_later)

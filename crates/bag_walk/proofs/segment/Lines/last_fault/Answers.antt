@@ -5,4 +5,5 @@ use Rattle.bag_walk.proofs.segment.Lines.last_fault.Goals as goal
 pub returns-in-Ok : goal.returns-in-Ok
 returns-in-Ok c = λ last is.
     let cut = c.in-Some.ensures.cases in
-    read_cursor last c.in-Ok.fault _ c.in-Some.line.now is (sym c.as_str.ensures.value ∙ cut.1.1 ∙ ap (λ line. line ++ codes "\n") (sym cut.2)) c.in-Ok.ensures.ok
+    read_cursor last c.in-Ok.fault _ c.in-Some.line.now is
+    (sym c.as_str.ensures.value ∙ cut.1.1 ∙ ap (λ line. line ++ codes "\n") (sym cut.2)) c.in-Ok.ensures.ok

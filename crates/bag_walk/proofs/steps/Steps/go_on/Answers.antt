@@ -16,7 +16,7 @@ returns g c =
     to_give (shown_by new.is_shown (g.S.Source.found new.source)) (g.S.Source.remaining bag new.source) in
     record {
       keeps = step.keeps;
-      calm = step.calm;
+      no_failure = step.no_failure;
       over = λ bag h. (step.next bag h.0 h.1).0;
       position = λ check position h stands.
           gives_on check position result (before check.bag) (after check.bag)

@@ -4,12 +4,16 @@ use Rattle.bag_walk.proofs.steps.Steps.step.Goals as goal
 pub returns-in-Ok-clause-behind : goal.returns-in-Ok-clause-behind
 returns-in-Ok-clause-behind g c = λ bag h sees.
     let left = c.leave.ensures.left bag h in
-    rw (c.leave.ensures.tree, left.1) at (c.fill.ensures.behind g.met.S.InOrder.is_in_order bag left.0 (rw (c.leave.ensures.tree, c.leave.ensures.todo) sees))
+    rw (c.leave.ensures.tree, left.1) at
+    (c.fill.ensures.behind g.met.S.InOrder.is_in_order bag left.0
+    (rw (c.leave.ensures.tree, c.leave.ensures.todo) sees))
 
 pub returns-in-Err-clause-behind : goal.returns-in-Err-clause-behind
 returns-in-Err-clause-behind g c = λ bag h sees.
     let left = c.leave.ensures.left bag h in
-    rw (c.leave.ensures.tree, left.1) at (c.fill.ensures.behind g.met.S.InOrder.is_in_order bag left.0 (rw (c.leave.ensures.tree, c.leave.ensures.todo) sees))
+    rw (c.leave.ensures.tree, left.1) at
+    (c.fill.ensures.behind g.met.S.InOrder.is_in_order bag left.0
+    (rw (c.leave.ensures.tree, c.leave.ensures.todo) sees))
 
 pub returns-in-Ok-clause-opens : goal.returns-in-Ok-clause-opens
 returns-in-Ok-clause-opens g c = grind arith
@@ -18,12 +22,14 @@ pub returns-in-Err-clause-again : goal.returns-in-Err-clause-again
 returns-in-Err-clause-again g c = grind arith
 
 pub returns-in-Err-clause-reached : goal.returns-in-Err-clause-reached
-returns-in-Err-clause-reached g c = rw (c.leave.ensures.tree, c.leave.ensures.todo) at (c.in-Err.ensures.reached g.met.S.InOrder.is_in_order)
+returns-in-Err-clause-reached g c = rw (c.leave.ensures.tree, c.leave.ensures.todo) at
+    (c.in-Err.ensures.reached g.met.S.InOrder.is_in_order)
 
 pub returns-in-Err-clause-waits : goal.returns-in-Err-clause-waits
 returns-in-Err-clause-waits g c = λ bag h sees.
     let left = c.leave.ensures.left bag h in
-    rw left.1 at (c.in-Err.ensures.waits g.met.S.InOrder.is_in_order bag left.0 (rw (c.leave.ensures.tree, c.leave.ensures.todo) sees))
+    rw left.1 at (c.in-Err.ensures.waits g.met.S.InOrder.is_in_order bag left.0
+    (rw (c.leave.ensures.tree, c.leave.ensures.todo) sees))
 
-pub returns-in-Ok-clause-calm : goal.returns-in-Ok-clause-calm
-returns-in-Ok-clause-calm g c = rw c.leave.ensures.tree at c.in-Ok.ensures.calm
+pub returns-in-Ok-clause-no_failure : goal.returns-in-Ok-clause-no_failure
+returns-in-Ok-clause-no_failure g c = rw c.leave.ensures.tree at c.in-Ok.ensures.no_failure

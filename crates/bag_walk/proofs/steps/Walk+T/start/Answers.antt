@@ -8,7 +8,7 @@ returns-in-Ok-sources_of-clause-started g c =
     let facts = c.in-Ok.facts in
     let read = c.in-Ok.ensures in
     rw (c.new.ensures, ← c.as_ref.ensures.value) (record {
-      calm = read.calm;
+      no_failure = read.no_failure;
       plain = read.plain;
       opened = (facts.listing, read.seen.2.ordered, (λ honest. (read.facts honest).listing), read.opened);
       shown = refl;
@@ -23,5 +23,7 @@ returns-clause-refused g c =
     record {
       opened_first = grind (arith, opens_all_first);
       refused_at = λ some. absurd (some memory.path);
-      stop = facts_stop_of_memory c.args.options _ _ c.without_path.result (memory.cause, memory.path) c.in-Ok.ensures.calm;
+      stop =
+          facts_stop_of_memory c.args.options _ _ c.without_path.result (memory.cause, memory.path)
+          c.in-Ok.ensures.no_failure;
     }

@@ -12,4 +12,5 @@ with_nodes-requires c =
     subst IsDisk (sym same) (passing_is_disk (nodes_of c.args.self.now.nodes.entries) c.args.self.now.passes)
 
 pub returns-clause-disk : goal.returns-clause-disk
-returns-clause-disk c = c.with_nodes.ensures.disk ∙ ap fresh (held_cloned c.args.self.now.nodes.entries _ c.in_ok-clone.ensures.cases)
+returns-clause-disk c = c.with_nodes.ensures.disk
+    ∙ ap fresh (held_cloned c.args.self.now.nodes.entries _ c.in_ok-clone.ensures.cases)

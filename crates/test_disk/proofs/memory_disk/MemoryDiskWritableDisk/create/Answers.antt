@@ -12,6 +12,8 @@ invariant_of-self-2 c =
     let added = c.in-Ok.ensures in
     let made = added.added ∙ ap (λ bytes. map.insert nodes key (File bytes)) c.new.ensures.items in
     record {
-      passes = added_passes nodes (nodes_of c.add_node.new.nodes.entries) key c.args.path.now (File []) c.as_bytes.ensures.value made
+      passes =
+          added_passes nodes (nodes_of c.add_node.new.nodes.entries) key c.args.path.now (File [])
+          c.as_bytes.ensures.value made
           c.args.self.now.passes c.requires c.utf8.path refl added.free added.reached;
     }

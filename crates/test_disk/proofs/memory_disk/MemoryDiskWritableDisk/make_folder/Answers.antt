@@ -8,6 +8,8 @@ pub invariant_of-self-2 : goal.invariant_of-self-2
 invariant_of-self-2 c =
     let added = c.in-Ok.ensures in
     record {
-      passes = added_passes (nodes_of c.args.self.now.nodes.entries) (nodes_of c.add_node.new.nodes.entries) c.as_bytes.result.now c.args.path.now Folder c.as_bytes.ensures.value added.added
+      passes =
+          added_passes (nodes_of c.args.self.now.nodes.entries) (nodes_of c.add_node.new.nodes.entries)
+          c.as_bytes.result.now c.args.path.now Folder c.as_bytes.ensures.value added.added
           c.args.self.now.passes c.requires c.utf8.path refl added.free added.reached;
     }

@@ -5,6 +5,8 @@ use Rattle.test_disk.proofs.memory_disk.MemoryDiskWritableDisk.write.Goals as go
 
 pub invariant_of-self-2 : goal.invariant_of-self-2
 invariant_of-self-2 c = record {
-  passes = appended_passes (nodes_of c.args.self.now.nodes.entries) (nodes_of c.append.new.nodes.entries) c.as_bytes.result.now c.args.bytes.now
+  passes =
+      appended_passes (nodes_of c.args.self.now.nodes.entries) (nodes_of c.append.new.nodes.entries)
+      c.as_bytes.result.now c.args.bytes.now
       c.args.self.now.passes c.in-Ok.ensures.appended (bytes_below c.args.bytes.now c.type_inv.bytes);
 }

@@ -51,8 +51,8 @@ GivesAnew path event =
     ⊎ ((other : List ℕ) × (event ≡ Rename path other))
     ⊎ ((other : List ℕ) × (event ≡ Rename other path))
 
--- A sync of a file makes nothing durable that was written before its path, or one above it, was given
--- anew: the older file may hold any bytes.
+-- A sync of a file makes nothing durable that was written before its path, or one above it, was
+-- given anew: the older file may hold any bytes.
 abbrev pub SyncsAreOfTheNewFile : Type 0
 SyncsAreOfTheNewFile =
     (bag : Bag) (name path bytes found : List ℕ) (event : DeviceEvent)
@@ -63,5 +63,6 @@ SyncsAreOfTheNewFile =
 abbrev pub SyncsAreOfTheNewFolder : Type 0
 SyncsAreOfTheNewFolder =
     (bag : Bag) (folder name path : List ℕ) (event : DeviceEvent)
-    → folder ≢ [] → IsTrue (is_base_name name) → IsTrue (is_within path folder) → GivesAnew path event
+    → folder ≢ [] → IsTrue (is_base_name name) → IsTrue (is_within path folder)
+    → GivesAnew path event
     → MayLeave (Create (under folder name) ∷ event ∷ SyncFolder folder ∷ []) bag bag

@@ -16,7 +16,7 @@ use Rattle.bag_walk.specs.declared.outcome.Request.{Request}
 use Rattle.bag_profile.specs.Profile.{Profile}
 use Rattle.bag_report.specs.Report.{IsReport, above, first}
 use Rattle.bag_walk.specs.Run.{check_of}
-use Rattle.bag_cli.specs.Honest.{IsToldMade}
+use Rattle.bag_cli.specs.Honest.{IsReportedMade}
 use Rattle.bag_arguments.specs.declared.plan.Action.TheVariants.{Check}
 use Rattle.bag_arguments.specs.declared.plan.Plan.{Plan}
 use Rattle.bag_cli.specs.Checked.{AreChecksOf, request_of, visit_of}
@@ -27,40 +27,44 @@ abbrev pub shown_of : Request → List Fault → List Fault
 shown_of request faults = first (min (limit_of request) (length faults)) faults
 
 -- the lines that a request has where nothing is refused, by the faults above the cursor
-abbrev pub told_lines : Request → List Fault → List (List ℕ)
-told_lines request faults = lines_of_run request (shown_of request faults) (ideal request faults)
+abbrev pub reported_lines : Request → List Fault → List (List ℕ)
+reported_lines request faults =
+    lines_of_run request (shown_of request faults) (ideal request faults)
 
--- Unless a read, a write or a growth was refused, the output took the lines of the bag's report above the cursor, up to the
--- limit, and the closing line, and the status tells whether there are faults.
+-- Unless a read, a write or a growth was refused, the output took the lines of the bag's report
+-- above the cursor, up to the limit, and the closing line, and the status tells whether there are
+-- faults.
 abbrev pub TellsReport : Plan → Option Profile → Bag → List ℕ → OutState → OutState → ℕ → Type 0
 TellsReport plan profile bag name before after n =
     let request = request_of plan name in
     n ≢ 3 → (report : List Fault) → IsReport (check_of bag profile request) report
     → (n ≡ status (ideal request (above plan.after report)))
-    × Appends before.taken after.taken (concat (told_lines request (above plan.after report)))
+    × Appends before.taken after.taken (concat (reported_lines request (above plan.after report)))
 
--- the law: over an honest disk, the check of one directory tells the report of the bag that stands there
-abbrev pub HonestDisksAreTold : Type 0
-HonestDisksAreTold =
+-- the law: over an honest disk, the check of one directory tells the report of the bag that stands
+-- there
+abbrev pub HonestDisksAreReported : Type 0
+HonestDisksAreReported =
     (plan : Plan) (profile : Option Profile) (below : List ℕ → DiskState) (name : List ℕ)
     (before after : OutState) (visits : List Event) (n : ℕ) → IsTrue (below name).honest
     → AreChecksOf plan profile (λ name. tree_state (below name) 0) (name ∷ []) before after visits n
     → TellsReport plan profile (bag_of (below name).nodes) name before after n
 
 -- The folder's tree was left as the bag that the plan makes of what stood there, which has no fault
--- where its size can be told and outlasts a power cut. That was said, but for a quiet making.
-abbrev pub TellsMade : Plan → TreeState → List ℕ → OutState → OutState → List Event → Type 0
-TellsMade plan tree name before after visits =
+-- where its size can be known and outlasts a power cut. That was said, but for a quiet making.
+abbrev pub ReportsMade : Plan → TreeState → List ℕ → OutState → OutState → List Event → Type 0
+ReportsMade plan tree name before after visits =
     (new : TreeState) × (visits ≡ visit_of name new)
-    × IsToldMade name plan.algs (map element_of plan.info) plan.quiet tree new before after 0
+    × IsReportedMade name plan.algs (map element_of plan.info) plan.quiet tree new before after 0
 
--- the law: over an honest disk, the making of one directory with status 0 left it a bag, and told that
+-- the law: over an honest disk, the making of one directory with status 0 left it a bag, and
+-- reported that
 abbrev pub HonestFoldersAreMade : Type 0
 HonestFoldersAreMade =
     (plan : Plan) (below : List ℕ → DiskState) (name : List ℕ)
     (before after : OutState) (visits : List Event) → IsTrue (below name).honest
     → AreMakingsOf plan (λ name. tree_state (below name) 0) (name ∷ []) before after visits 0
-    → TellsMade plan (tree_state (below name) 0) name before after visits
+    → ReportsMade plan (tree_state (below name) 0) name before after visits
 
 -- a plan that checks one directory, without a profile
 abbrev pub IsCheckOfOne : Plan → List ℕ → Type 0

@@ -1,6 +1,6 @@
 use Rattle.bag_text.proofs.Common.{arith}
 use Rattle.bag_text.proofs.SortKeys.{whole}
-use Rattle.bag_text.proofs.sort_key.key_behind.Goals as goal
+use Rattle.bag_text.proofs.sort_key.key_after.Goals as goal
 
 pub returns-in-Some : goal.returns-in-Some
 returns-in-Some c = grind (arith, whole)
