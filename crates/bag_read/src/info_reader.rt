@@ -142,7 +142,10 @@ fn push_fault(alloc: Global, faults: &mut Items<LineFault>, number: u64) -> Resu
 fn push_part(alloc: Global, value: &mut Text, part: &str) -> Result<(), AllocError>
     ensures { OnOk result (value.new ≡ reading.with_part value.old part.now) }
 {
-    let mut text = mem::replace(value, Text::empty(alloc)).into_string(alloc)?;
+    let mut text = match mem::replace(value, Text::empty(alloc)).into_string() {
+        Ok(string) => string,
+        Err(text) => String::from_str(alloc, text.as_str())?,
+    };
     text.push(LINE_FEED)?;
     text.push_str(trim(part))?;
     *value = Text::from_string(text);

@@ -6,7 +6,7 @@ use std::marker::Model;
 use std::rc::RcStr;
 
 /// A part of a text that has more than one owner, seen by contracts as its bytes.
-#[derive(Debug, Drop)]
+#[derive(Drop)]
 pub(crate) struct Part {
     whole: RcStr,
     start: u32,

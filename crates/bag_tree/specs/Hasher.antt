@@ -1,7 +1,7 @@
 -- What a hasher holds.
 use Rattle.std.specs.Prelude.{ℕ, List}
-use Rattle.md5.specs.Md5.{HoldsMessage as HoldsMd5}
-use Rattle.sha1.specs.Sha1.{HoldsMessage as HoldsSha1}
+use Rattle.md5.specs.Md5.{Holds as HoldsMd5}
+use Rattle.sha1.specs.Sha1.{Holds as HoldsSha1}
 use Rattle.sha2.specs.Hashers.{Holds224, Holds256, Holds384, Holds512}
 use Rattle.bag_text.specs.declared.alg.Alg.{Alg}
 use Rattle.bag_text.specs.declared.alg.Alg.TheVariants.{Md5, Sha1, Sha224, Sha256, Sha384, Sha512}

@@ -102,7 +102,7 @@ fn refused_words(rt: HostRuntime) {
     let refused = Usage::Refused(text_of(&rt, rt.alloc(), "error: 'x'\n"));
     let texts = (
         "error: 'x'\n",
-        "Refused(Text { string: \"error: 'x'\\n\" })",
+        "Refused(\"error: 'x'\\n\")",
     );
     try_shown(&rt, rt.alloc(), &refused, texts);
 }
@@ -127,7 +127,7 @@ fn refused_calls(rt: HostRuntime) {
     }
     let texts = (
         "data/a not-found",
-        "Stop { cause: NotFound, path: Text { string: \"data/a\" } }",
+        "Stop { cause: NotFound, path: \"data/a\" }",
     );
     try_shown(&rt, rt.alloc(), &unread(&rt, rt.alloc()), texts);
 }
@@ -143,7 +143,7 @@ fn refused_makings(rt: HostRuntime) {
     let stopped = MakeFault::ReadStopped(unread(&rt, rt.alloc()));
     let texts = (
         "read data/a not-found",
-        "ReadStopped(Stop { cause: NotFound, path: Text { string: \"data/a\" } })",
+        "ReadStopped(Stop { cause: NotFound, path: \"data/a\" })",
     );
     try_shown(&rt, rt.alloc(), &stopped, texts);
     let texts = ("out of memory", "Memory");
