@@ -11,3 +11,8 @@ pub loop-path-preserved : goal.loop-path-preserved
 loop-path-preserved c = λ nodes files folders.
     folder_taken nodes c.loop-path.found.items c.loop-path.folders.items c.pop.new.self.items c.in-Some.path
     c.in-Some.ensures.items (c.loop-path.invariant nodes files folders)
+
+pub loop-path-preserved-else-not-is_empty : goal.loop-path-preserved-else-not-is_empty
+loop-path-preserved-else-not-is_empty c = λ nodes files folders.
+    folder_taken nodes c.loop-path.found.items c.loop-path.folders.items c.pop.new.self.items c.in-Some.path
+    c.in-Some.ensures.items (c.loop-path.invariant nodes files folders)

@@ -33,6 +33,21 @@ loop-self-preserved g c =
       added.failures ∙ c.in-Ok-Some.ensures.failures ∙ c.loop-self.invariant.5,
     )
 
+pub loop-self-preserved-in_ok-add-in-Ok-Some : goal.loop-self-preserved-in_ok-add-in-Ok-Some
+loop-self-preserved-in_ok-add-in-Ok-Some g c =
+    let added = c.in_ok-add-in-Ok-Some.ensures in (
+      looks_on _ _ _ (looks_on _ _ _ c.loop-self.invariant.0 c.in-Ok-Some.ensures.looks) added.looks,
+      λ honest listed begun.
+          rw added.names (turn _ _ _ c.in-Ok-Some.field-0 _ _ _ _ listed c.args.folder.now c.in-Ok-Some.name
+          c.as_str.result.now
+          c.loop-self.invariant.0 c.in-Ok-Some.ensures.looks c.in-Ok-Some.field-0-is c.in-Ok-Some.ensures.honest
+          c.as_str.ensures added.walked honest (c.loop-self.invariant.1 honest listed begun)),
+      added.listed ∙ c.loop-self.invariant.2,
+      omega (arith, added.left, c.loop-self.invariant.3),
+      λ paths. added.paths (c.loop-self.invariant.4 paths),
+      added.failures ∙ c.in-Ok-Some.ensures.failures ∙ c.loop-self.invariant.5,
+    )
+
 pub returns-in_err-add-in-Ok-Some-clause-refused : goal.returns-in_err-add-in-Ok-Some-clause-refused
 returns-in_err-add-in-Ok-Some-clause-refused g c =
     let looks =
