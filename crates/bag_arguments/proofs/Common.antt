@@ -32,5 +32,5 @@ pub use Rattle.bag_arguments.specs.Given.{is_given, listed, named_algs, or_defau
 pub use Rattle.bag_arguments.specs.Labels.{label_option}
 pub use Rattle.bag_arguments.specs.declared.label.Label.{Label}
 unfoldable pub use Rattle.bag_arguments.specs.Arguments.{command}
-unfoldable pub use Rattle.bag_arguments.specs.Words.{is_taken, matches, refusals}
+unfoldable pub use Rattle.bag_arguments.specs.Words.{clap_takes, matches, refusals}
 unfoldable pub use Rattle.clap.proofs.OnLiterals.{clap_on_literals}

@@ -38,7 +38,7 @@ returns-in-Equal-clause-least c = λ p q.
     (λ i. fronts (sym (front_is fs c.front.result c.front.ensures.item) i)
     (sym (front_is gs c.front-2.result c.front-2.ensures.item) i)) ∙ sym c.order.ensures ∙ c.in-Equal.is in
     let other = c.pop_front-in-Equal in
-    let popped = c.pop_front-in-Equal-2 in
+    let popped = c.pop_front-in-Equal-4 in
     rw (
       popped_is fs popped.new.self.items popped.result popped.ensures.items popped.ensures.rest,
       popped.ensures.rest,
