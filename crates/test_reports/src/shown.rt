@@ -100,10 +100,7 @@ fn refused_words(rt: HostRuntime) {
     let texts = ("bagit: out of memory", "Memory");
     try_shown(&rt, rt.alloc(), &Usage::Memory, texts);
     let refused = Usage::Refused(text_of(&rt, rt.alloc(), "error: 'x'\n"));
-    let texts = (
-        "error: 'x'\n",
-        "Refused(\"error: 'x'\\n\")",
-    );
+    let texts = ("error: 'x'\n", "Refused(\"error: 'x'\\n\")");
     try_shown(&rt, rt.alloc(), &refused, texts);
 }
 
