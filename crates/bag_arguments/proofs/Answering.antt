@@ -1,7 +1,7 @@
 -- How the answers of the parts make the answer of the whole.
 use Rattle.bag_arguments.proofs.Common.{arith, ◌≡◌, ◌≢◌, Bool, List, [], Option, Some, None, Result, Err, is_some}
 use Rattle.bag_arguments.proofs.Common.{option_map, if◌then◌else◌, HasKind, Row, Text, kind_of, OutOfMemory}
-use Rattle.bag_arguments.proofs.Common.{has_after_several, has_two_depths, out_of_place, refusals, matches}
+use Rattle.bag_arguments.proofs.Common.{has_after_several, has_two_depths, out_of_place, refusals, matches_of_words}
 use Rattle.clap.specs.declared.error.Error.{Error}
 use Rattle.bag_arguments.proofs.OneKind.{refusals_one}
 use Rattle.bag_arguments.specs.Plan.{Declines, IsNotRefused, IsPlanned, Plans, misuse}
@@ -30,7 +30,7 @@ misuse_answered rows usage e = e
 
 -- the words are taken
 pub taken_answered : (words : List Text) (rows : List Row) (result : Result Plan Usage) → words ≢ []
-    → refusals words ≡ [] → rows ≡ matches words → Plans rows result → IsPlanned words result
+    → refusals words ≡ [] → rows ≡ matches_of_words words → Plans rows result → IsPlanned words result
 taken_answered words rows result some none is plans = grind arith
 
 -- clap gives no matches

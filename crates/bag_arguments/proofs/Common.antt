@@ -25,12 +25,14 @@ pub use Rattle.clap.specs.declared.builder.arg.Arg.{Arg}
 pub use Rattle.clap.specs.declared.builder.command.Command.{Command}
 pub use Rattle.clap.specs.declared.builder.value_parser.ValueParser.{ValueParser}
 pub use Rattle.clap.specs.declared.error.kind.ErrorKind.TheVariants.{ArgumentConflict, OutOfMemory}
-pub use Rattle.bag_arguments.specs.Arguments.{alg_arguments, check_arguments, flag, label_arguments, main_arguments}
-pub use Rattle.bag_arguments.specs.Arguments.{option, with_rules, without_program_name}
+pub use Rattle.bag_arguments.specs.Arguments.{alg_arguments, check_arguments, flag_rule, label_arguments}
+pub use Rattle.bag_arguments.specs.Arguments.{main_arguments}
+pub use Rattle.bag_arguments.specs.Arguments.{option_rule, with_rules, without_program_name}
 pub use Rattle.bag_arguments.specs.Given.{HasLimit, IsLimit, IsLimitText, element, has_after_several, has_two_depths}
-pub use Rattle.bag_arguments.specs.Given.{is_given, listed, named_algs, or_default, out_of_place, values}
+pub use Rattle.bag_arguments.specs.Given.{is_given, named_algs, or_default, out_of_place, values}
+pub use Rattle.std.specs.Option.{option_to_list}
 pub use Rattle.bag_arguments.specs.Labels.{label_option}
 pub use Rattle.bag_arguments.specs.declared.label.Label.{Label}
 unfoldable pub use Rattle.bag_arguments.specs.Arguments.{command}
-unfoldable pub use Rattle.bag_arguments.specs.Words.{clap_takes, matches, refusals}
+unfoldable pub use Rattle.bag_arguments.specs.Words.{clap_takes, matches_of_words, refusals}
 unfoldable pub use Rattle.clap.proofs.OnLiterals.{clap_on_literals}

@@ -4,7 +4,8 @@ use Rattle.bag_arguments.proofs.Common.{arith, ◌≡◌, ◌≢◌, ◌∙◌, 
 use Rattle.bag_arguments.proofs.Common.{◌||◌, Option, Some, None, refl, sym, ap, bytes_eq, codes, unwrap_or, filter}
 use Rattle.bag_arguments.proofs.Common.{fold, take, map, option_map, length, if◌then◌else◌, filter_map, slice_index_or}
 use Rattle.bag_arguments.proofs.Common.{ParsesBool, Bor, take_more, filter_map-append, bytes_eq-Decides, algs, Alg}
-use Rattle.bag_arguments.proofs.Common.{ReadsOne, Text, matched_of, raw_values, rows_of, raw_values-rows, listed}
+use Rattle.bag_arguments.proofs.Common.{ReadsOne, Text, matched_of, raw_values, rows_of, raw_values-rows}
+use Rattle.bag_arguments.proofs.Common.{option_to_list}
 use Rattle.bag_arguments.proofs.Common.{or_default, values}
 use Rattle.bag_text.specs.AlgList.{has_member, same_alg, with_member}
 use Rattle.bag_text.specs.AlgTable.{has_each, has_member-filter, same_alg_same}
@@ -25,7 +26,7 @@ flag_read E (Some t) None none some = sym (is_not_true t (some t refl).1.0 _ ref
 
 -- one item more
 pub filter_map_more : {X Y : Type 0} (h : X → Option Y) (xs : List X) (i : ℕ) (d : X) → i < length xs
-    → filter_map h (take (i + 1) xs) ≡ filter_map h (take i xs) ++ listed (h (slice_index_or xs i d))
+    → filter_map h (take (i + 1) xs) ≡ filter_map h (take i xs) ++ option_to_list (h (slice_index_or xs i d))
 filter_map_more h xs i d below = grind (arith, common_steps, take_more, filter_map-append)
 
 -- the values of an argument, as they are read

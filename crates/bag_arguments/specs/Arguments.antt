@@ -6,23 +6,23 @@ use Rattle.clap.specs.Words.{App, Rule, Text, new_app, new_rule, with_rule}
 use Rattle.clap.specs.Simple.{on_top}
 use Rattle.clap.specs.declared.builder.action.ArgAction.TheVariants.{Set, SetTrue}
 use Rattle.clap.specs.declared.builder.value_parser.ValueParser.TheVariants.{Unsigned}
-use Rattle.bag_arguments.specs.Labels.{labels, label_option}
+use Rattle.bag_arguments.specs.Labels.{all_labels, label_option}
 
 -- `--NAME`
-abbrev pub flag : Text → Rule
-flag name = record (new_rule name) { long = Some name; action = Some SetTrue }
+abbrev pub flag_rule : Text → Rule
+flag_rule name = record (new_rule name) { long = Some name; action = Some SetTrue }
 
 -- `--NAME TEXT`
-abbrev pub option : Text → Rule
-option name = record (new_rule name) { long = Some name; action = Some Set; value_names = 1 }
+abbrev pub option_rule : Text → Rule
+option_rule name = record (new_rule name) { long = Some name; action = Some Set; value_names = 1 }
 
 -- `--NAME N`, a number of 1 or more
-abbrev pub number : Text → Rule
-number name = record (option name) { parser = Some (Unsigned 1 usize_max) }
+abbrev pub number_rule : Text → Rule
+number_rule name = record (option_rule name) { parser = Some (Unsigned 1 usize_max) }
 
 -- one or more of them, without an option
-abbrev pub operands : Text → Rule
-operands name = record (new_rule name) {
+abbrev pub operands_rule : Text → Rule
+operands_rule name = record (new_rule name) {
   required = true;
   value_names = 1;
   range = Some (record { start_inclusive = 1; end_inclusive = usize_max });
@@ -30,27 +30,29 @@ operands name = record (new_rule name) {
 
 -- what is done, how much is said, and to which folders
 abbrev pub main_arguments : List Rule
-main_arguments = flag (codes "validate") ∷ flag (codes "quiet") ∷ operands (codes "directory") ∷ []
+main_arguments =
+    flag_rule (codes "validate") ∷ flag_rule (codes "quiet")
+    ∷ operands_rule (codes "directory") ∷ []
 
 -- those that need --validate
 abbrev pub check_arguments : List Rule
 check_arguments =
-    flag (codes "fast")
-    ∷ flag (codes "completeness-only")
-    ∷ flag (codes "declaration-only")
-    ∷ option (codes "profile")
-    ∷ option (codes "after")
-    ∷ number (codes "max-faults")
-    ∷ flag (codes "clashes")
+    flag_rule (codes "fast")
+    ∷ flag_rule (codes "completeness-only")
+    ∷ flag_rule (codes "declaration-only")
+    ∷ option_rule (codes "profile")
+    ∷ option_rule (codes "after")
+    ∷ number_rule (codes "max-faults")
+    ∷ flag_rule (codes "clashes")
     ∷ []
 
 -- those of the algorithms
 abbrev pub alg_arguments : List Rule
-alg_arguments = map (λ alg. flag (name alg)) algs
+alg_arguments = map (λ alg. flag_rule (name alg)) algs
 
 -- those of the labels
 abbrev pub label_arguments : List Rule
-label_arguments = map (λ label. option (label_option label)) labels
+label_arguments = map (λ label. option_rule (label_option label)) all_labels
 
 abbrev pub with_rules : App → List Rule → App
 with_rules app rules = fold with_rule app rules

@@ -11,7 +11,7 @@ use Rattle.bag_text.specs.declared.alg.Alg.{Alg}
 use Rattle.bag_text.specs.declared.alg.Alg.TheVariants.{Sha256, Sha512}
 use Rattle.bag_facts.specs.declared.options.Depth.{Depth}
 use Rattle.bag_facts.specs.declared.options.Depth.TheVariants.{Declaration, Fast, Complete, Full}
-use Rattle.bag_arguments.specs.Labels.{labels, label_name, label_option}
+use Rattle.bag_arguments.specs.Labels.{all_labels, label_name, label_option}
 use Rattle.bag_arguments.specs.declared.label.Label.{Label}
 use Rattle.bag_arguments.specs.declared.plan.InfoItem.{InfoItem}
 use Rattle.bag_arguments.specs.declared.check_option.CheckOption.{CheckOption}
@@ -125,10 +125,5 @@ element rows label =
     option_map (λ text. record { label = label_name label; value = trim text })
     (value rows (label_option label))
 
--- the items of a list with one place
-abbrev pub listed : {X : Type 0} → Option X → List X
-listed None = []
-listed (Some x) = x ∷ []
-
 abbrev pub info : List Row → List InfoItem
-info rows = filter_map (element rows) labels
+info rows = filter_map (element rows) all_labels

@@ -15,8 +15,8 @@ use Rattle.bag_arguments.specs.declared.label.Label.TheVariants.{BagItProfileIde
 use Rattle.bag_arguments.specs.declared.label.Label.TheVariants.{BaggingDate}
 
 -- in the order in which their elements are written
-abbrev pub labels : List Label
-labels =
+abbrev pub all_labels : List Label
+all_labels =
     SourceOrganization ∷ OrganizationAddress ∷ ContactName ∷ ContactPhone ∷ ContactEmail
     ∷ ExternalDescription ∷ ExternalIdentifier ∷ BagSize ∷ BagGroupIdentifier ∷ BagCount
     ∷ InternalSenderIdentifier ∷ InternalSenderDescription ∷ BagItProfileIdentifier ∷ BaggingDate

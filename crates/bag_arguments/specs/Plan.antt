@@ -10,7 +10,7 @@ use Rattle.bag_facts.specs.declared.options.Depth.TheVariants.{Declaration}
 use Rattle.bag_arguments.specs.Given.{validates, directories, depth, is_given, value, IsLimit}
 use Rattle.bag_arguments.specs.Given.{named_algs, or_default, info}
 use Rattle.bag_arguments.specs.Given.{out_of_place, has_two_depths, has_after_several}
-use Rattle.bag_arguments.specs.Words.{refusals, matches}
+use Rattle.bag_arguments.specs.Words.{refusals, matches_of_words}
 use Rattle.bag_arguments.specs.declared.plan.Action.{Action}
 use Rattle.bag_arguments.specs.declared.plan.Action.TheVariants.{Sample, Help, Check, Make}
 use Rattle.bag_arguments.specs.declared.plan.Plan.{Plan}
@@ -95,7 +95,8 @@ Answers (kind ∷ more) rows result = Declines kind result
 -- no words ask for the sample
 abbrev pub IsPlanned : List Text → Result Plan Usage → Type 0
 IsPlanned [] result = result ≡ Ok (plan_without_words Sample)
-IsPlanned (word ∷ rest) result = Answers (refusals (word ∷ rest)) (matches (word ∷ rest)) result
+IsPlanned (word ∷ rest) result =
+    let words = word ∷ rest in Answers (refusals words) (matches_of_words words) result
 
 -- the words aren't refused as words that the program doesn't take
 abbrev pub IsNotRefused : Result Plan Usage → Type 0

@@ -5,16 +5,16 @@ use Rattle.clap.specs.Words.{Kinds, Row, Text, fault_of, matches_of, takes}
 use Rattle.bag_arguments.specs.Arguments.{command}
 
 -- the texts of the words
-abbrev pub texts : List (Bor Text) → List Text
-texts words = map (λ word. word.now) words
+abbrev pub texts_of_words : List (Bor Text) → List Text
+texts_of_words words = map (λ word. word.now) words
 
 -- why the words are refused, or that help is asked for; empty where they are taken
 unfoldable pub refusals : List Text → Kinds
 refusals words = fault_of command words
 
 -- what is given, where the words are taken
-unfoldable pub matches : List Text → List Row
-matches words = matches_of command words
+unfoldable pub matches_of_words : List Text → List Row
+matches_of_words words = matches_of command words
 
 -- whether clap takes the words: it then refuses them only when out of memory
 unfoldable pub clap_takes : List Text → Bool

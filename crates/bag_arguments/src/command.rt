@@ -104,7 +104,7 @@ fn with_alg_arguments<'a>(alloc: Global, command: Command<'a>) -> Result<Command
 
 /// The option of an algorithm.
 fn alg_argument<'a>(alloc: Global, alg: Alg) -> Arg<'a>
-    ensures rule { rule_of result ≡ spec.flag (name_of alg) }
+    ensures rule { rule_of result ≡ spec.flag_rule (name_of alg) }
     ensures global { result.global ≡ false }
 {
     let name: &'a str = alg.name();
@@ -119,7 +119,7 @@ fn with_label_arguments<'a>(
     labels: &[Label],
 ) -> Result<Command<'a>, AllocError>
     ensures { IfOk result (λ c. app_of c ≡ spec.with_rules (app_of command.entry)
-        (map (λ label. spec.option (label_option label)) labels.now)) }
+        (map (λ label. spec.option_rule (label_option label)) labels.now)) }
 {
     let mut extended = command;
     for label in labels {
@@ -130,7 +130,7 @@ fn with_label_arguments<'a>(
 
 /// The option of a label.
 fn label_argument<'a>(alloc: Global, label: Label) -> Arg<'a>
-    ensures rule { rule_of result ≡ spec.option (label_option label) }
+    ensures rule { rule_of result ≡ spec.option_rule (label_option label) }
     ensures global { result.global ≡ false }
 {
     let name: &'a str = label.option();
@@ -140,7 +140,7 @@ fn label_argument<'a>(alloc: Global, label: Label) -> Arg<'a>
 
 /// An option without a value.
 fn flag<'a>(alloc: Global, name: &'a str, help: &'a str) -> Arg<'a>
-    ensures rule { rule_of result ≡ spec.flag name.entry.now }
+    ensures rule { rule_of result ≡ spec.flag_rule name.entry.now }
     ensures global { result.global ≡ false }
 {
     Arg::new(alloc, name)
@@ -151,7 +151,7 @@ fn flag<'a>(alloc: Global, name: &'a str, help: &'a str) -> Arg<'a>
 
 /// An option with a value.
 fn option<'a>(alloc: Global, name: &'a str, value_name: &'a str, help: &'a str) -> Arg<'a>
-    ensures rule { rule_of result ≡ spec.option name.entry.now }
+    ensures rule { rule_of result ≡ spec.option_rule name.entry.now }
     ensures global { result.global ≡ false }
 {
     Arg::new(alloc, name)
@@ -163,7 +163,7 @@ fn option<'a>(alloc: Global, name: &'a str, value_name: &'a str, help: &'a str) 
 
 /// An option with a number of 1 or more.
 fn number<'a>(alloc: Global, name: &'a str, help: &'a str) -> Arg<'a>
-    ensures rule { rule_of result ≡ spec.number name.entry.now }
+    ensures rule { rule_of result ≡ spec.number_rule name.entry.now }
     ensures global { result.global ≡ false }
 {
     option(alloc, name, "N", help).value_parser(value_parser!(u64).range(1..))
@@ -171,7 +171,7 @@ fn number<'a>(alloc: Global, name: &'a str, help: &'a str) -> Arg<'a>
 
 /// One or more values without an option.
 fn operands<'a>(alloc: Global, name: &'a str, value_name: &'a str, help: &'a str) -> Arg<'a>
-    ensures rule { rule_of result ≡ spec.operands name.entry.now }
+    ensures rule { rule_of result ≡ spec.operands_rule name.entry.now }
     ensures global { result.global ≡ false }
 {
     Arg::new(alloc, name)

@@ -1,6 +1,7 @@
 //! What is given on the command line, read from the matches of clap.
 ghost use Rattle.std.specs.Prelude.{◌≡◌, ◌++◌, map, filter_map, find, option_map, codes, length};
 ghost use Rattle.std.specs.Prelude.{IfOk, OnOk, Some, None, if◌then◌else◌};
+ghost use Rattle.std.specs.Option.{option_to_list};
 ghost use Rattle.bag_arguments.specs.Given as spec;
 ghost use Rattle.bag_text.specs.Alg.{name};
 ghost use Rattle.bag_text.specs.AlgList.{with_member};
@@ -204,7 +205,7 @@ fn element(
 
 /// Puts an item at the end, where there is one.
 fn push_some(items: &mut Items<InfoItem>, item: Option<InfoItem>) -> Result<(), AllocError>
-    ensures { OnOk result (items.new ≡ items.old ++ spec.listed item) }
+    ensures { OnOk result (items.new ≡ items.old ++ option_to_list item) }
 {
     match item {
         None => Ok(()),

@@ -4,8 +4,8 @@ ghost use Rattle.clap.specs.Words.{FailsBy, kind_of};
 ghost use Rattle.bag_arguments.specs.Given.{HasLimit, rows_in, value as value_of};
 ghost use Rattle.bag_arguments.specs.Plan as spec;
 ghost use Rattle.bag_arguments.specs.Plan.{IsNotRefused};
-ghost use Rattle.bag_arguments.specs.Words.{clap_takes, matches as matches_of_words, refusals};
-ghost use Rattle.bag_arguments.specs.Words.{texts};
+ghost use Rattle.bag_arguments.specs.Words.{clap_takes, matches_of_words, refusals};
+ghost use Rattle.bag_arguments.specs.Words.{texts_of_words};
 
 use crate::command::command;
 use crate::label::LABELS;
@@ -18,8 +18,8 @@ use std::alloc::Global;
 
 /// The plan of the words, without the program's name.
 pub fn plan_of(alloc: Global, words: &[&str]) -> Result<Plan, Usage>
-    ensures planned { spec.IsPlanned (texts words.now) result }
-    ensures taken { clap_takes (texts words.now) ≡ true → IsNotRefused result }
+    ensures planned { spec.IsPlanned (texts_of_words words.now) result }
+    ensures taken { clap_takes (texts_of_words words.now) ≡ true → IsNotRefused result }
 {
     if words.is_empty() {
         return Ok(plan_without_words(alloc, Action::Sample));
@@ -32,11 +32,12 @@ pub fn plan_of(alloc: Global, words: &[&str]) -> Result<Plan, Usage>
 
 /// What clap makes of the words.
 fn parse<'a>(alloc: Global, words: &'a [&'a str]) -> Result<ArgMatches<'a>, Error>
-    ensures matches { IfOk result (λ m. rows_in m ≡ matches_of_words (texts words.entry.now)) }
-    ensures refusals { FailsBy (refusals (texts words.entry.now)) result }
+    ensures matches { IfOk result (λ m.
+        rows_in m ≡ matches_of_words (texts_of_words words.entry.now)) }
+    ensures refusals { FailsBy (refusals (texts_of_words words.entry.now)) result }
     ensures limit { IfOk result (λ m. HasLimit (rows_in m)) }
     ensures taken { IfErr result (λ e.
-        clap_takes (texts words.entry.now) ≡ true → kind_of e ≡ ErrorKind.OutOfMemory) }
+        clap_takes (texts_of_words words.entry.now) ≡ true → kind_of e ≡ ErrorKind.OutOfMemory) }
 {
     command(alloc)?.try_get_matches_from(words)
 }

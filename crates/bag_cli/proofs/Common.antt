@@ -55,7 +55,7 @@ pub use Rattle.bag_cli.specs.Folders.{disks_of, visits_of}
 pub use Rattle.bag_cli.specs.Honest.{HonestFoldersAreReported, IsReportedMade, IsReportedNotMade}
 pub use Rattle.bag_cli.specs.InTurn.{AreInTurn, HasVisited, Last, Whole}
 pub use Rattle.bag_cli.specs.Making.{IsMake, ReportsMaking}
-pub use Rattle.bag_cli.specs.Makings.{AreMakingsOf, IsTold, IsWholeMaking, element_of}
+pub use Rattle.bag_cli.specs.Makings.{AreMakingsOf, IsMakingReported, IsWholeMaking, element_of}
 pub use Rattle.bag_cli.specs.Performed.{AreMade, IsChecked, IsDoneBy, IsPerformed, IsSaid}
 pub use Rattle.bag_cli.specs.Sample.{sample_state}
 pub use Rattle.bag_cli.specs.Saying.{Says}

@@ -20,5 +20,5 @@ abbrev pub visits_of : {D : Type 0} → Visits D → List Event
 visits_of visits = visits.record.events
 
 -- this was done with them, and no more
-abbrev pub Notes : {D : Type 0} → Visits D → Visits D → Event → Type 0
-Notes old new event = visits_of new ≡ visits_of old ++ event ∷ []
+abbrev pub AddsEvent : {D : Type 0} → Visits D → Visits D → Event → Type 0
+AddsEvent old new event = visits_of new ≡ visits_of old ++ event ∷ []

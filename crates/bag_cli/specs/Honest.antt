@@ -12,7 +12,7 @@ use Rattle.bag_make.specs.Make.{HasKnownSize, HasNoFault, Leaves, MayRefuseMakin
 use Rattle.bag_make.specs.PowerCut.{OutlastsCuts}
 use Rattle.bag_make.specs.declared.fault.MakeFault.{MakeFault}
 use Rattle.bag_cli.specs.Making.{IsMaking}
-use Rattle.bag_cli.specs.MakingLine.{made, not_made, reason}
+use Rattle.bag_cli.specs.MakingLine.{made_line, not_made_line, reason}
 
 -- The bag was made, and has no fault where its size can be known. On a device that notes what it
 -- does, a power cut now leaves it and nothing else, if the folder was durable before. That was
@@ -24,7 +24,7 @@ pub record IsReportedMade (name : List ℕ) (algs : List Alg) (info : List NewEl
   pub valid : HasKnownSize old.bag → HasNoFault new.bag
   pub any_moment : OutlastsCuts old new
   pub lasting : IsTrue old.noted → LeavesOnly old.trail new.trail old.bag new.bag
-  pub said : Appends before.taken after.taken (if quiet then [] else made name)
+  pub said : Appends before.taken after.taken (if quiet then [] else made_line name)
 
 -- The bag wasn't made. The reason was said, which comes only where it is so, and tells what is
 -- left.
@@ -35,7 +35,7 @@ pub record IsReportedNotMade (name : List ℕ) (algs : List Alg) (info : List Ne
   pub refused : MayRefuseMaking algs info old new fault
   pub left : Leaves algs info old.bag new.bag fault
   pub any_moment : OutlastsCuts old new
-  pub said : Appends before.taken after.taken (not_made name (reason fault))
+  pub said : Appends before.taken after.taken (not_made_line name (reason fault))
 
 -- the law: of an honest folder, where the output didn't refuse, one of the two
 abbrev pub HonestFoldersAreReported : Type 0

@@ -34,14 +34,14 @@ pub record IsMake (algs : List Alg) (info : List NewElement) (old new : TreeStat
 -- the output took the line, and this is the making_status; or it refused, and took a proper prefix
 abbrev pub ReportsMaking : List ℕ → Result (Unit {0}) MakeFault → Bool
     → OutState → OutState → Result ℕ Refused → Type 0
-ReportsMaking name made quiet before after told =
-    MatchResult told
+ReportsMaking name made quiet before after reported =
+    MatchResult reported
     (λ n. (n ≡ making_status made) × Appends before.taken after.taken (line name made quiet))
     (λ _. IsCut before.taken after.taken (line name made quiet) × (after.has_refused ≡ true))
 
 -- the folder was made a bag, or it wasn't, and that was reported under this name
 pub record IsMaking (name : List ℕ) (algs : List Alg) (info : List NewElement) (quiet : Bool)
-    (old new : TreeState) (before after : OutState) (told : Result ℕ Refused) : Type 0 where
+    (old new : TreeState) (before after : OutState) (reported : Result ℕ Refused) : Type 0 where
   pub made : Result (Unit {0}) MakeFault
   pub make : IsMake algs info old new made
-  pub tells : ReportsMaking name made quiet before after told
+  pub reports : ReportsMaking name made quiet before after reported

@@ -31,17 +31,17 @@ reason Memory = codes "out of memory"
 reason (StepRefused place cause) = refused_step place cause
 
 -- the bag of this name was made
-abbrev pub made : List ℕ → List ℕ
-made name = field name ++ codes " made\n"
+abbrev pub made_line : List ℕ → List ℕ
+made_line name = field name ++ codes " made\n"
 
 -- the bag of this name wasn't made, for this reason
-abbrev pub not_made : List ℕ → List ℕ → List ℕ
-not_made name why = field name ++ (codes " not made: " ++ (why ++ codes "\n"))
+abbrev pub not_made_line : List ℕ → List ℕ → List ℕ
+not_made_line name why = field name ++ (codes " not made: " ++ (why ++ codes "\n"))
 
 -- the line with its end; of a quiet making nothing where the bag was made
 abbrev pub line : List ℕ → Result (Unit {0}) MakeFault → Bool → List ℕ
-line name (Ok _) quiet = if quiet then [] else made name
-line name (Err fault) quiet = not_made name (reason fault)
+line name (Ok _) quiet = if quiet then [] else made_line name
+line name (Err fault) quiet = not_made_line name (reason fault)
 
 -- the exit making_status
 abbrev pub making_status : Result (Unit {0}) MakeFault → ℕ

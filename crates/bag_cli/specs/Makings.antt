@@ -16,26 +16,27 @@ element_of item = (item.label, item.value)
 
 -- The folder was made a bag by a plan and with these elements, or wasn't, and that was reported: of
 -- the tree that was given for it, which was left as making leaves it.
-pub record IsTold (plan : Plan) (info : List NewElement) (tree : TreeState) (name : List ℕ)
-    (before after : OutState) (visits : List Event) (told : Result ℕ Refused) : Type 0 where
+pub record IsMakingReported (plan : Plan) (info : List NewElement) (tree : TreeState)
+    (name : List ℕ) (before after : OutState) (visits : List Event)
+    (reported : Result ℕ Refused) : Type 0 where
   pub new : TreeState
   pub visit : visits ≡ visit_of name new
-  pub making : IsMaking name plan.algs info plan.quiet tree new before after told
+  pub making : IsMaking name plan.algs info plan.quiet tree new before after reported
 
 -- a making whose line was written, and its status
 abbrev pub IsWholeMaking : Plan → List NewElement → TreeState → List ℕ → Deed
 IsWholeMaking plan info tree name before after visits n =
-    IsTold plan info tree name before after visits (Ok n)
+    IsMakingReported plan info tree name before after visits (Ok n)
 
 -- memory ran out for the folder, which was asked for and couldn't be given, and nothing was written
 abbrev pub IsNotGiven : List ℕ → OutState → OutState → List Event → Type 0
 IsNotGiven name before after visits = (after ≡ before) × (visits ≡ NotGiven name ∷ [])
 
 -- a making was reported, or memory ran out for its folder
-abbrev pub MakesFolder : {E : Type 0} → Plan → List NewElement → TreeState → List ℕ
+abbrev pub AnswersMaking : {E : Type 0} → Plan → List NewElement → TreeState → List ℕ
     → OutState → OutState → List Event → Result (Result ℕ Refused) E → Type 0
-MakesFolder plan info tree name before after visits answer = MatchResult answer
-    (λ told. IsTold plan info tree name before after visits told)
+AnswersMaking plan info tree name before after visits answer = MatchResult answer
+    (λ reported. IsMakingReported plan info tree name before after visits reported)
     (λ _. IsNotGiven name before after visits)
 
 -- a making that is the last: the output refused its line, or memory ran out for the folder, which
@@ -43,7 +44,7 @@ MakesFolder plan info tree name before after visits answer = MatchResult answer
 abbrev pub IsLastMaking : Plan → List NewElement → TreeState → List ℕ
     → OutState → OutState → List Event → Type 0
 IsLastMaking plan info tree name before after visits =
-    ((refusal : Refused) × IsTold plan info tree name before after visits (Err refusal))
+    ((refusal : Refused) × IsMakingReported plan info tree name before after visits (Err refusal))
     ⊎ IsNotGiven name before after visits
 
 -- the makings of the folders of these names in the trees that they name, with the plan's elements,

@@ -26,8 +26,8 @@ abbrev pub Below : Type 0
 Below = List ℕ → DiskState
 
 -- that the file at a path has these bytes, or none where there is no file that can be read
-abbrev pub Files : Type 1
-Files = List ℕ → Option (List ℕ) → Type 0
+abbrev pub ReadableFiles : Type 1
+ReadableFiles = List ℕ → Option (List ℕ) → Type 0
 
 -- nothing was written and no folder looked into, and this is the status
 abbrev pub IsNothing : ℕ → Deed
@@ -71,7 +71,7 @@ IsCheckedFor below plan (Err refusal) before after visits n =
 
 -- the folders were checked, by the profile of a file where there is a path of one, which was read
 -- by one call, before them
-abbrev pub IsChecked : Below → Files → Plan → Option (List ℕ) → Deed
+abbrev pub IsChecked : Below → ReadableFiles → Plan → Option (List ℕ) → Deed
 IsChecked below file plan None before after visits n =
     AreChecked below plan None before after visits n
 IsChecked below file plan (Some path) before after visits n =
@@ -90,7 +90,7 @@ AreMade below plan before after visits n =
 
 -- this was done for a plan, on disks that hold this below each base folder, where files have these
 -- bytes
-abbrev pub IsDoneBy : Action → Below → Files → Plan → Deed
+abbrev pub IsDoneBy : Action → Below → ReadableFiles → Plan → Deed
 IsDoneBy Sample below file plan before after visits n =
     IsSampleChecked plan before after n × (visits ≡ [])
 IsDoneBy (Help text) below file plan before after visits n = IsSaid text before after visits n
@@ -100,6 +100,6 @@ IsDoneBy Make below file plan before after visits n = AreMade below plan before 
 
 -- what a plan says was done, on disks that hold this below each base folder, where files have these
 -- bytes
-abbrev pub IsPerformed : Below → Files → Plan → Deed
+abbrev pub IsPerformed : Below → ReadableFiles → Plan → Deed
 IsPerformed below file plan before after visits n =
     IsDoneBy plan.action below file plan before after visits n

@@ -7,10 +7,10 @@ use Rattle.bag_arguments.specs.Words.{clap_takes}
 use Rattle.bag_arguments.specs.declared.plan.Plan.{Plan}
 use Rattle.bag_arguments.specs.declared.usage.Usage.{Usage}
 use Rattle.bag_cli.specs.InTurn.{Deed}
-use Rattle.bag_cli.specs.Performed.{Below, Files, IsNothing, IsPerformed}
+use Rattle.bag_cli.specs.Performed.{Below, ReadableFiles, IsNothing, IsPerformed}
 
 -- a plan was performed; where the words are refused, nothing is written
-abbrev pub IsPlanPerformed : Below → Files → Result Plan Usage → Deed
+abbrev pub IsPlanPerformed : Below → ReadableFiles → Result Plan Usage → Deed
 IsPlanPerformed below file (Err usage) before after visits n =
     IsNothing (usage_status usage) before after visits n
 IsPlanPerformed below file (Ok plan) before after visits n =
@@ -19,7 +19,7 @@ IsPlanPerformed below file (Ok plan) before after visits n =
 -- What the words ask for was done, on disks that hold this below each base folder, where files have
 -- these bytes: a plan of them was performed, or they were refused for a reason that they have.
 -- Words that clap takes are none that the program doesn't take.
-pub record IsProgram (below : Below) (file : Files) (words : List (List ℕ))
+pub record IsProgram (below : Below) (file : ReadableFiles) (words : List (List ℕ))
     (before after : OutState) (visits : List Event) (n : ℕ) : Type 0 where
   pub planned : Result Plan Usage
   pub is_planned : IsPlanned words planned
@@ -27,13 +27,13 @@ pub record IsProgram (below : Below) (file : Files) (words : List (List ℕ))
   pub done : IsPlanPerformed below file planned before after visits n
 
 -- what the words ask for was done, or memory for them ran out, and then nothing is written
-abbrev pub IsProgramOrNone : Below → Files → List (List ℕ) → Deed
+abbrev pub IsProgramOrNone : Below → ReadableFiles → List (List ℕ) → Deed
 IsProgramOrNone below file words before after visits n =
     IsNothing 3 before after visits n ⊎ IsProgram below file words before after visits n
 
 -- where there are no words, nothing is written; else what they ask for without the program's name
 -- was done
-abbrev pub IsDoneFor : Below → Files → Result (List (List ℕ)) Usage → Deed
+abbrev pub IsDoneFor : Below → ReadableFiles → Result (List (List ℕ)) Usage → Deed
 IsDoneFor below file (Err usage) before after visits n =
     IsNothing (usage_status usage) before after visits n
 IsDoneFor below file (Ok words) before after visits n =
@@ -42,7 +42,7 @@ IsDoneFor below file (Ok words) before after visits n =
 -- The program was given one of these answers, and did what it asks for on disks that hold this
 -- below each base folder, where files have these bytes; or memory for the words ran out, and then
 -- nothing is written.
-abbrev pub IsWholeProgram : (Result (List (List ℕ)) Usage → Type 0) → Below → Files → Deed
+abbrev pub IsWholeProgram : (Result (List (List ℕ)) Usage → Type 0) → Below → ReadableFiles → Deed
 IsWholeProgram answers below file before after visits n =
     IsNothing 3 before after visits n
     ⊎ ((answer : Result (List (List ℕ)) Usage) × answers answer

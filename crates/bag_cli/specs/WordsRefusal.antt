@@ -8,12 +8,12 @@ use Rattle.bag_arguments.specs.declared.usage.Usage.TheVariants.{AfterSeveral, A
 use Rattle.bag_arguments.specs.declared.usage.Usage.TheVariants.{Memory}
 
 -- a text with a line end at its end: its own, or else one after it
-abbrev pub ended : List ℕ → List ℕ
-ended text = if ends_with ◌==◌ text (codes "\n") then text else text ++ codes "\n"
+abbrev pub with_line_end : List ℕ → List ℕ
+with_line_end text = if ends_with ◌==◌ text (codes "\n") then text else text ++ codes "\n"
 
 -- the line with its end, of clap some lines
 abbrev pub usage_line : Usage → List ℕ
-usage_line (Refused text) = ended text
+usage_line (Refused text) = with_line_end text
 usage_line (NeedsValidate option) =
     codes "bagit: " ++ (check_name option ++ codes " needs --validate\n")
 usage_line TwoDepths =

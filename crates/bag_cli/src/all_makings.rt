@@ -2,7 +2,7 @@
 ghost use Rattle.std.specs.Prelude.{◌≡◌, ◌≢◌, [], IfOk, OnErr, map};
 ghost use Rattle.bag_cli.specs.Folders.{disks_of, tree_in, visits_of};
 ghost use Rattle.bag_cli.specs.InTurn.{Does, HasVisited};
-ghost use Rattle.bag_cli.specs.Makings.{element_of, MakesFolder};
+ghost use Rattle.bag_cli.specs.Makings.{element_of, AnswersMaking};
 ghost use Rattle.bag_cli.specs.Performed.{AreMade};
 
 use crate::in_turn::{Task, do_in_turn};
@@ -74,7 +74,7 @@ impl Makings<'_> {
         out: &mut O,
     ) -> Result<Result<u8, Refused>, AllocError>
         ensures { HasVisited (visits_of visits.old) (visits_of visits.new) (λ own.
-            MakesFolder self.now.plan.now self.now.info.now
+            AnswersMaking self.now.plan.now self.now.info.now
             (tree_in D.below folders.now directory.now) directory.now
             (O.state out.old) (O.state out.new) own result) }
     {

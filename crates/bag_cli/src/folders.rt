@@ -3,7 +3,7 @@ ghost use Rattle.std.specs.Prelude.{◌≡◌, ◌≤◌, [], Some, IfOk, IsErrO
 ghost use Rattle.std.specs.Result.{result_map_both};
 ghost use Rattle.bag_store.specs.FileTree.{disk_of};
 ghost use Rattle.bag_cli.specs.SystemFile.{MayBeUnread};
-ghost use Rattle.bag_cli.specs.Folders.{disks_of, tree_in, visits_of, Notes};
+ghost use Rattle.bag_cli.specs.Folders.{disks_of, tree_in, visits_of, AddsEvent};
 ghost use Rattle.bag_cli.specs.Visits.{Entered, NotGiven, Left, Read};
 ghost use Rattle.bag_cli.specs.declared.read_fault.ReadFault.TheVariants.{Unread};
 
@@ -42,8 +42,8 @@ impl<'d, D: Disks> Folders<'d, D> {
         ensures state { IfOk result (λ tree. ⟦<FileTree<D::Disk> as bag_tree::Tree>⟧.state tree
             ≡ tree_in D.below self.now name.now) }
         ensures base { IfOk result (λ tree. D.is_below (disk_of tree) name.now) }
-        ensures entered { OnOk result (Notes visits.old visits.new (Entered name.now)) }
-        ensures refused { OnErr result (Notes visits.old visits.new (NotGiven name.now)) }
+        ensures entered { OnOk result (AddsEvent visits.old visits.new (Entered name.now)) }
+        ensures refused { OnErr result (AddsEvent visits.old visits.new (NotGiven name.now)) }
     {
         match self.disks.disk(alloc, name) {
             Ok(disk) => {
@@ -59,7 +59,7 @@ impl<'d, D: Disks> Folders<'d, D> {
 
     /// Drops a tree, which is left as it is now.
     pub fn leave(&self, tree: FileTree<D::Disk>, visits: &mut Visits<D>)
-        ensures { Notes visits.old visits.new
+        ensures { AddsEvent visits.old visits.new
             (Left (⟦<FileTree<D::Disk> as bag_tree::Tree>⟧.state tree)) }
     {
         visits.note_of(&tree);
@@ -81,7 +81,7 @@ impl<'d, D: Disks> Folders<'d, D> {
         ensures within { IfOk result (λ bytes. vec_len bytes ≤ most) }
         ensures unread { IsErrOf result Unread →
             MayBeUnread (D.file (disks_of self.now) path.now) most }
-        ensures read { Notes visits.old visits.new
+        ensures read { AddsEvent visits.old visits.new
             (Read path.now (result_map_both (λ bytes. bytes.items) (λ fault. fault) result)) }
     {
         let answer = self.disks.read_file(alloc, path, most);
@@ -92,7 +92,7 @@ impl<'d, D: Disks> Folders<'d, D> {
 
 /// Notes that a folder was asked for and couldn't be given.
 fn note_not_given<D>(name: &str, visits: &mut Visits<D>)
-    ensures { Notes visits.old visits.new (NotGiven name.now) }
+    ensures { AddsEvent visits.old visits.new (NotGiven name.now) }
 {
     visits.note_of(&name);
 }

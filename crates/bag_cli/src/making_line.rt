@@ -34,7 +34,7 @@ pub fn put_making<W: Out>(
 
 fn put_not_made<W: Out>(name: &str, fault: &MakeFault, out: &mut W) -> Result<(), Refused>
     ensures { Writes (W.state out.old) (W.state out.new)
-        (spec.not_made name.now (spec.reason fault.now)) result }
+        (spec.not_made_line name.now (spec.reason fault.now)) result }
 {
     match fault {
         MakeFault::NoAlgorithm => put_reason(name, said::NO_ALGORITHM, out),
@@ -47,7 +47,7 @@ fn put_not_made<W: Out>(name: &str, fault: &MakeFault, out: &mut W) -> Result<()
 }
 
 fn put_reason<W: Out>(name: &str, reason: &str, out: &mut W) -> Result<(), Refused>
-    ensures { Writes (W.state out.old) (W.state out.new) (spec.not_made name.now reason.now)
+    ensures { Writes (W.state out.old) (W.state out.new) (spec.not_made_line name.now reason.now)
         result }
 {
     put_line(name, &[said::NOT_MADE, reason, "\n"], out)
@@ -55,7 +55,7 @@ fn put_reason<W: Out>(name: &str, reason: &str, out: &mut W) -> Result<(), Refus
 
 fn put_unread<W: Out>(name: &str, stop: &Stop, out: &mut W) -> Result<(), Refused>
     ensures { Writes (W.state out.old) (W.state out.new)
-        (spec.not_made name.now (spec.unread stop.now)) result }
+        (spec.not_made_line name.now (spec.unread stop.now)) result }
 {
     put_line(name, &[said::NOT_MADE, said::READ], out)?;
     put_cause(stop, out)
@@ -70,7 +70,7 @@ fn put_cause<W: Out>(stop: &Stop, out: &mut W) -> Result<(), Refused>
 
 fn put_step<W: Out>(name: &str, place: u64, cause: TreeFault, out: &mut W) -> Result<(), Refused>
     ensures { Writes (W.state out.old) (W.state out.new)
-        (spec.not_made name.now (spec.refused_step place cause)) result }
+        (spec.not_made_line name.now (spec.refused_step place cause)) result }
 {
     let mut digits = Buffer::new();
     put_line(

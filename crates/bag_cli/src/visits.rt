@@ -1,6 +1,6 @@
 //! Which folders were looked into.
 ghost use Rattle.std.specs.Prelude.{◌≡◌, []};
-ghost use Rattle.bag_cli.specs.Folders.{visits_of, Notes};
+ghost use Rattle.bag_cli.specs.Folders.{visits_of, AddsEvent};
 ghost use Rattle.bag_cli.specs.Visits.{Event};
 
 use crate::record::Record;
@@ -32,7 +32,7 @@ impl<D> Visits<D> {
     /// Notes an event. Its value is given so that a proof can name the event by it.
     pub(crate) fn note_of<T>(&mut self, _value: &T)
         ghost event: { Event }
-        ensures { Notes self.old self.new event }
+        ensures { AddsEvent self.old self.new event }
     {
         self.record.note();
     }

@@ -1,5 +1,5 @@
 //! The whole program.
-ghost use Rattle.bag_arguments.specs.Words.{texts};
+ghost use Rattle.bag_arguments.specs.Words.{texts_of_words};
 ghost use Rattle.std.specs.Prelude.{map, string_bytes};
 ghost use Rattle.bag_cli.specs.Folders.{disks_of};
 ghost use Rattle.bag_cli.specs.InTurn.{Does};
@@ -30,7 +30,7 @@ where
     E: Out,
     ensures { Does O.Out visits.old visits.new out.old out.new result
         (IsProgram (D.below (disks_of folders.now)) (D.file (disks_of folders.now))
-        (texts words.now)) }
+        (texts_of_words words.now)) }
 {
     match plan_of(alloc, words) {
         Ok(plan) => perform(alloc, folders, &plan, visits, out, err),

@@ -3,7 +3,7 @@ ghost use Rattle.std.specs.Prelude.{◌≡◌, IfOk, List, Result, drop, map, st
 ghost use Rattle.std.specs.IoError.{error_kind};
 ghost use Rattle.std.specs.declared.io.ErrorKind.TheVariants.{OutOfMemory};
 ghost use Rattle.std.specs.Vec.Iter.{into_iter_items};
-ghost use Rattle.bag_arguments.specs.Words.{texts};
+ghost use Rattle.bag_arguments.specs.Words.{texts_of_words};
 ghost use Rattle.bag_arguments.specs.declared.usage.Usage.{Usage};
 ghost use Rattle.bag_arguments.specs.declared.usage.Usage.TheVariants.{Memory};
 ghost use Rattle.bag_cli.specs.Words.{IsUnread, MayAnswer, MayHaveAsked, answered};
@@ -68,7 +68,7 @@ fn without_name(alloc: Global, words: Args) -> Result<Vec<String>, AllocError>
 
 /// The texts of words that are owned.
 pub(crate) fn texts_of(alloc: Global, words: &[String]) -> Result<Vec<&str>, AllocError>
-    ensures { IfOk result (λ all. texts all.items ≡ map string_bytes words.now) }
+    ensures { IfOk result (λ all. texts_of_words all.items ≡ map string_bytes words.now) }
 {
     words.iter().map(|word| word.as_str()).collect(alloc)
 }

@@ -2,7 +2,7 @@
 ghost use Rattle.std.specs.Prelude.{◌≡◌};
 ghost use Rattle.bag_arguments.specs.Plan.{usage_status};
 ghost use Rattle.bag_cli.specs.Saying.{Says};
-ghost use Rattle.bag_cli.specs.WordsRefusal.{ended, usage_line};
+ghost use Rattle.bag_cli.specs.WordsRefusal.{with_line_end, usage_line};
 
 use crate::saying::{say_memory, say_on};
 use bag_arguments::Usage;
@@ -38,7 +38,7 @@ fn say_usage<E: Out>(usage: &Usage, err: &mut E)
 
 /// Says a text with a line end at its end.
 fn say_ended<E: Out>(text: &str, err: &mut E)
-    ensures { Says (E.state err.old) (E.state err.new) (ended text.now) }
+    ensures { Says (E.state err.old) (E.state err.new) (with_line_end text.now) }
 {
     if text.as_bytes().ends_with(b"\n") {
         say_on(err, &[text]);

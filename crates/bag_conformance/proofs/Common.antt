@@ -76,7 +76,8 @@ pub use Rattle.bag_conformance.specs.ConformanceStage.{ConformanceFaultsAreListe
 pub use Rattle.bag_conformance.specs.ConformanceStage.{HasFetchFile, HasOtherManifest, HasOtherTagFile, HasOtherValue}
 pub use Rattle.bag_conformance.specs.ConformanceStage.{HasOtherVersion, IsOfProfile, IsToBeSerialized, LacksIdentifier}
 pub use Rattle.bag_conformance.specs.ConformanceStage.{LacksLabel, LacksManifest, LacksTagFile, RepeatsLabel}
-pub use Rattle.bag_conformance.specs.ConformanceStage.{allowed_manifests, fetch_txt, identifier_label}
+pub use Rattle.bag_conformance.specs.ConformanceStage.{allowed_manifests, identifier_label}
+pub use Rattle.bag_stages.specs.FetchStage.{fetch_txt}
 pub use Rattle.bag_conformance.specs.ConformanceStage.{required_manifests}
 pub use Rattle.bag_conformance.specs.ElementFaults.{allows, element_faults, has_other, has_value, identifier_faults}
 pub use Rattle.bag_conformance.specs.ElementFaults.{in_info, labelled, later_fault, lent, repeated_faults}

@@ -14,10 +14,8 @@ use Rattle.bag_text.specs.declared.code.Code.TheVariants.{VersionNotAccepted, Se
 use Rattle.bag_read.specs.declared.info.Element.{Element}
 use Rattle.bag_read.specs.Declaration.{declared_version}
 use Rattle.bag_read.specs.ManifestName.{manifest_name}
-use Rattle.bag_read.specs.TagName.{tag_path}
 use Rattle.bag_read.specs.declared.kind.Kind.{Kind}
 use Rattle.bag_read.specs.declared.kind.Kind.TheVariants.{Payload, Tag}
-use Rattle.bag_read.specs.declared.tag_name.TagName.TheVariants.{Fetch}
 use Rattle.bag_tree.specs.Bag.{Bag, file, HasFile}
 use Rattle.bag_facts.specs.declared.fault.Fault.{Fault}
 use Rattle.bag_profile.specs.Profile.{Profile}
@@ -36,13 +34,11 @@ use Rattle.bag_stages.specs.Metadata.{bag_info_txt, HasElement, HasLater}
 use Rattle.bag_stages.specs.MetadataStage.{pair}
 use Rattle.bag_stages.specs.TagFiles.{bagit_txt, HasManifest}
 use Rattle.bag_conformance.specs.ProfileRules.{Lists, Excludes, MatchesNone, IsFreeTagFile}
+use Rattle.bag_stages.specs.FetchStage.{fetch_txt}
 
 -- the label of the element that names the profile
 abbrev pub identifier_label : List ℕ
 identifier_label = codes "BagIt-Profile-Identifier"
-
-abbrev pub fetch_txt : List ℕ
-fetch_txt = tag_path Fetch
 
 -- the lists of manifests that a bag must have, and that it may have
 abbrev pub required_manifests : Kind → ListRule

@@ -1,6 +1,6 @@
 //! Elements in the order of their labels.
 ghost use Rattle.std.specs.Prelude.{◌≡◌, ℕ, List, IfOk};
-ghost use Rattle.bag_conformance.specs.ElementFaults as told;
+ghost use Rattle.bag_conformance.specs.ElementFaults as reported;
 ghost use Rattle.bag_conformance.specs.LabelOrder as order;
 
 use bag_read::Element;
@@ -12,7 +12,8 @@ use std::cmp::Ordering;
 /// in their order.
 pub(crate) fn by_label(alloc: Global, elements: &[Element]) -> Result<Vec<&Element>, AllocError>
     ensures labelled { IfOk result (λ sorted. (label : List ℕ)
-        → told.labelled label (told.lent sorted.items) ≡ told.labelled label elements.now) }
+        → reported.labelled label (reported.lent sorted.items)
+        ≡ reported.labelled label elements.now) }
     ensures sorted { IfOk result (λ sorted. order.IsByLabel sorted.items) }
 {
     let mut sorted = lent(alloc, elements)?;
@@ -23,7 +24,7 @@ pub(crate) fn by_label(alloc: Global, elements: &[Element]) -> Result<Vec<&Eleme
 /// The elements of a label, in their order, found in time log n of the sorted elements.
 pub(crate) fn labelled<'s, 'e>(sorted: &'s [&'e Element], label: &str) -> &'s [&'e Element]
     requires { order.IsByLabel sorted.now }
-    ensures { told.lent result.now ≡ told.labelled label.now (told.lent sorted.now) }
+    ensures { reported.lent result.now ≡ reported.labelled label.now (reported.lent sorted.now) }
 {
     let before = sorted.partition_point(|element| label_cmp(element.label.as_str(), label).is_lt());
     let (_, rest) = sorted.split_at(before);
@@ -34,7 +35,7 @@ pub(crate) fn labelled<'s, 'e>(sorted: &'s [&'e Element], label: &str) -> &'s [&
 
 /// The elements, lent.
 fn lent(alloc: Global, elements: &[Element]) -> Result<Vec<&Element>, AllocError>
-    ensures { IfOk result (λ all. told.lent all.items ≡ elements.now) }
+    ensures { IfOk result (λ all. reported.lent all.items ≡ elements.now) }
 {
     elements.iter().collect(alloc)
 }

@@ -9,7 +9,7 @@ ghost use Rattle.bag_profile.specs.TextSet.{IsAscending};
 ghost use Rattle.bag_stages.specs.Metadata.{bag_info_txt};
 ghost use Rattle.bag_stages.specs.TagFiles.{lines_in};
 ghost use Rattle.bag_conformance.specs.ConformanceFaults.{IsOfElements, AreAllOf};
-ghost use Rattle.bag_conformance.specs.ElementFaults as told;
+ghost use Rattle.bag_conformance.specs.ElementFaults as reported;
 ghost use Rattle.bag_conformance.specs.LabelOrder.{IsByLabel};
 
 use crate::by_label::{by_label, labelled};
@@ -60,7 +60,7 @@ fn identifier_faults(
     naming: &[&Element],
 ) -> Result<Vec<Fault>, AllocError>
     ensures { IfOk result (λ faults. faults.items
-        ≡ told.identifier_faults identifier.now (told.lent naming.now)) }
+        ≡ reported.identifier_faults identifier.now (reported.lent naming.now)) }
 {
     if has_value(naming, identifier) {
         return Ok(Vec::new(alloc));
@@ -71,7 +71,7 @@ fn identifier_faults(
 
 /// Whether an element has a value.
 fn has_value(elements: &[&Element], value: &str) -> bool
-    ensures { result ≡ list_any (told.has_value value.now) (told.lent elements.now) }
+    ensures { result ≡ list_any (reported.has_value value.now) (reported.lent elements.now) }
 {
     elements
         .iter()
@@ -87,7 +87,7 @@ fn rules_faults(
     requires sorted { IsByLabel sorted.now }
     requires ascending { AllByRecursion (λ rule. IsAscending rule.values) rules.now }
     ensures { IfOk result (λ faults. faults.items
-        ≡ told.rules_faults (told.lent sorted.now) rules.now) }
+        ≡ reported.rules_faults (reported.lent sorted.now) rules.now) }
 {
     let mut faults = Vec::new(alloc);
     for rule in rules {

@@ -1,6 +1,6 @@
 //! A fault of `bag-info.txt`.
 ghost use Rattle.std.specs.Prelude.{◌≡◌, IfOk};
-ghost use Rattle.bag_conformance.specs.ElementFaults as told;
+ghost use Rattle.bag_conformance.specs.ElementFaults as reported;
 
 use bag_facts::Fault;
 use bag_read::TagName;
@@ -14,7 +14,7 @@ pub(crate) fn info_fault(
     line: u64,
     detail: Text,
 ) -> Result<Fault, AllocError>
-    ensures { IfOk result (λ fault. fault ≡ told.in_info code line detail) }
+    ensures { IfOk result (λ fault. fault ≡ reported.in_info code line detail) }
 {
     Ok(Fault::of_line(code, TagName::Info.path(alloc)?, None, line, detail))
 }

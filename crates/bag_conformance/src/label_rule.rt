@@ -2,7 +2,7 @@
 ghost use Rattle.std.specs.Prelude.{◌≡◌, ◌↔◌, Contains, IfOk, IsTrue, map};
 ghost use Rattle.bag_profile.specs.TextSet.{IsAscending};
 ghost use Rattle.bag_stages.specs.MetadataStage as spec;
-ghost use Rattle.bag_conformance.specs.ElementFaults as told;
+ghost use Rattle.bag_conformance.specs.ElementFaults as reported;
 
 use crate::info_fault::info_fault;
 use crate::joined::joined;
@@ -20,7 +20,7 @@ pub(crate) fn rule_faults(
 ) -> Result<Vec<Fault>, AllocError>
     requires { IsAscending rule.now.values }
     ensures { IfOk result (λ faults. faults.items
-        ≡ told.rule_faults rule.now (told.lent found.now)) }
+        ≡ reported.rule_faults rule.now (reported.lent found.now)) }
 {
     let required = required_faults(alloc, rule, found)?;
     let repeated = repeated_faults(alloc, rule, found)?;
@@ -36,7 +36,7 @@ fn required_faults(
     found: &[&Element],
 ) -> Result<Vec<Fault>, AllocError>
     ensures { IfOk result (λ faults. faults.items
-        ≡ told.required_faults rule.now (told.lent found.now)) }
+        ≡ reported.required_faults rule.now (reported.lent found.now)) }
 {
     if !found.is_empty() || !rule.required {
         return Ok(Vec::new(alloc));
@@ -52,7 +52,7 @@ fn repeated_faults(
     found: &[&Element],
 ) -> Result<Vec<Fault>, AllocError>
     ensures { IfOk result (λ faults. faults.items
-        ≡ told.repeated_faults rule.now (told.lent found.now)) }
+        ≡ reported.repeated_faults rule.now (reported.lent found.now)) }
 {
     if rule.repeatable || found.is_empty() {
         return Ok(Vec::new(alloc));
@@ -63,7 +63,7 @@ fn repeated_faults(
 /// The faults of elements that stand there again.
 fn later_faults(alloc: Global, label: &Text, later: &[&Element]) -> Result<Vec<Fault>, AllocError>
     ensures { IfOk result (λ faults. faults.items
-        ≡ map (told.later_fault label.now) (told.lent later.now)) }
+        ≡ map (reported.later_fault label.now) (reported.lent later.now)) }
 {
     let mut faults = Vec::new(alloc);
     for element in later {
@@ -81,7 +81,7 @@ fn value_faults(
 ) -> Result<Vec<Fault>, AllocError>
     requires { IsAscending rule.now.values }
     ensures { IfOk result (λ faults. faults.items
-        ≡ told.value_faults rule.now (told.lent found.now)) }
+        ≡ reported.value_faults rule.now (reported.lent found.now)) }
 {
     let mut faults = Vec::new(alloc);
     for element in found {
@@ -95,7 +95,7 @@ fn value_faults(
 /// Whether the rule allows a value, found in time log n of its values.
 fn is_allowed(rule: &LabelRule, value: &Text) -> bool
     requires { IsAscending rule.now.values }
-    ensures { result ≡ told.allows rule.now.values value.now }
+    ensures { result ≡ reported.allows rule.now.values value.now }
 {
     if rule.values.is_empty() {
         return true;
@@ -113,7 +113,7 @@ fn is_among(texts: &[Text], text: &Text) -> bool
 
 /// The fault of an element whose value isn't allowed.
 fn value_fault(alloc: Global, rule: &LabelRule, element: &Element) -> Result<Fault, AllocError>
-    ensures { IfOk result (λ fault. fault ≡ told.value_fault rule.now element.now) }
+    ensures { IfOk result (λ fault. fault ≡ reported.value_fault rule.now element.now) }
 {
     let detail = pair(alloc, &rule.label, &element.value)?;
     info_fault(alloc, Code::ValueNotAllowed, element.line, detail)

@@ -45,13 +45,25 @@ has_entry old entry is honest = grind arith
 pub stop_of_memory : (options : Options) (old new : TreeState) (stop : Stop) → IsOutOfMemory stop
     → NothingFailed old new → StopsReading options old new stop
 stop_of_memory options old new stop m no_failure =
-    record { cause = rw m.0 tt; answered = rw m.0 tt; path = inl m; memory = λ _. m.1; wanting = λ _. inr no_failure }
+    record {
+      cause = rw m.0 tt;
+      answered = rw m.0 tt;
+      path = inl m;
+      memory = λ _. m.1;
+      out_of_memory = λ _. inr no_failure;
+    }
 
 -- and reading the facts
 pub facts_stop_of_memory : (options : Options) (old new : TreeState) (stop : Stop) → IsOutOfMemory stop
     → NothingFailed old new → MayStopReading options old new stop
 facts_stop_of_memory options old new stop m no_failure =
-    record { cause = rw m.0 tt; answered = inl m; path = inl m; memory = λ _. m.1; wanting = λ _. inr no_failure }
+    record {
+      cause = rw m.0 tt;
+      answered = inl m;
+      path = inl m;
+      memory = λ _. m.1;
+      out_of_memory = λ _. inr no_failure;
+    }
 
 -- the refusal of a wanted file stops reading files
 pub stop_of_refusal : (options : Options) (entry : FileEntry) (old new : TreeState) (cause : TreeFault) (stop : Stop)
@@ -59,6 +71,6 @@ pub stop_of_refusal : (options : Options) (entry : FileEntry) (old new : TreeSta
     → MayRefuseWhole old new entry cause → (cause ≡ Memory → MayReportMemory old new)
     → IsRefusalOf cause entry.path stop → (IsTrue old.honest → IsEntryOf old.bag entry)
     → StopsReading options old new stop
-stop_of_refusal options entry old new cause stop w refused wanting (inl (not, same, at)) is =
+stop_of_refusal options entry old new cause stop w refused out_of_memory (inl (not, same, at)) is =
     grind (arith, refused_file, came_from, has_entry)
-stop_of_refusal options entry old new cause stop w refused wanting (inr (memory, m)) is = grind arith
+stop_of_refusal options entry old new cause stop w refused out_of_memory (inr (memory, m)) is = grind arith

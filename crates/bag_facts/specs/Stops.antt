@@ -63,4 +63,4 @@ pub record MayStopReading (options : Options) (old new : TreeState) (stop : Stop
   pub answered : ReportsAnswer new stop
   pub path : IsOutOfMemory stop ⊎ IsOfListing old new stop ⊎ IsRefusedFile options old stop
   pub memory : stop.cause ≡ Memory → stop.path ≡ []
-  pub wanting : stop.cause ≡ Memory → MayReportMemory old new
+  pub out_of_memory : stop.cause ≡ Memory → MayReportMemory old new

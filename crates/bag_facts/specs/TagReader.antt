@@ -59,4 +59,4 @@ pub record StopsReading (options : Options) (old new : TreeState) (stop : Stop) 
   pub answered : CameFromFile new stop.cause
   pub path : IsOutOfMemory stop ⊎ IsRefusedFile options old stop
   pub memory : stop.cause ≡ Memory → stop.path ≡ []
-  pub wanting : stop.cause ≡ Memory → MayReportMemory old new
+  pub out_of_memory : stop.cause ≡ Memory → MayReportMemory old new

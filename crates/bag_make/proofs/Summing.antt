@@ -16,7 +16,7 @@ use Rattle.bag_tree.proofs.Calm.{memory_then, nothing_asked, nothing_then}
 pub stop_of_memory : (files : List FileEntry) (old new : TreeState) (stop : Stop) → IsOutOfMemory stop
     → NothingFailed old new → StopsSumming files old new stop
 stop_of_memory files old new stop m no_failure =
-    record { cause = λ are. rw m.0 tt; answered = rw m.0 tt; path = inl m; wanting = λ _. inr no_failure }
+    record { cause = λ are. rw m.0 tt; answered = rw m.0 tt; path = inl m; out_of_memory = λ _. inr no_failure }
 
 one_is : (P : FileEntry → Type 0) (entry : FileEntry) → All P (entry ∷ []) → P entry
 one_is P entry all = All-contains P (entry ∷ []) entry all (contains_first entry [])
@@ -38,7 +38,7 @@ stop_of_refusal entry old new cause stop refused answered opened (inl (not, same
         subst (λ all. IsRefusedAt all stop.path new) (sym (append-nil old.openings))
             (subst (λ path. IsRefusedAt old.openings path new) (sym at) opened),
       );
-  wanting = λ m. absurd (not (sym same ∙ m));
+  out_of_memory = λ m. absurd (not (sym same ∙ m));
 }
 stop_of_refusal entry old new cause stop refused answered opened (inr (is, m)) = grind (arith, told_memory)
 

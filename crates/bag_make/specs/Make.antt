@@ -14,7 +14,7 @@ use Rattle.bag_tree.specs.Steps.{create}
 use Rattle.bag_make.specs.Made.{made}
 use Rattle.bag_make.specs.Valid.{full, is_refused}
 use Rattle.bag_make.specs.Plan.{after, is_in_the_way, steps}
-use Rattle.bag_make.specs.Reading.{HasOnlyListed, IsWantOfMemory}
+use Rattle.bag_make.specs.Reading.{HasOnlyListed, LackedMemory}
 use Rattle.bag_make.specs.Request.{AreTexts, IsRequestFault}
 use Rattle.bag_make.specs.Steps.{HasStopped, new_folder}
 use Rattle.bag_make.specs.Stops.{MayStopMaking}
@@ -66,7 +66,7 @@ MayRefuseMaking algs info old new InTheWay =
     CanAsk algs info × HasOnlyListed old new × (IsTrue old.honest → is_in_the_way old.bag ≡ true)
 MayRefuseMaking algs info old new (ReadStopped stop) =
     CanAsk algs info × Keeps old new × MayStopMaking old new stop
-MayRefuseMaking algs info old new Memory = CanAsk algs info × Keeps old new × IsWantOfMemory old new
+MayRefuseMaking algs info old new Memory = CanAsk algs info × Keeps old new × LackedMemory old new
 MayRefuseMaking algs info old new (StepRefused place cause) =
     CanAsk algs info × HasStoppedAt algs info old new place cause
 

@@ -34,15 +34,15 @@ pub record HasRefusedNothing (old new : TreeState) : Type 0 where
 
 -- the tree refused when out of memory; or it refused nothing, and there was no memory for what was
 -- read
-abbrev pub IsWantOfMemory : TreeState → TreeState → Type 0
-IsWantOfMemory old new = (refusal_of new.last ≡ Some cause_of.Memory) ⊎ HasRefusedNothing old new
+abbrev pub LackedMemory : TreeState → TreeState → Type 0
+LackedMemory old new = (refusal_of new.last ≡ Some cause_of.Memory) ⊎ HasRefusedNothing old new
 
 -- why nothing is planned
 abbrev pub MayRefuseReading : TreeState → TreeState → MakeFault → Type 0
 MayRefuseReading old new InTheWay =
     HasOnlyListed old new × (IsTrue old.honest → is_in_the_way old.bag ≡ true)
 MayRefuseReading old new (ReadStopped stop) = MayStopMaking old new stop
-MayRefuseReading old new Memory = IsWantOfMemory old new
+MayRefuseReading old new Memory = LackedMemory old new
 MayRefuseReading old new fault = ⊥
 
 -- the refusal that a stop is

@@ -30,7 +30,7 @@ pub record StopsSumming (files : List FileEntry) (old new : TreeState) (stop : S
       → MayRefuseFacts old new stop.cause
   pub answered : CameFromFile new stop.cause
   pub path : IsOutOfMemory stop ⊎ IsAtFile (paths_of files) old new stop.path
-  pub wanting : stop.cause ≡ Memory → MayReportMemory old new
+  pub out_of_memory : stop.cause ≡ Memory → MayReportMemory old new
 
 -- A file was refused. Of an honest tree it is the one of its bag at which reading had come, and
 -- nothing is in the way.

@@ -83,9 +83,9 @@ abbrev pub bag_of_files : List (List ℕ × List ℕ) → List (List ℕ) → Ba
 bag_of_files files names = record { files = file_map files; folders = folder_set names }
 
 -- the folders without one that was added
-abbrev pub without : set.FinSet text_cmp → Option (List ℕ) → set.FinSet text_cmp
-without folders None = folders
-without folders (Some name) = set.remove folders name
+abbrev pub folders_without : set.FinSet text_cmp → Option (List ℕ) → set.FinSet text_cmp
+folders_without folders None = folders
+folders_without folders (Some name) = set.remove folders name
 
 -- each file with its size
 abbrev pub listed : List (List ℕ × List ℕ) → List FileEntry

@@ -53,7 +53,7 @@ impl Tree for SkewTree {
     ghost is_bag = { λ tree. passing_is_bag (memory_bag tree.tree) tree.tree.passes };
 
     fn list(&mut self) -> Result<Listing, TreeFault>
-        ensures told { MatchResult result
+        ensures answered { MatchResult result
             (λ listing. listing_of self.old ≡ Some listing)
             (λ fault. (listing_of self.old ≡ None) × (fault ≡ TooMany)) }
         ensures once { listing_of self.new ≡ None }

@@ -15,7 +15,8 @@ pub use Rattle.bag_text.specs.Text.{text_cmp}
 pub use Rattle.serde_json.specs.Data.{Data, Items, Members, item, member, no_items, no_members}
 pub use Rattle.serde_json.specs.Find.{as_array, as_bool, as_object, as_str, get}
 pub use Rattle.serde_json.specs.View.{items_view, members_view}
-pub use Rattle.bag_profile.specs.Answer.{at, needed, present, shaped, ◌>>=◌}
+pub use Rattle.bag_profile.specs.Answer.{at, needed, present, shaped}
+pub use Rattle.bag_text.specs.FirstFault.{◌>>=◌}
 pub use Rattle.bag_profile.specs.Label.{AreLabelsOrderly, allowed_values, flag, label_rules, labels, optional}
 pub use Rattle.bag_profile.specs.Label.{label_rules_of}
 pub use Rattle.bag_profile.specs.NameLists.{name_lists_of, name_rules}

@@ -9,13 +9,6 @@ use Rattle.bag_profile.specs.declared.key.Key.{Key}
 use Rattle.bag_profile.specs.Key.{key_name}
 use Rattle.bag_profile.specs.Label.{optional}
 
--- one after the other: the first fault is the answer
-infixl 10 ◌>>=◌
-abbrev pub ◌>>=◌ : {A B : Type 0} → Result A ProfileFault → (A → Result B ProfileFault)
-    → Result B ProfileFault
-(Ok x) >>= f = f x
-(Err fault) >>= f = Err fault
-
 -- the result is the answer, but for out of memory
 abbrev pub IsAnswerOrMemory : {A : Type 0} → Result A ProfileFault → Result A ProfileFault → Type 0
 IsAnswerOrMemory (Ok x) answer = answer ≡ Ok x

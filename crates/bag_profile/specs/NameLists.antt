@@ -12,7 +12,8 @@ use Rattle.bag_profile.specs.declared.key.Key.TheVariants.{TagManifestsAllowed, 
 use Rattle.bag_profile.specs.declared.key.Key.TheVariants.{TagFilesAllowed}
 use Rattle.bag_profile.specs.declared.name_lists.NameRules.{NameRules}
 use Rattle.bag_profile.specs.declared.name_lists.NameLists.{NameLists}
-use Rattle.bag_profile.specs.Answer.{◌>>=◌, at}
+use Rattle.bag_profile.specs.Answer.{at}
+use Rattle.bag_text.specs.FirstFault.{◌>>=◌}
 use Rattle.bag_profile.specs.TextSet.{texts, IsAscending}
 
 -- the set of texts at a key; none where it is absent

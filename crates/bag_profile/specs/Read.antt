@@ -10,7 +10,8 @@ use Rattle.bag_profile.specs.declared.fault.ProfileFault.{ProfileFault}
 use Rattle.bag_profile.specs.declared.fault.ProfileFault.TheVariants.{NotJson, Memory}
 use Rattle.bag_profile.specs.declared.key.Key.TheVariants as key
 use Rattle.bag_profile.specs.declared.label.LabelRule.{LabelRule}
-use Rattle.bag_profile.specs.Answer.{◌>>=◌, shaped, at, needed}
+use Rattle.bag_profile.specs.Answer.{shaped, at, needed}
+use Rattle.bag_text.specs.FirstFault.{◌>>=◌}
 use Rattle.bag_profile.specs.Label.{label_rules}
 use Rattle.bag_profile.specs.NameLists.{name_lists_of}
 use Rattle.bag_profile.specs.Profile.{Profile}

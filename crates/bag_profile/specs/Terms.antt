@@ -10,7 +10,8 @@ use Rattle.bag_profile.specs.declared.terms.Serialization.{Serialization}
 use Rattle.bag_profile.specs.declared.terms.Serialization.TheVariants.{Forbidden, Required}
 use Rattle.bag_profile.specs.declared.terms.Serialization.TheVariants.{Optional}
 use Rattle.bag_profile.specs.declared.terms.Terms.{Terms}
-use Rattle.bag_profile.specs.Answer.{◌>>=◌, at}
+use Rattle.bag_profile.specs.Answer.{at}
+use Rattle.bag_text.specs.FirstFault.{◌>>=◌}
 use Rattle.bag_profile.specs.NameLists.{texts_at}
 
 -- whether a bag may have `fetch.txt`

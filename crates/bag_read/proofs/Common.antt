@@ -85,7 +85,8 @@ pub use Rattle.bag_read.specs.Manifest.{digest_of, line_by_spelling, named, name
 pub use Rattle.bag_read.specs.Manifest.{spelled_path, without_marks}
 pub use Rattle.bag_read.specs.ManifestName.{is_alg_text, is_manifest_name, manifest_name, prefix}
 pub use Rattle.bag_read.specs.Oxum.{IsOxum, OxumsReadAsTheirParts, WritesNumber, is_dot, is_number, number_of, oxum_of}
-pub use Rattle.bag_read.specs.Reason.{IsFirst, Reason, decoded_or, ◌>>=◌}
+pub use Rattle.bag_read.specs.Reason.{IsFirst, Reason, decoded_or}
+pub use Rattle.bag_text.specs.FirstFault.{◌>>=◌}
 pub use Rattle.bag_read.specs.Repeats.{PathsAscend, AreDifferent, IsReadOnce, IsRepeatedLine, NamesBelow, RepeatsBelow}
 pub use Rattle.bag_read.specs.Repeats.{TellsRepeats, fingerprint, mark_of}
 pub use Rattle.bag_read.specs.declared.fetch.FetchEntry.{FetchEntry}

@@ -64,12 +64,12 @@ module _ (rules : Rules) where
       let (lacks, spelled, payload) = line_told line path e in
       let (some, told, follows) = has_parts (url_of line) (length_of line) (written_of line) lacks in
       record {
-        behind = after_blanks line;
+        after_url = after_blanks line;
         written = written_of line;
         spelling = without_prefix (codes "./") (written_of line);
         url_first = is_cut line some (part_some (λ s. is_length (before_blank s)) (after_blanks line) refl told);
         length_next = is_cut (after_blanks line) (part_some is_length (length_of line) refl told) follows;
-        length_told = length_told (length_of line) told;
+        has_length = length_told (length_of line) told;
         dot_slash = is_without (codes "./") (written_of line);
         spelled = (spellings rules _ path).1 spelled;
         in_payload = payload;
@@ -77,22 +77,22 @@ module _ (rules : Rules) where
 
   module _ (line url size path : List ℕ) (r : IsFetchLine rules line url size path) where
     pub url_is : url_of line ≡ url
-    url_is = cut_part line url r.behind r.url_first
+    url_is = cut_part line url r.after_url r.url_first
 
-    behind_is : after_blanks line ≡ r.behind
-    behind_is = cut_rest line url r.behind r.url_first
+    behind_is : after_blanks line ≡ r.after_url
+    behind_is = cut_rest line url r.after_url r.url_first
 
     pub size_is : length_of line ≡ size
-    size_is = ap before_blank behind_is ∙ cut_part r.behind size r.written r.length_next
+    size_is = ap before_blank behind_is ∙ cut_part r.after_url size r.written r.length_next
 
     pub path_is : fetch_line rules line ≡ Ok path
     unfolding fetch_line
     path_is =
-        let next = cut_rest r.behind size r.written r.length_next in
-        let first = cut_part r.behind size r.written r.length_next in
+        let next = cut_rest r.after_url size r.written r.length_next in
+        let first = cut_part r.after_url size r.written r.length_next in
         let whole =
         lacks_none url size r.written
-        (r.url_first.some_part, told_length size r.length_told, begins_some r.written r.length_next.begins) in
+        (r.url_first.some_part, told_length size r.has_length, begins_some r.written r.length_next.begins) in
         rw (
           behind_is,
           next,
@@ -123,7 +123,7 @@ pub lines_read : FetchLinesReadAsTheirParts
 lines_read rules line url size path = (
   λ (some, u, s, is). rw (u, s) (line_parts rules line path is),
   λ r. (
-    not_blank line url r.behind r.url_first,
+    not_blank line url r.after_url r.url_first,
     sym (url_is rules line url size path r),
     sym (size_is rules line url size path r),
     path_is rules line url size path r,

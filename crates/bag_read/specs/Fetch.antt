@@ -10,7 +10,8 @@ use Rattle.bag_text.specs.declared.rules.Rules.{Rules}
 use Rattle.bag_text.specs.declared.code.Code.{Code}
 use Rattle.bag_text.specs.declared.code.Code.TheVariants.{NotUtf8, FetchLine, FetchEscape}
 use Rattle.bag_text.specs.declared.code.Code.TheVariants.{FetchUnsafePath, FetchOutsidePayload}
-use Rattle.bag_read.specs.Reason.{Reason, ◌>>=◌, decoded_or}
+use Rattle.bag_read.specs.Reason.{Reason, decoded_or}
+use Rattle.bag_text.specs.FirstFault.{◌>>=◌}
 use Rattle.bag_read.specs.declared.line_fault.LineFault.{LineFault}
 use Rattle.bag_read.specs.declared.fetch.FetchEntry.{FetchEntry}
 

@@ -14,12 +14,12 @@ IsLength t = (t ≡ codes "-") ⊎ AreDigits t
 
 -- the line is a URL, blanks, a length, blanks, and a spelling of the path of a payload file
 pub record IsFetchLine (rules : Rules) (line url size path : List ℕ) : Type 0 where
-  pub behind : List ℕ
+  pub after_url : List ℕ
   pub written : List ℕ
   pub spelling : List ℕ
-  pub url_first : IsCutAtBlanks line url behind
-  pub length_next : IsCutAtBlanks behind size written
-  pub length_told : IsLength size
+  pub url_first : IsCutAtBlanks line url after_url
+  pub length_next : IsCutAtBlanks after_url size written
+  pub has_length : IsLength size
   pub dot_slash : IsWithout (codes "./") written spelling
   pub spelled : Spells rules spelling path
   pub in_payload : IsTrue (is_payload_path path)

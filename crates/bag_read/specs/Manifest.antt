@@ -21,7 +21,8 @@ use Rattle.bag_text.specs.declared.code.Code.TheVariants.{TagmanifestNamesTagman
 use Rattle.bag_read.specs.ManifestName.{is_manifest_name}
 use Rattle.bag_read.specs.declared.kind.Kind.{Kind}
 use Rattle.bag_read.specs.declared.kind.Kind.TheVariants.{Payload, Tag}
-use Rattle.bag_read.specs.Reason.{Reason, ◌>>=◌, decoded_or}
+use Rattle.bag_read.specs.Reason.{Reason, decoded_or}
+use Rattle.bag_text.specs.FirstFault.{◌>>=◌}
 use Rattle.bag_read.specs.declared.line_fault.LineFault.{LineFault}
 use Rattle.bag_read.specs.declared.manifest.ManifestEntry.{ManifestEntry}
 

@@ -6,11 +6,6 @@ use Rattle.bag_text.specs.declared.code.Code.{Code}
 abbrev pub Reason : Type 0
 Reason = Code × List ℕ
 
-infixl 10 ◌>>=◌
-abbrev pub ◌>>=◌ : {A B : Type 0} → Result A Reason → (A → Result B Reason) → Result B Reason
-(Ok x) >>= f = f x
-(Err reason) >>= f = Err reason
-
 -- the path that is spelled, or that the spelling has a bad escape
 abbrev pub decoded_or : Code → Option (List ℕ) → List ℕ → Result (List ℕ) Reason
 decoded_or bad_escape None spelling = Err (bad_escape, spelling)

@@ -131,7 +131,8 @@ pub use Rattle.bag_stages.specs.OxumFaults.{again, differs, first_faults, is_oxu
 pub use Rattle.bag_stages.specs.OxumFaults.{oxums, same_oxum, reported_faults}
 pub use Rattle.bag_stages.specs.PartsStage.{PartFaultsAreListed, PartFaultsAreOfStageTwo}
 pub use Rattle.bag_stages.specs.Payload.{oxum, oxum_of_files, oxum_text}
-pub use Rattle.bag_stages.specs.PayloadNamed.{RestStartsAfter, IsExact, IsNamedExactly, StopsAt, payload_paths}
+pub use Rattle.bag_stages.specs.PayloadNamed.{RestStartsAfter, IsExact, IsNamedExactly, IsPayloadNotFirst}
+pub use Rattle.bag_stages.specs.PayloadNamed.{payload_paths}
 pub use Rattle.bag_stages.specs.PayloadSize.{listed_oxum, payload_entries}
 pub use Rattle.bag_stages.specs.SumFaults.{AreSumsBy, differing, differing_code, faults_of_bytes, sum_differs}
 pub use Rattle.bag_stages.specs.SummedFiles.{IsNamed, IsSummed, NamesByKind, kind_of}

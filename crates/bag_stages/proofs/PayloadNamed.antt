@@ -8,7 +8,7 @@ use Rattle.bag_stages.proofs.Common.{Payload, Tag, ManifestEntry, Bag, file, IsO
 use Rattle.bag_stages.proofs.Common.{entry_paths, IsManifestNamed, IsReadOf, AreFilesOfBag, paths_of, Manifest}
 use Rattle.bag_stages.proofs.Common.{file_listed, listed_file, paths_ascend, kept, passed, take_one_more, manifest_of}
 use Rattle.bag_stages.proofs.Common.{Names, IsMissing, IsV10LeftOutByOne, IsWrong, RestStartsAfter, IsExact}
-use Rattle.bag_stages.proofs.Common.{IsNamedExactly, payload_paths, StopsAt}
+use Rattle.bag_stages.proofs.Common.{IsNamedExactly, payload_paths, IsPayloadNotFirst}
 use Rattle.std.proofs.Common.{if◌then◌else◌, take_all}
 use Rattle.bag_stages.proofs.NamesByKind.{names_by_kind}
 use Rattle.bag_stages.proofs.ReadManifest.{by_path, entry_names, is_absent, is_there, names_entry}
@@ -46,7 +46,7 @@ module _ (names rest : List (List ℕ)) (files : List FileEntry) (i : ℕ) (file
       (before_more names (paths_of (take i files)) rest after file.path before on)
 
   -- where the names stop they are others
-  pub others_there : AreBefore names (paths_of (take i files)) rest → StopsAt rest file.path
+  pub others_there : AreBefore names (paths_of (take i files)) rest → IsPayloadNotFirst rest file.path
       → names ≢ payload_paths (paths_of files)
   others_there before stops same =
       let front = payload_paths (paths_of (take i files)) in

@@ -17,8 +17,9 @@ RestStartsAfter names path rest = ((is_payload_path path ≡ true) × (names ≡
     ⊎ ((is_payload_path path ≡ false) × (rest ≡ names))
 
 -- there is none: the path is a payload file's, and not the first of the names
-abbrev pub StopsAt : List (List ℕ) → List ℕ → Type 0
-StopsAt names path = (is_payload_path path ≡ true) × ((rest : List (List ℕ)) → names ≢ path ∷ rest)
+abbrev pub IsPayloadNotFirst : List (List ℕ) → List ℕ → Type 0
+IsPayloadNotFirst names path =
+    (is_payload_path path ≡ true) × ((rest : List (List ℕ)) → names ≢ path ∷ rest)
 
 -- the payload manifest of an algorithm names the payload's files and no other
 pub record IsNamedExactly (bag : Bag) (alg : Alg) : Type 0 where

@@ -1,6 +1,6 @@
 //! The faults of `Payload-Oxum`.
 ghost use Rattle.std.specs.Prelude.{◌≡◌, ◌∷◌, [], IfOk, map, position};
-ghost use Rattle.bag_stages.specs.OxumFaults as told;
+ghost use Rattle.bag_stages.specs.OxumFaults as reported;
 ghost use Rattle.bag_stages.specs.PayloadSize.{listed_oxum};
 
 use crate::payload_size::{PayloadSize, payload_size};
@@ -20,7 +20,7 @@ pub(crate) fn oxum_faults(
     files: &[FileEntry],
 ) -> Result<Vec<Fault>, AllocError>
     ensures { IfOk result (λ faults. faults.items
-        ≡ told.oxum_faults path.now (listed_oxum files.now) (told.oxums elements.now)) }
+        ≡ reported.oxum_faults path.now (listed_oxum files.now) (reported.oxums elements.now)) }
 {
     let Some(at) = first_oxum(elements) else {
         return no_oxum(alloc, path);
@@ -33,21 +33,21 @@ pub(crate) fn oxum_faults(
 
 /// Where the first element stands that tells the payload's size.
 fn first_oxum(elements: &[Element]) -> Option<usize>
-    ensures { result ≡ position told.is_oxum elements.now }
+    ensures { result ≡ position reported.is_oxum elements.now }
 {
     elements.iter().position(|element| is_oxum(element))
 }
 
 /// Whether an element tells the payload's size.
 fn is_oxum(element: &Element) -> bool
-    ensures { result ≡ told.is_oxum element.now }
+    ensures { result ≡ reported.is_oxum element.now }
 {
     same_label(element.label.as_str(), "Payload-Oxum")
 }
 
 /// That no element tells the payload's size.
 pub(crate) fn no_oxum(alloc: Global, path: &Text) -> Result<Vec<Fault>, AllocError>
-    ensures { IfOk result (λ faults. faults.items ≡ told.no_oxum path.now ∷ []) }
+    ensures { IfOk result (λ faults. faults.items ≡ reported.no_oxum path.now ∷ []) }
 {
     Ok(vec![in alloc; whole_file(alloc, Code::NoOxum, path, "")?]?)
 }
@@ -60,7 +60,7 @@ fn first_faults(
     files: &[FileEntry],
 ) -> Result<Vec<Fault>, AllocError>
     ensures { IfOk result (λ faults. faults.items
-        ≡ told.first_faults path.now (listed_oxum files.now) element.now) }
+        ≡ reported.first_faults path.now (listed_oxum files.now) element.now) }
 {
     let Some(size) = oxum_of(element.value.as_str()) else {
         return Ok(vec![in alloc; value_fault(alloc, Code::OxumMalformed, path, element)?]?);
@@ -75,7 +75,7 @@ fn first_faults(
 /// The faults of the later elements that tell the payload's size.
 fn later_faults(alloc: Global, path: &Text, elements: &[Element]) -> Result<Vec<Fault>, AllocError>
     ensures { IfOk result (λ faults.
-        faults.items ≡ map (told.again path.now) (told.oxums elements.now)) }
+        faults.items ≡ map (reported.again path.now) (reported.oxums elements.now)) }
 {
     let mut faults = Vec::new(alloc);
     for element in elements {
@@ -94,7 +94,7 @@ fn value_fault(
     element: &Element,
 ) -> Result<Fault, AllocError>
     ensures { IfOk result (λ fault.
-        fault ≡ told.of_element path.now code element.now element.now.value) }
+        fault ≡ reported.of_element path.now code element.now element.now.value) }
 {
     let detail = element.value.copy(alloc)?;
     Ok(Fault::of_line(code, path.copy(alloc)?, None, element.line, detail))
@@ -107,7 +107,7 @@ fn size_fault(
     element: &Element,
     found: PayloadSize,
 ) -> Result<Fault, AllocError>
-    ensures { IfOk result (λ fault. fault ≡ told.differs path.now found element.now) }
+    ensures { IfOk result (λ fault. fault ≡ reported.differs path.now found element.now) }
 {
     let PayloadSize { octets, streams } = found;
     let detail = format!(in alloc; "{}:{octets}.{streams}", element.value)?;

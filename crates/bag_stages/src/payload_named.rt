@@ -4,7 +4,8 @@ ghost use Rattle.bag_facts.specs.Facts.{OfBag};
 ghost use Rattle.bag_facts.specs.TagFacts.{entry_paths};
 ghost use Rattle.bag_facts.specs.Wanted.{paths_of};
 ghost use Rattle.bag_stages.specs.CompletenessFaults.{IsWrong, IsWrongOfSome};
-ghost use Rattle.bag_stages.specs.PayloadNamed.{RestStartsAfter, IsExact, payload_paths, StopsAt};
+ghost use Rattle.bag_stages.specs.PayloadNamed.{RestStartsAfter, IsExact, payload_paths};
+ghost use Rattle.bag_stages.specs.PayloadNamed.{IsPayloadNotFirst};
 ghost use Rattle.bag_stages.specs.Found.{AreEachOnceOf};
 
 use crate::left_out::left_out_by_one;
@@ -73,7 +74,7 @@ fn are_named(entries: &[ManifestEntry], files: &[FileEntry]) -> bool
 /// those after the first, which has its path.
 fn behind<'a>(entries: &'a [ManifestEntry], path: &Text) -> Option<&'a [ManifestEntry]>
     ensures { MatchOption result
-        (StopsAt (entry_paths entries.now) path.now)
+        (IsPayloadNotFirst (entry_paths entries.now) path.now)
         (λ rest. RestStartsAfter (entry_paths entries.now) path.now (entry_paths rest.now)) }
 {
     if !is_payload(path.as_str()) {

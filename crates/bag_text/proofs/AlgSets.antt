@@ -4,7 +4,7 @@ use Rattle.bag_text.proofs.Common.{length, map, not, refl, rules, set, subst, sy
 use Rattle.bag_text.proofs.Common.{◌||◌, ◌↔◌, ◌∙◌, ◌∷◌, ◌≡◌, ◌⊎◌, or_cases, or_right, nat_tests, get_or-set_at}
 use Rattle.bag_text.proofs.Common.{get_or-set_other, filter_more, list_any_at, list_any, Contains, EachIsListed}
 use Rattle.bag_text.proofs.Common.{ListAscends, NameIsReadAgain, NamesTellApart, algs, rank, has_member, same_alg}
-use Rattle.bag_text.proofs.Common.{with_member, IsTable, flag, members, flags_are, has_each, has_member-filter}
+use Rattle.bag_text.proofs.Common.{with_member, IsTable, flag_of, members, flags_are, has_each, has_member-filter}
 use Rattle.bag_text.proofs.Common.{same_alg_same}
 use Rattle.std.specs.Bool.{beq}
 use Rattle.std.specs.List.Sorted.{IsStrictlySortedBy}
@@ -42,13 +42,13 @@ rank_within _ = omega arith
 
 -- one more flag
 flag_more : (s : Inside) (alg a : Alg) → IsTable s
-    → flag (record { flags = set s.flags (rank alg - 1) true }) a ≡ (same_alg a alg || flag s a)
+    → flag_of (record { flags = set s.flags (rank alg - 1) true }) a ≡ (same_alg a alg || flag_of s a)
 flag_more s alg a long = grind (arith, nat_tests, get_or-set_at, rank_within, get_or-set_other)
 
 -- one more flag is one more member
 pub members_more : (s : Inside) (alg : Alg) → IsTable s
     → members (record { flags = set s.flags (rank alg - 1) true }) ≡ with_member (members s) alg
-members_more s alg long = (λ i. filter (λ a. flag_more s alg a long i) algs) ∙ sym (with_member-filter (flag s) alg)
+members_more s alg long = (λ i. filter (λ a. flag_more s alg a long i) algs) ∙ sym (with_member-filter (flag_of s) alg)
 
 -- the members of a set with one more
 pub Contains-with_member : (p : Alg → Bool) (alg a : Alg)
@@ -76,7 +76,7 @@ no_member p (x ∷ xs) = grind (arith, no_member p xs)
 pub no_flag : (s : Inside) → IsTable s → IsTrue (not (list_any (λ b. beq b true) s.flags)) ↔ (members s ≡ [])
 no_flag s long =
     subst (λ b. IsTrue (not b) ↔ (members s ≡ []))
-    (sym (any_map (flag s) algs) ∙ ap (list_any (λ b. beq b true)) (flags_are s long)) (no_member (flag s) algs)
+    (sym (any_map (flag_of s) algs) ∙ ap (list_any (λ b. beq b true)) (flags_are s long)) (no_member (flag_of s) algs)
 
 -- each algorithm is listed
 pub each_is_listed : EachIsListed

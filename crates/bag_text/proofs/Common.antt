@@ -34,7 +34,7 @@ pub use denote.Shadow.{shadow}
 pub use denote.Text.{Utf8}
 pub use Rattle.bag_text.specs.Alg.{EachIsListed, ListAscends, NameIsReadAgain, NamesTellApart, algs, rank, rank_cmp}
 pub use Rattle.bag_text.specs.AlgList.{has_member, same_alg, with_member}
-pub use Rattle.bag_text.specs.AlgSet.{IsTable, flag, members}
+pub use Rattle.bag_text.specs.AlgSet.{IsTable, flag_of, members}
 pub use Rattle.bag_text.specs.AlgTable.{flags_are, has_each, has_member-filter, same_alg_same, same_rank}
 pub use Rattle.bag_text.specs.LineEnd.{end_len, is_line_end}
 pub use Rattle.bag_text.specs.Lines.{Cut, HasNoEnd, IsEnd, IsLine, LinesAreTheOnlyCut, carriage_return, line_feed}

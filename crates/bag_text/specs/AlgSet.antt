@@ -10,12 +10,12 @@ abbrev pub IsTable : Inside → Type 0
 IsTable set = length set.flags ≡ length algs
 
 -- the flag of an algorithm
-abbrev pub flag : Inside → Alg → Bool
-flag set alg = slice_index_or set.flags (rank alg - 1) false
+abbrev pub flag_of : Inside → Alg → Bool
+flag_of set alg = slice_index_or set.flags (rank alg - 1) false
 
 -- those whose flag is set, in their order
 abbrev pub members : Inside → List Alg
-members set = filter (flag set) algs
+members set = filter (flag_of set) algs
 
 -- the flags of a list of members
 abbrev pub table : List Alg → Inside

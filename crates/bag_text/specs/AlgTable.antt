@@ -12,7 +12,7 @@ use Rattle.bag_text.specs.declared.alg.Alg.TheVariants.{Md5}
 use Rattle.bag_text.specs.declared.alg_set.AlgSet.TheInside.{Inside}
 use Rattle.bag_text.specs.Alg.{algs, rank}
 use Rattle.bag_text.specs.AlgList.{same_alg, has_member}
-use Rattle.bag_text.specs.AlgSet.{IsTable, flag, members, table}
+use Rattle.bag_text.specs.AlgSet.{IsTable, flag_of, members, table}
 
 -- each algorithm stands in the list at its rank
 pub at_rank : (alg : Alg) → slice_get algs (rank alg - 1) ≡ Some alg
@@ -56,11 +56,11 @@ flags_from flags (x ∷ xs) k up long =
     rw (flags_from flags xs (suc k) both.1 (omega arith), here)
     (sym (drop-cons flags k false (omega arith)))
 
-pub flags_are : (set : Inside) → IsTable set → map (flag set) algs ≡ set.flags
+pub flags_are : (set : Inside) → IsTable set → map (flag_of set) algs ≡ set.flags
 flags_are set long = flags_from set.flags algs 0 refl long
 
 -- the flags are those of the members
 pub table_of_members : (set : Inside) → IsTable set → table (members set) ≡ set
 table_of_members set long i = record {
-  flags = ((λ j. map (λ alg. has_member-filter (flag set) alg j) algs) ∙ flags_are set long) i;
+  flags = ((λ j. map (λ alg. has_member-filter (flag_of set) alg j) algs) ∙ flags_are set long) i;
 }

@@ -55,8 +55,8 @@ lose from bag = record {
 }
 
 -- the bag with a folder that is made; it tells of those in the base folder alone
-abbrev pub with_folder : List ℕ → Bag → Bag
-with_folder name bag = if is_base_name name then make_folder name bag else bag
+abbrev pub with_made_folder : List ℕ → Bag → Bag
+with_made_folder name bag = if is_base_name name then make_folder name bag else bag
 
 -- the bag with these bytes in a file, where that is there
 abbrev pub hold : List ℕ → List ℕ → Bag → Bag
@@ -70,7 +70,7 @@ appended (Some content) bytes = content ++ bytes
 -- What an event makes of a bag. What had a name before that is given anew is lost; to have its own
 -- name changes nothing, and no bytes are written to a file that isn't there.
 unfoldable pub done : DeviceEvent → Bag → Bag
-done (MakeFolder name) bag = with_folder name (lose name bag)
+done (MakeFolder name) bag = with_made_folder name (lose name bag)
 done (Rename from to) bag = if bytes_eq from to then bag else rename from to bag
 done (Create name) bag = create name [] (lose name bag)
 done (Write name bytes) bag = hold name (appended (file bag name) bytes) bag

@@ -13,5 +13,5 @@ bytes_at sums alg =
     option_map (take (hash_len alg)) (slice_index_or sums.digests (rank alg - 1) None)
 
 -- each digest in lower-case hex
-abbrev pub shown : Inside → List (Option (List ℕ))
-shown sums = map (λ alg. option_map encode_lower (bytes_at sums alg)) algs
+abbrev pub hex_digests : Inside → List (Option (List ℕ))
+hex_digests sums = map (λ alg. option_map encode_lower (bytes_at sums alg)) algs

@@ -3,7 +3,7 @@ ghost use Rattle.std.specs.Prelude.{◌≡◌, ◌≤◌, ◌↔◌, length, Som
 ghost use Rattle.std.specs.Prelude.{IsErrOf, string_bytes};
 ghost use Rattle.hex.specs.Hex.{encode_lower};
 ghost use Rattle.bag_tree.specs.Digest.{sum_at};
-ghost use Rattle.bag_tree.specs.Sums.{shown};
+ghost use Rattle.bag_tree.specs.Sums.{hex_digests};
 ghost use Rattle.bag_tree.specs.declared.sums.HexFault.TheVariants.{NotAsked};
 
 use crate::hasher::MOST_BYTES;
@@ -42,17 +42,17 @@ pub struct Sums {
 
 impl Model for Sums {
     ghost use Rattle.std.specs.Prelude.{List, Option, ℕ};
-    ghost use Rattle.bag_tree.specs.Sums.{shown};
+    ghost use Rattle.bag_tree.specs.Sums.{hex_digests};
 
     ghost Value = { List (Option (List ℕ)) };
 
-    ghost view = { shown };
+    ghost view = { hex_digests };
 }
 
 impl Sums {
     /// Digests by the algorithms in their order, each with zeros after it.
     pub(crate) fn new(digests: [Option<[u8; MOST_BYTES]>; Alg::ALL.len()]) -> Sums
-        ensures { result ≡ shown (record { digests = digests }) }
+        ensures { result ≡ hex_digests (record { digests = digests }) }
     {
         Sums { digests }
     }

@@ -38,7 +38,7 @@ pub fn read_whole<T: Tree>(
     ensures refused_at { IfErr result (λ fault.
         fault ≢ Memory → IsRefusedAt (T.state tree.old).openings entry.now.path
         (T.state tree.new)) }
-    ensures wanting { IfErr result (λ fault.
+    ensures out_of_memory { IfErr result (λ fault.
         fault ≡ Memory → MayReportMemory (T.state tree.old) (T.state tree.new)) }
 {
     let mut buffer = Vec::new(alloc);
@@ -82,7 +82,7 @@ fn read_pieces<T: Tree>(
         (MayRefuseWhole (T.state tree.old) (T.state tree.new) entry.now) }
     ensures refused_at { OnErr result
         (IsRefusedAt (T.state tree.old).openings entry.now.path (T.state tree.new)) }
-    ensures wanting { IfErr result (λ fault.
+    ensures out_of_memory { IfErr result (λ fault.
         fault ≡ Memory → MayReportMemory (T.state tree.old) (T.state tree.new)) }
 {
     tree.open_file(entry.path.as_str())?;

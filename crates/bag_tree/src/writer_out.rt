@@ -17,7 +17,7 @@ pub struct WriterOut<W: Write> {
     writer: W,
     refused: bool,
     heard: Heard,
-    ghost told: { HasReceived W.contents writer heard.bytes },
+    ghost received: { HasReceived W.contents writer heard.bytes },
 }
 
 impl<W: Write> WriterOut<W> {

@@ -8,11 +8,11 @@ module _ {todo : List (List ℕ)} {old new : TreeState} (stop : Stop) (m : IsOut
     (tells : MayReportMemory old new) where
   pub filling_of_memory : MayStopFilling todo old new stop
   filling_of_memory =
-      record { cause = rw m.0 tt; answered = rw m.0 tt; path = inl m; memory = λ _. m.1; wanting = λ _. tells }
+      record { cause = rw m.0 tt; answered = rw m.0 tt; path = inl m; memory = λ _. m.1; out_of_memory = λ _. tells }
 
   pub anyway_of_memory : MayStopAnyway todo old new stop
   anyway_of_memory =
-      record { cause = rw m.0 tt; answered = rw m.0 tt; path = inl m; memory = λ _. m.1; wanting = λ _. tells }
+      record { cause = rw m.0 tt; answered = rw m.0 tt; path = inl m; memory = λ _. m.1; out_of_memory = λ _. tells }
 
 module _ (entry : FileEntry) (rest : List (List ℕ)) {old new : TreeState} (cause : TreeFault) (stop : Stop)
     (refused : MayRefuseWhole old new entry cause) (answered : cause ≢ Changed → new.last ≡ Refused cause) where

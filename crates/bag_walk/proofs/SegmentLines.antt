@@ -58,7 +58,7 @@ pub record HasWritten (limit count : ℕ) (IsOf IsOfNow : Bag → Type 0) (left 
     pub written_so_far : Appends before.taken after.taken (concat (written given))
     pub last : (rest : List Fault) → IsLastOf (given ++ rest) count line line_now
     pub opens : Opens todo todo_now old now
-    pub behind : (bag : Bag) → IsOf bag → Sees old todo bag → OpensNoFileEarly (drop (count - 1) (left bag)) old now
+    pub none_early : (bag : Bag) → IsOf bag → Sees old todo bag → OpensNoFileEarly (drop (count - 1) (left bag)) old now
     pub seen : (bag : Bag) → IsOf bag → Sees old todo bag → IsOfNow bag × (left bag ≡ given ++ left_now bag)
 
 module _ {limit count : ℕ} {IsOf IsOfNow : Bag → Type 0} {left left_now : Bag
@@ -147,6 +147,6 @@ module _ {limit count : ℕ} {IsOf IsOfNow : Bag → Type 0} {left left_now : Ba
       → ((bag : Bag) → IsOfNow bag → Sees now todo_now bag → OpensNoFileEarly (left_now bag) now new)
       → (bag : Bag) → IsOf bag → Sees old todo bag → OpensNoFileEarly (drop count (left bag)) old new
   behind_now again after bag h sees =
-      behind_on (drop (count - 1) (left bag)) (drop count (left bag)) (once has.opens) again (has.behind bag h sees)
+      behind_on (drop (count - 1) (left bag)) (drop count (left bag)) (once has.opens) again (has.none_early bag h sees)
       (rw (to_come bag h sees) (seen_now _ after bag h sees)) (λ f c.
       dropped_within count (count - 1) (left bag) f (omega arith) c)

@@ -87,13 +87,13 @@ pub record OpensUpToSummed (old new : TreeState) (profile : Option Profile) (req
     (n : ℕ) (path : List ℕ) : Type 0 where
   pub read : List (List ℕ)
   pub before : List (List ℕ)
-  pub behind : List (List ℕ)
+  pub later : List (List ℕ)
   pub read_in_order : IsStrictlySortedBy text_cmp read
   pub wanted : All (IsWanted request.options) read
   pub all_read : ForListing old (λ files. AreWanted request.options files read)
-  pub in_order : IsStrictlySortedBy text_cmp (before ++ path ∷ behind)
+  pub in_order : IsStrictlySortedBy text_cmp (before ++ path ∷ later)
   pub to_open : IsTrue old.honest
-      → AreToOpen (check_of old.bag profile request) request.after (before ++ path ∷ behind)
+      → AreToOpen (check_of old.bag profile request) request.after (before ++ path ∷ later)
   pub refused : IsRefusedAt (old.openings ++ (read ++ before)) path new
   pub written : ForReportAsked old profile request (λ report.
       NoFaultBefore (drop n (above request.after report)) (path ∷ []))

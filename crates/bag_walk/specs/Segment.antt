@@ -86,7 +86,7 @@ pub record StopsWalk (todo : List (List ℕ)) (old new : TreeState) (stop : Stop
   pub answered : CameFromFile new stop.cause
   pub path : IsOutOfMemory stop ⊎ IsReached todo old new stop.path
   pub memory : stop.cause ≡ Memory → stop.path ≡ []
-  pub wanting : stop.cause ≡ Memory → MayReportMemory old new
+  pub out_of_memory : stop.cause ≡ Memory → MayReportMemory old new
 
 abbrev pub MayStopRun : Type 0 → List (List ℕ) → TreeState → TreeState → Stop → Type 0
 MayStopRun IsOf todo old new stop = RanOutOfMemory old new stop

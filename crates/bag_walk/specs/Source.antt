@@ -59,7 +59,7 @@ pub record MayStopFilling (todo : List (List ℕ)) (old new : TreeState) (stop :
   pub answered : CameFromFile new stop.cause
   pub path : IsOutOfMemory stop ⊎ IsNext todo old stop.path
   pub memory : stop.cause ≡ Memory → stop.path ≡ []
-  pub wanting : stop.cause ≡ Memory → MayReportMemory old new
+  pub out_of_memory : stop.cause ≡ Memory → MayReportMemory old new
 
 -- Why a file may be refused, whatever the tree and whatever files are asked for: one may not be
 -- there or have another size.
@@ -74,4 +74,4 @@ pub record MayStopAnyway (todo : List (List ℕ)) (old new : TreeState) (stop : 
   pub answered : CameFromFile new stop.cause
   pub path : IsOutOfMemory stop ⊎ ((rest : List (List ℕ)) × (todo ≡ stop.path ∷ rest))
   pub memory : stop.cause ≡ Memory → stop.path ≡ []
-  pub wanting : stop.cause ≡ Memory → MayReportMemory old new
+  pub out_of_memory : stop.cause ≡ Memory → MayReportMemory old new

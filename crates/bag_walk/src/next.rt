@@ -19,7 +19,7 @@ impl<T: Tree, S: InOrder<T>> Steps<T, S> {
     /// owns its path. So a caller whose proof goes by the walk after the call makes the two calls
     /// that this one makes, `go_on` and `shown`.
     pub fn next(&mut self) -> Result<Option<&Fault>, Stop>
-        ensures* behind { sem 𝓛 (follows_so (the_row T.row S.row) (the_row T.row S.row)
+        ensures* after { sem 𝓛 (follows_so (the_row T.row S.row) (the_row T.row S.row)
             self.entry.ghost_name none (λ _ _. ⊤)
             (λ new. LendsNext T.Tree S.Source self.old new result)) }
         ensures given { LendsLeast T.Tree S.Source self.old result }

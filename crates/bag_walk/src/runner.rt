@@ -62,7 +62,7 @@ fn run_of_walk<T: Tree, S: InOrder<T> + Drop, W: Out>(
     ensures keeps { Keeps (T.state walk.tree) (T.state result.0) }
     ensures opens { (files : List (List ℕ)) ×
         OpensAgain (to_open S.Source walk) files (T.state walk.tree) (T.state result.0) }
-    ensures behind { ForEachBag T.Tree S.Source walk (λ bag.
+    ensures none_early { ForEachBag T.Tree S.Source walk (λ bag.
         OpensNoFileEarly (drop (written_before request.now result.1) (left S.Source bag walk))
         (T.state walk.tree) (T.state result.0)) }
     ensures seen { ForEachBag T.Tree S.Source walk (λ bag.

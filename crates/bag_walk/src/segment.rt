@@ -64,7 +64,7 @@ pub(crate) fn write_faults<T: Tree, S: InOrder<T>, W: Out>(
     ensures no_failure { IsRead result.end →
         NothingFailed (T.state walk.old.tree) (T.state walk.new.tree) }
     ensures opens { MayReopenLast T.Tree S.Source walk.old walk.new }
-    ensures behind { ForEachBag T.Tree S.Source walk.old (λ bag.
+    ensures none_early { ForEachBag T.Tree S.Source walk.old (λ bag.
         OpensNoFileEarly (still_to_come result (left S.Source bag walk.old))
         (T.state walk.old.tree) (T.state walk.new.tree)) }
     ensures waits { IfUnread result.end (λ stop. ForEachBag T.Tree S.Source walk.old (λ bag.

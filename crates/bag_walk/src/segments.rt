@@ -149,7 +149,7 @@ fn segment_of_walk<T: Tree, S: InOrder<T> + Drop, W: Out>(
     ensures bounded { result.1.written ≤ limit }
     ensures opens { (files : List (List ℕ)) ×
         OpensAgain (to_open S.Source walk) files (T.state walk.tree) (T.state result.0) }
-    ensures behind { ForEachBag T.Tree S.Source walk (λ bag.
+    ensures none_early { ForEachBag T.Tree S.Source walk (λ bag.
         OpensNoFileEarly (still_to_come result.1 (left S.Source bag walk))
         (T.state walk.tree) (T.state result.0)) }
     ensures stop { IfUnread result.1.end (MayStopRun (WalkIsOfHonest T.Tree S.Source walk)

@@ -57,7 +57,7 @@ pub trait Source<T: Tree> {
             is_of bag self.new × (remaining bag self.new ≡ remaining bag self.old)) }
         ensures first { OnOk result (ForEachSeen is_of todo (T.state tree.old) self.old (λ bag.
             found self.new ≡ first_of (remaining bag self.new))) }
-        ensures behind { in_order → ForEachSeen is_of todo (T.state tree.old) self.old (λ bag.
+        ensures none_early { in_order → ForEachSeen is_of todo (T.state tree.old) self.old (λ bag.
             OpensNoFileEarly (remaining bag self.old) (T.state tree.old) (T.state tree.new)) }
         ensures stop { IfErr result (λ stop. IsOfHonest is_of (T.state tree.old) self.old →
             MayStopFilling (todo self.new) (T.state tree.old) (T.state tree.new) stop) }

@@ -55,7 +55,7 @@ impl<T: Tree, S: InOrder<T>> Steps<T, S> {
         ensures waits { IfErr result (StopsBeforeRemaining T.Tree S.Source self.old) }
         ensures ended { OnOk result (IsDone S.Source self.new) }
         ensures next { GivesFirst T.Tree S.Source self.old self.new result }
-        ensures behind { WalkOpensNoFileEarly T.Tree S.Source self.old self.new }
+        ensures none_early { WalkOpensNoFileEarly T.Tree S.Source self.old self.new }
         ensures stop { IfErr result (MayStopHere T.Tree S.Source self.old self.new) }
         ensures anyway { IfErr result (MayStopOverAny T.Tree S.Source self.old self.new) }
     {

@@ -21,4 +21,4 @@ own_of disk = failures_counted disk.failures
 
 -- how the disk below refused the last call that was passed to it, where it did
 abbrev pub reported_of : {D : Type 0} → RefusingDisk D → Option DiskFault
-reported_of disk = disk.told
+reported_of disk = disk.reported

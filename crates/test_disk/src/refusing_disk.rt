@@ -33,7 +33,7 @@ pub struct RefusingDisk<D> {
     /// Its own, beside those of the disk that it stands on.
     failures: Failures,
     /// How the disk that it stands on refused the last call that was passed to it, where it did.
-    told: Option<DiskFault>,
+    reported: Option<DiskFault>,
 }
 
 impl<D: Disk + Drop> RefusingDisk<D> {
@@ -46,14 +46,14 @@ impl<D: Disk + Drop> RefusingDisk<D> {
         ensures below { below_of result ≡ disk }
         ensures call { call_of result ≡ call }
         ensures fault { fault_of result ≡ fault }
-        ensures told { reported_of result ≡ None }
+        ensures reported { reported_of result ≡ None }
     {
         RefusingDisk {
             disk,
             call,
             fault,
             failures: Failures::none(),
-            told: None,
+            reported: None,
         }
     }
 
@@ -69,11 +69,11 @@ impl<D: Disk + Drop> RefusingDisk<D> {
 }
 
 /// Notes how the disk below refused a call, where it did, and gives what it answered.
-fn note<T>(told: &mut Option<DiskFault>, answer: Result<T, DiskFault>) -> Result<T, DiskFault>
+fn note<T>(reported: &mut Option<DiskFault>, answer: Result<T, DiskFault>) -> Result<T, DiskFault>
     ensures same { result ≡ answer }
-    ensures told { told.new ≡ result_err answer }
+    ensures reported { reported.new ≡ result_err answer }
 {
-    *told = answer.as_ref().err().copied();
+    *reported = answer.as_ref().err().copied();
     answer
 }
 
@@ -127,7 +127,7 @@ impl<D: Disk + Drop> Disk for RefusingDisk<D> {
         ensures passed { is_refused (call_of self.old) path.now ≡ false
             → LooksAt (D.state (below_of self.old)) (D.state (below_of self.new)) path.now result
             × (own_of self.new ≡ own_of self.old) }
-        ensures told { reported_of self.new
+        ensures reported { reported_of self.new
             ≡ (if is_refused (call_of self.old) path.now then reported_of self.old
             else result_err result) }
     {
@@ -135,7 +135,7 @@ impl<D: Disk + Drop> Disk for RefusingDisk<D> {
             self.failures.refuse(Refusal::of_path(self.fault));
             return Err(self.fault);
         }
-        note(&mut self.told, self.disk.entry_at(path))
+        note(&mut self.reported, self.disk.entry_at(path))
     }
 
     fn named_entry(&mut self, path: &str) -> Result<Entry, DiskFault>
@@ -148,7 +148,7 @@ impl<D: Disk + Drop> Disk for RefusingDisk<D> {
         ensures passed { is_refused (call_of self.old) path.now ≡ false
             → LooksAtNamed (D.state (below_of self.old)) (D.state (below_of self.new)) path.now
             result × (own_of self.new ≡ own_of self.old) }
-        ensures told { reported_of self.new
+        ensures reported { reported_of self.new
             ≡ (if is_refused (call_of self.old) path.now then reported_of self.old
             else result_err result) }
     {
@@ -156,7 +156,7 @@ impl<D: Disk + Drop> Disk for RefusingDisk<D> {
             self.failures.refuse(Refusal::at_known(self.fault));
             return Err(self.fault);
         }
-        note(&mut self.told, self.disk.named_entry(path))
+        note(&mut self.reported, self.disk.named_entry(path))
     }
 
     fn enter(&mut self, folder: &str) -> Result<(), DiskFault>
@@ -168,14 +168,14 @@ impl<D: Disk + Drop> Disk for RefusingDisk<D> {
         ensures passed { is_due (call_of self.old) ≡ false
             → Enters (D.state (below_of self.old)) (D.state (below_of self.new)) folder.now result
             × (own_of self.new ≡ own_of self.old) }
-        ensures told { reported_of self.new
+        ensures reported { reported_of self.new
             ≡ (if is_due (call_of self.old) then reported_of self.old else result_err result) }
     {
         if self.call.is_due() {
             self.failures.refuse(Refusal::at_known(self.fault));
             return Err(self.fault);
         }
-        note(&mut self.told, self.disk.enter(folder))
+        note(&mut self.reported, self.disk.enter(folder))
     }
 
     fn next_name(&mut self) -> Result<Option<Text>, DiskFault>
@@ -187,14 +187,14 @@ impl<D: Disk + Drop> Disk for RefusingDisk<D> {
         ensures passed { is_due (call_of self.old) ≡ false
             → NamesNext (D.state (below_of self.old)) (D.state (below_of self.new)) result
             × (own_of self.new ≡ own_of self.old) }
-        ensures told { reported_of self.new
+        ensures reported { reported_of self.new
             ≡ (if is_due (call_of self.old) then reported_of self.old else result_err result) }
     {
         if self.call.is_due() {
             self.failures.refuse(Refusal::of_name(self.fault));
             return Err(self.fault);
         }
-        note(&mut self.told, self.disk.next_name())
+        note(&mut self.reported, self.disk.next_name())
     }
 
     fn open(&mut self, path: &str) -> Result<(), DiskFault>
@@ -208,7 +208,7 @@ impl<D: Disk + Drop> Disk for RefusingDisk<D> {
         ensures passed { is_due (call_of self.old) ≡ false
             → Opens (D.state (below_of self.old)) (D.state (below_of self.new)) path.now result
             × (own_of self.new ≡ own_of self.old) }
-        ensures told { reported_of self.new
+        ensures reported { reported_of self.new
             ≡ (if is_due (call_of self.old) then reported_of self.old else result_err result) }
     {
         if self.call.is_due() {
@@ -216,7 +216,7 @@ impl<D: Disk + Drop> Disk for RefusingDisk<D> {
             self.failures.refuse(Refusal::of_path(self.fault));
             return Err(self.fault);
         }
-        note(&mut self.told, self.disk.open(path))
+        note(&mut self.reported, self.disk.open(path))
     }
 
     fn is_open(&self) -> bool {
@@ -227,7 +227,7 @@ impl<D: Disk + Drop> Disk for RefusingDisk<D> {
         ensures call { call_of self.new ≡ call_of self.old }
         ensures fault { fault_of self.new ≡ fault_of self.old }
         ensures own { own_of self.new ≡ own_of self.old }
-        ensures told { reported_of self.new ≡ reported_of self.old }
+        ensures reported { reported_of self.new ≡ reported_of self.old }
         ensures closes { ClosesFile (D.state (below_of self.old)) (D.state (below_of self.new)) }
     {
         self.disk.close();
@@ -244,14 +244,14 @@ impl<D: Disk + Drop> Disk for RefusingDisk<D> {
         ensures passed { is_due (call_of self.old) ≡ false
             → Reads (D.state (below_of self.old)) (D.state (below_of self.new)) (length buffer.old)
             buffer.new result × (own_of self.new ≡ own_of self.old) }
-        ensures told { reported_of self.new
+        ensures reported { reported_of self.new
             ≡ (if is_due (call_of self.old) then reported_of self.old else result_err result) }
     {
         if self.call.is_due() {
             self.failures.refuse(Refusal::at_known(self.fault));
             return Err(self.fault);
         }
-        note(&mut self.told, self.disk.read(buffer))
+        note(&mut self.reported, self.disk.read(buffer))
     }
 }
 
@@ -277,14 +277,14 @@ impl<D: WritableDisk + Drop> WritableDisk for RefusingDisk<D> {
             → MakesFolderAt (D.state (below_of self.old)) (D.state (below_of self.new))
             (D.written (below_of self.old)) (D.written (below_of self.new))
             path.now result × (own_of self.new ≡ own_of self.old) }
-        ensures told { reported_of self.new
+        ensures reported { reported_of self.new
             ≡ (if is_due (call_of self.old) then reported_of self.old else result_err result) }
     {
         if self.call.is_due() {
             self.failures.refuse(Refusal::of_making(self.fault));
             return Err(self.fault);
         }
-        note(&mut self.told, self.disk.make_folder(path))
+        note(&mut self.reported, self.disk.make_folder(path))
     }
 
     fn rename(&mut self, from: &str, to: &str) -> Result<(), DiskFault>
@@ -299,14 +299,14 @@ impl<D: WritableDisk + Drop> WritableDisk for RefusingDisk<D> {
             → Renames (D.state (below_of self.old)) (D.state (below_of self.new))
             (D.written (below_of self.old)) (D.written (below_of self.new))
             from.now to.now result × (own_of self.new ≡ own_of self.old) }
-        ensures told { reported_of self.new
+        ensures reported { reported_of self.new
             ≡ (if is_due (call_of self.old) then reported_of self.old else result_err result) }
     {
         if self.call.is_due() {
             self.failures.refuse(Refusal::at_known(self.fault));
             return Err(self.fault);
         }
-        note(&mut self.told, self.disk.rename(from, to))
+        note(&mut self.reported, self.disk.rename(from, to))
     }
 
     fn create(&mut self, path: &str) -> Result<(), DiskFault>
@@ -320,14 +320,14 @@ impl<D: WritableDisk + Drop> WritableDisk for RefusingDisk<D> {
             → Creates (D.state (below_of self.old)) (D.state (below_of self.new))
             (D.written (below_of self.old)) (D.written (below_of self.new))
             path.now result × (own_of self.new ≡ own_of self.old) }
-        ensures told { reported_of self.new
+        ensures reported { reported_of self.new
             ≡ (if is_due (call_of self.old) then reported_of self.old else result_err result) }
     {
         if self.call.is_due() {
             self.failures.refuse(Refusal::of_making(self.fault));
             return Err(self.fault);
         }
-        note(&mut self.told, self.disk.create(path))
+        note(&mut self.reported, self.disk.create(path))
     }
 
     fn write(&mut self, bytes: &[u8]) -> Result<usize, DiskFault>
@@ -341,14 +341,14 @@ impl<D: WritableDisk + Drop> WritableDisk for RefusingDisk<D> {
             → Writes (D.state (below_of self.old)) (D.state (below_of self.new))
             (D.written (below_of self.old)) (D.written (below_of self.new))
             bytes.now result × (own_of self.new ≡ own_of self.old) }
-        ensures told { reported_of self.new
+        ensures reported { reported_of self.new
             ≡ (if is_due (call_of self.old) then reported_of self.old else result_err result) }
     {
         if self.call.is_due() {
             self.failures.refuse(Refusal::at_known(self.fault));
             return Err(self.fault);
         }
-        note(&mut self.told, self.disk.write(bytes))
+        note(&mut self.reported, self.disk.write(bytes))
     }
 
     fn sync(&mut self) -> Result<(), DiskFault>
@@ -362,14 +362,14 @@ impl<D: WritableDisk + Drop> WritableDisk for RefusingDisk<D> {
             → Syncs (D.state (below_of self.old)) (D.state (below_of self.new))
             (D.written (below_of self.old)) (D.written (below_of self.new))
             result × (own_of self.new ≡ own_of self.old) }
-        ensures told { reported_of self.new
+        ensures reported { reported_of self.new
             ≡ (if is_due (call_of self.old) then reported_of self.old else result_err result) }
     {
         if self.call.is_due() {
             self.failures.refuse(Refusal::at_known(self.fault));
             return Err(self.fault);
         }
-        note(&mut self.told, self.disk.sync())
+        note(&mut self.reported, self.disk.sync())
     }
 
     fn sync_folder(&mut self, folder: &str) -> Result<(), DiskFault>
@@ -382,13 +382,13 @@ impl<D: WritableDisk + Drop> WritableDisk for RefusingDisk<D> {
             → SyncsFolder (D.state (below_of self.old)) (D.state (below_of self.new))
             (D.written (below_of self.old)) (D.written (below_of self.new))
             folder.now result × (own_of self.new ≡ own_of self.old) }
-        ensures told { reported_of self.new
+        ensures reported { reported_of self.new
             ≡ (if is_due (call_of self.old) then reported_of self.old else result_err result) }
     {
         if self.call.is_due() {
             self.failures.refuse(Refusal::at_known(self.fault));
             return Err(self.fault);
         }
-        note(&mut self.told, self.disk.sync_folder(folder))
+        note(&mut self.reported, self.disk.sync_folder(folder))
     }
 }

@@ -1,4 +1,4 @@
-use Rattle.bag_arguments.proofs.Common.{◌∙◌, sym, arith, take_all, fold_more, algs, name, Alg, app_of, flag}
+use Rattle.bag_arguments.proofs.Common.{◌∙◌, sym, arith, take_all, fold_more, algs, name, Alg, app_of, flag_rule}
 use Rattle.bag_arguments.proofs.Adding.{added, with_rules-map}
 use Rattle.bag_arguments.proofs.command.with_alg_arguments.Goals as goal
 
@@ -11,5 +11,5 @@ pub returns : goal.returns
 returns c =
     rw (
       take_all c.loop-alg.alg-index algs (omega arith),
-      with_rules-map (λ (alg : Alg). flag (name alg)) (app_of c.args.command) algs,
+      with_rules-map (λ (alg : Alg). flag_rule (name alg)) (app_of c.args.command) algs,
     ) at c.loop-alg.invariant

@@ -1,6 +1,6 @@
 use Rattle.bag_arguments.proofs.Common.{◌≡◌, ◌∙◌, true, refl, ap, map, subst, IfErr-weaker, IfOk-weaker, App, FailsBy}
 use Rattle.bag_arguments.proofs.Common.{fault_of, is_simple, is_simple_and_free, matches_of, takes, command}
-use Rattle.bag_arguments.proofs.Common.{clap_on_literals, refusals, clap_takes, matches}
+use Rattle.bag_arguments.proofs.Common.{clap_on_literals, refusals, clap_takes, matches_of_words}
 use Rattle.bag_arguments.proofs.Limits.{limit_passes}
 use Rattle.bag_arguments.proofs.planning.parse.Goals as goal
 
@@ -9,7 +9,7 @@ unfolding command clap_on_literals
 computed = (refl, refl)
 
 pub returns : goal.returns
-unfolding matches refusals clap_takes
+unfolding matches_of_words refusals clap_takes
 returns c =
     let parse = c.try_get_matches_from in
     let is = c.in_ok-command.ensures in

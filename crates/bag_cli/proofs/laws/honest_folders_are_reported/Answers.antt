@@ -34,4 +34,4 @@ told name algs info quiet old new before after n honest (Err fault) make tells =
 
 pub returns : goal.returns
 returns c name algs info quiet old new before after n honest making =
-    told name algs info quiet old new before after n honest making.made making.make making.tells
+    told name algs info quiet old new before after n honest making.made making.make making.reports

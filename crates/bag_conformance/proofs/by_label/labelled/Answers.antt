@@ -1,6 +1,6 @@
 use Rattle.bag_conformance.proofs.Common.{◌≡◌, ◌≤◌, ◌∙◌, length, take, true, false, ap, sym, subst, rules, of_calls}
 use Rattle.bag_conformance.proofs.Common.{IsPartitionedBy, IsPartitionPoint, always_returns_same}
-use Rattle.bag_conformance.specs.ElementFaults as told
+use Rattle.bag_conformance.specs.ElementFaults as reported
 use Rattle.bag_conformance.proofs.ByLabel.{is_below, has_label, below_first, label_first, run_is}
 use Rattle.bag_conformance.proofs.by_label.labelled.Goals as goal
 
@@ -18,7 +18,7 @@ returns c =
     c.partition_point-count.ensures.partitioned (has_label label)
     (always_returns_same _ _ _ (λ a r f called. search (rules, of_calls)))
     (subst (IsPartitionedBy (has_label label)) (sym rest) (label_first label sorted c.requires i split)) in
-    ap told.lent (c.split_at-2.ensures.front ∙ ap (take k) rest)
+    ap reported.lent (c.split_at-2.ensures.front ∙ ap (take k) rest)
     ∙ run_is label sorted c.requires i split k c.partition_point-before.ensures.bound
     (subst (λ xs. k ≤ length xs) rest c.partition_point-count.ensures.bound)
     (subst (λ xs. IsPartitionPoint (λ e. has_label label e ≡ true) (λ e. has_label label e ≡ false) xs k) rest part)

@@ -1,5 +1,5 @@
 use Rattle.bag_conformance.proofs.Common.{sym, subst, ◌∙◌, IsOfElements}
-use Rattle.bag_conformance.specs.ElementFaults as told
+use Rattle.bag_conformance.specs.ElementFaults as reported
 use Rattle.bag_conformance.proofs.ElementFaults.{labelled_are, elements_are}
 use Rattle.bag_conformance.proofs.FaultSets.{permuted_all}
 use Rattle.bag_conformance.proofs.LabelRule.{AreOf}
@@ -13,7 +13,7 @@ returns c = λ bag of deep.
     let list = labelled_are bag elements (c.elements_of.ensures bag of deep) in
     permuted_all (IsOfElements bag c.args.profile.now) all c.sort_by_key.new.self.items
     c.sort_by_key.ensures.permutation
-    (elements_are bag c.args.profile.now (told.lent sorted)
+    (elements_are bag c.args.profile.now (reported.lent sorted)
     (λ label. subst (AreOf bag label) (sym (c.in_ok-sorted.ensures.labelled label)) (list label)) all
     (c.in_ok-faults.ensures
     ∙ rw (

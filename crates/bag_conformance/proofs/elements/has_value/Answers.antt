@@ -1,10 +1,10 @@
 use Rattle.bag_conformance.proofs.Common.{sym, ◌∙◌, rules, tests, YieldsList-from_slice, any_from_yields_List}
-use Rattle.bag_conformance.specs.ElementFaults as told
+use Rattle.bag_conformance.specs.ElementFaults as reported
 use Rattle.bag_conformance.proofs.ElementFaults.{lent_any}
 use Rattle.bag_conformance.proofs.elements.has_value.Goals as goal
 
 pub returns : goal.returns
 returns c =
-    any_from_yields_List (λ e. told.has_value c.args.value.now e.now) _ _ _ c.any.ensures.ran
+    any_from_yields_List (λ e. reported.has_value c.args.value.now e.now) _ _ _ c.any.ensures.ran
     (YieldsList-from_slice c.args.elements.now c.iter.ensures.rest) (λ x b q k. search (rules, tests))
-    ∙ sym (lent_any (told.has_value c.args.value.now) c.args.elements.now)
+    ∙ sym (lent_any (reported.has_value c.args.value.now) c.args.elements.now)

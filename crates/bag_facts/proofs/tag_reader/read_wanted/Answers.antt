@@ -14,7 +14,7 @@ returns-in-Err-clause-stop g c =
     stop_of_refusal c.args.options c.args.entry.now (state c.args.tree.now) (state c.read_whole.new.tree) c.in-Err.cause
     c.refusal_of.result
     (c.in-Some.name, c.in-Some.ensures.0 ∙ c.as_str.ensures, c.in-Some.ensures.1) c.in-Err.ensures.refused
-    c.in-Err.ensures.wanting (rw c.in-Ok.ensures at c.refusal_of.ensures)
+    c.in-Err.ensures.out_of_memory (rw c.in-Ok.ensures at c.refusal_of.ensures)
 
 pub returns-in-Err-clause-refused : goal.returns-in-Err-clause-refused
 returns-in-Err-clause-refused g c = λ some.

@@ -84,8 +84,8 @@ returns-then-len-entry-clause-no_failure g c =
     nothing_read (state c.args.tree.now) (state c.read.new.self) c.in_ok-count.count
     (c.in_ok-count.ensures.no_failure ∙ c.loop-bytes.invariant.no_failure) c.in_ok-count.ensures.last
 
-pub returns-in_err-extend_from_slice-clause-wanting : goal.returns-in_err-extend_from_slice-clause-wanting
-returns-in_err-extend_from_slice-clause-wanting g c =
+pub returns-in_err-extend_from_slice-clause-out_of_memory : goal.returns-in_err-extend_from_slice-clause-out_of_memory
+returns-in_err-extend_from_slice-clause-out_of_memory g c =
     let state = g.T.Tree.state in
     any_error c.from_residual-in_err-extend_from_slice.result _
     (λ fault is. inr

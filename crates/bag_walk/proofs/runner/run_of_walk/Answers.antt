@@ -20,10 +20,10 @@ returns g c =
     rw c.into_tree.ensures (record {
       keeps = wrote.keeps;
       opens = (todo new.source, wrote.opens);
-      behind = λ bag h sees.
+      none_early = λ bag h sees.
           rw (ap (λ n. min n (limit - 1)) closed.count
           ∙ looked_before (left bag) limit segment.written segment.end (wrote.seen bag h sees).ends)
-          (wrote.behind bag h sees);
+          (wrote.none_early bag h sees);
       seen = λ bag h sees.
           calmly (todo walk.source) (todo new.source) (state walk.tree) (state new.tree) c.args.request.now (left bag)
           IsOf segment _ _ _

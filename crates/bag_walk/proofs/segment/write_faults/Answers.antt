@@ -21,7 +21,7 @@ given-init g c =
       written_so_far = Appends-nil (g.W.Out.state c.args.out.now).taken;
       last = λ rest. refl;
       opens = opens_nothing state (g.S.Source.todo c.args.walk.now.source);
-      behind = λ bag h sees. none_opened state _;
+      none_early = λ bag h sees. none_opened state _;
       seen = λ bag h sees. (h, refl);
     }
 
@@ -49,7 +49,7 @@ given-preserved g c =
           λ rest. last_given has.given rest f c.given.written _ _ has.count_is
           (c.fill.ensures.fault, c.turn.ensures ∙ c.in-Ok-fill.ensures.next);
       opens = opens_on has.opens c.in-Ok.ensures.opens;
-      behind = rw one_back (behind_now has (once c.in-Ok.ensures.opens) c.step.ensures.behind);
+      none_early = rw one_back (behind_now has (once c.in-Ok.ensures.opens) c.step.ensures.none_early);
       seen = λ bag h sees.
           let next = seen_now has _ c.in-Ok.ensures.next bag h sees in
           let rest =
@@ -71,14 +71,14 @@ returns-in-Err g c =
       keeps = keeps_on _ _ _ has.keeps c.step.ensures.keeps;
       no_failure = λ read. absurd read;
       opens = again_on has.opens stop.again;
-      behind = behind_now has stop.again c.step.ensures.behind;
+      none_early = behind_now has stop.again c.step.ensures.none_early;
       waits = waits_now has c.in-Err.stop.path stop.waits;
       seen = λ bag h sees. rw (left_is has bag h sees) (ends_unread has _ c.in-Err.stop c.given-test.true);
       last = λ bag h sees. last_is has bag h sees _ refl;
       unseen = (_, ends_unread has [] c.in-Err.stop c.given-test.true);
       stop =
           stops_now has (g.T.Tree.state new.tree) (g.S.Source.todo new.source) c.in-Err.stop stop.reached
-          stop.anyway.wanting stop.stop;
+          stop.anyway.out_of_memory stop.stop;
     }
 
 pub returns-in_default-clause-no_failure : goal.returns-in_default-clause-no_failure
@@ -88,8 +88,9 @@ returns-in_default-clause-no_failure g c = λ read.
 pub returns-in_default-clause-opens : goal.returns-in_default-clause-opens
 returns-in_default-clause-opens g c = again_on c.given.invariant.opens (once c.in-Ok.ensures.opens)
 
-pub returns-in_default-clause-behind : goal.returns-in_default-clause-behind
-returns-in_default-clause-behind g c = behind_now c.given.invariant (once c.in-Ok.ensures.opens) c.step.ensures.behind
+pub returns-in_default-clause-none_early : goal.returns-in_default-clause-none_early
+returns-in_default-clause-none_early g c =
+    behind_now c.given.invariant (once c.in-Ok.ensures.opens) c.step.ensures.none_early
 
 pub returns-in_default-clause-seen : goal.returns-in_default-clause-seen
 returns-in_default-clause-seen g c = λ bag h sees.
@@ -110,7 +111,7 @@ returns-in_default-fill g c =
       keeps = keeps_on _ _ _ has.keeps c.step.ensures.keeps;
       no_failure = λ read. absurd read;
       opens = again_on has.opens (once c.in-Ok.ensures.opens);
-      behind = behind_now has (once c.in-Ok.ensures.opens) c.step.ensures.behind;
+      none_early = behind_now has (once c.in-Ok.ensures.opens) c.step.ensures.none_early;
       waits = λ bag h sees some. absurd (some c.out_of_memory.ensures.1);
       seen = λ bag h sees. rw (left_is has bag h sees) (ends_unread has _ c.out_of_memory.result c.given-test.true);
       last = λ bag h sees. last_is has bag h sees _ c.fill.ensures.last;
@@ -129,7 +130,7 @@ returns-in-Err-put_all g c =
       keeps = keeps_on _ _ _ has.keeps c.step.ensures.keeps;
       no_failure = λ read. nothing_then _ _ _ has.no_failure c.in-Ok.ensures.no_failure;
       opens = again_on has.opens (once c.in-Ok.ensures.opens);
-      behind = behind_now has (once c.in-Ok.ensures.opens) c.step.ensures.behind;
+      none_early = behind_now has (once c.in-Ok.ensures.opens) c.step.ensures.none_early;
       waits = tt;
       seen = λ bag h sees.
           let next = seen_now has _ c.in-Ok.ensures.next bag h sees in

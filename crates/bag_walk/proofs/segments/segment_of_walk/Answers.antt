@@ -17,8 +17,9 @@ returns-clause-stop g c =
     (IsTrue (state walk.tree).honest → g.S.Source.is_of (state walk.tree).bag walk.source)
     c.write_faults-segment.result.end c.write_faults-segment.ensures.stop)
 
-pub returns-clause-behind : goal.returns-clause-behind
-returns-clause-behind g c = λ bag h sees. rw c.into_tree.ensures (c.write_faults-segment.ensures.behind bag h sees)
+pub returns-clause-none_early : goal.returns-clause-none_early
+returns-clause-none_early g c = λ bag h sees.
+    rw c.into_tree.ensures (c.write_faults-segment.ensures.none_early bag h sees)
 
 pub returns-clause-no_failure : goal.returns-clause-no_failure
 returns-clause-no_failure g c = rw c.into_tree.ensures c.write_faults-segment.ensures.no_failure

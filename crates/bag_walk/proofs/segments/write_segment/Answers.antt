@@ -26,7 +26,7 @@ returns-in-Ok-start-clause-opens g c = λ honest report is n within was listed a
     let then = c.segment_of_walk in
     opens_behind (g.T.Tree.state then.result.0) begun.started.started begun.keeps honest report is n within
     (c.in-Ok.ensures _ was) begun.opens _
-    then.ensures.opens.1 then.result.1 then.ensures.behind listed are
+    then.ensures.opens.1 then.result.1 then.ensures.none_early listed are
 
 pub returns-in-Err-clause-stop : goal.returns-in-Err-clause-stop
 returns-in-Err-clause-stop g c = let state = g.T.Tree.state

@@ -4,8 +4,8 @@ use Rattle.bag_walk.proofs.Summing.{behind_all, behind_here, found_here, files_b
 use Rattle.bag_walk.proofs.Summing.{reached_here, stop_here, waits_here}
 use Rattle.bag_walk.proofs.validity.next_faults.Goals as goal
 
-pub returns-in-Err-clause-behind : goal.returns-in-Err-clause-behind
-returns-in-Err-clause-behind g c = behind_here c.in-Some.ensures c.loop-file.invariant
+pub returns-in-Err-clause-none_early : goal.returns-in-Err-clause-none_early
+returns-in-Err-clause-none_early g c = behind_here c.in-Some.ensures c.loop-file.invariant
     (g.T.Tree.state c.faults_of_file.new.tree) c.in-Err.ensures.opens
 
 pub returns-in-Err-clause-files : goal.returns-in-Err-clause-files
@@ -33,8 +33,8 @@ pub returns-then-not-is_empty-clause-no_failure : goal.returns-then-not-is_empty
 returns-then-not-is_empty-clause-no_failure g c = nothing_then _ _ _ c.loop-file.invariant.no_failure
     c.in-Ok.ensures.no_failure
 
-pub returns-then-not-is_empty-clause-behind : goal.returns-then-not-is_empty-clause-behind
-returns-then-not-is_empty-clause-behind g c =
+pub returns-then-not-is_empty-clause-none_early : goal.returns-then-not-is_empty-clause-none_early
+returns-then-not-is_empty-clause-none_early g c =
     behind_here c.in-Some.ensures c.loop-file.invariant (g.T.Tree.state c.faults_of_file.new.tree)
     (inr c.in-Ok.ensures.opened)
 
@@ -60,8 +60,8 @@ pub returns-clause-files : goal.returns-clause-files
 returns-clause-files g c = λ bag files.
     let gone = c.loop-file.invariant in files_behind bag _ gone.passed _ gone.cut files
 
-pub returns-clause-behind : goal.returns-clause-behind
-returns-clause-behind g c = λ bag sees files.
+pub returns-clause-none_early : goal.returns-clause-none_early
+returns-clause-none_early g c = λ bag sees files.
     behind_all (none_is c.loop-file.pending (sym c.first.ensures ∙ ap option_copied c.in_default.is))
     c.loop-file.invariant bag sees
 

@@ -1,4 +1,4 @@
-use Rattle.bag_text.proofs.Common.{rank_cmp, algs, flag}
+use Rattle.bag_text.proofs.Common.{rank_cmp, algs, flag_of}
 use Rattle.std.proofs.lemmas.List.Kept.{IsStrictlySortedBy-filter}
 use Rattle.bag_text.proofs.AlgSets.{list_ascends, member_more, no_member_more}
 use Rattle.bag_text.proofs.alg_set.AlgSet.members.Goals as goal
@@ -6,20 +6,20 @@ use Rattle.bag_text.proofs.alg_set.AlgSet.members.Goals.{then-flags-flag_index+i
 
 pub returns-in_err-members-clause-ascend : goal.returns-in_err-members-clause-ascend
 returns-in_err-members-clause-ascend c = rw (← c.self.view_is)
-    (IsStrictlySortedBy-filter rank_cmp (flag c.self.inside) algs list_ascends)
+    (IsStrictlySortedBy-filter rank_cmp (flag_of c.self.inside) algs list_ascends)
 
 pub returns-in_err-push-clause-ascend : goal.returns-in_err-push-clause-ascend
 returns-in_err-push-clause-ascend c = rw (← c.self.view_is)
-    (IsStrictlySortedBy-filter rank_cmp (flag c.self.inside) algs list_ascends)
+    (IsStrictlySortedBy-filter rank_cmp (flag_of c.self.inside) algs list_ascends)
 
 pub returns-clause-ascend : goal.returns-clause-ascend
 returns-clause-ascend c = rw (← c.self.view_is)
-    (IsStrictlySortedBy-filter rank_cmp (flag c.self.inside) algs list_ascends)
+    (IsStrictlySortedBy-filter rank_cmp (flag_of c.self.inside) algs list_ascends)
 
 pub loop-alg-preserved : goal.loop-alg-preserved
 loop-alg-preserved c =
     let set = c.args.self in
-    let p = flag c.self.inside in
+    let p = flag_of c.self.inside in
     let i = c.loop-alg.alg-index in
     elim c.if-flags-flag_index.branch [
       | then-flags-flag_index+in_ok-push w ↦ rw w.members-is

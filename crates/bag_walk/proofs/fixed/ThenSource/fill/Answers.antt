@@ -6,9 +6,9 @@ use Rattle.bag_walk.proofs.Filling.{reached_front, reached_on, sees_later, sees_
 use Rattle.bag_walk.proofs.Filling.{stop_later, waits_first}
 use Rattle.bag_walk.proofs.fixed.ThenSource.fill.Goals as goal
 
-pub returns-then-not-self-clause-behind : goal.returns-then-not-self-clause-behind
-returns-then-not-self-clause-behind g c = rw c.if-not-self.true (λ ordered bag h sees.
-    c.fill.ensures.behind ordered.1 bag h.1 sees)
+pub returns-then-not-self-clause-none_early : goal.returns-then-not-self-clause-none_early
+returns-then-not-self-clause-none_early g c = rw c.if-not-self.true (λ ordered bag h sees.
+    c.fill.ensures.none_early ordered.1 bag h.1 sees)
 
 pub returns-then-not-self-clause-reached : goal.returns-then-not-self-clause-reached
 returns-then-not-self-clause-reached g c = rw c.if-not-self.true
@@ -30,14 +30,14 @@ returns-in-Err-clause-same g c = rw c.if-not-self.false (λ bag h sees.
     (c.fill-2.ensures.same bag h.0.0 seen) h.0.1 h.0.2 h.1 (λ ordered.
     let again = c.in-Err.ensures.again ordered in (again.passed, again.left)))
 
-pub returns-in-Err-clause-behind : goal.returns-in-Err-clause-behind
-returns-in-Err-clause-behind g c = rw c.if-not-self.false (λ ordered bag h sees.
+pub returns-in-Err-clause-none_early : goal.returns-in-Err-clause-none_early
+returns-in-Err-clause-none_early g c = rw c.if-not-self.false (λ ordered bag h sees.
     let state = g.T.Tree.state in
     let xs = g.A.Source.todo c.args.self.now.first in
     let seen = (sees_parts (state c.args.tree.now) xs (g.B.Source.todo c.args.self.now.second) bag sees).0 in
     behind_first _ _ (state c.args.tree.now) (state c.fill-2.new.tree) xs (h.0.2 ordered.0)
     (c.in-Err.ensures.again ordered.0)
-    (c.fill-2.ensures.behind ordered.0 bag h.0.0 seen))
+    (c.fill-2.ensures.none_early ordered.0 bag h.0.0 seen))
 
 pub returns-in-Err-clause-stop : goal.returns-in-Err-clause-stop
 returns-in-Err-clause-stop g c =
@@ -90,14 +90,14 @@ returns-then-is_some-clause-first g c = rw c.if-not-self.false (λ bag h sees.
     (some_shown c.peek.result c.peek.ensures c.is_some.ensures c.if-is_some.true)
     (c.in-Ok.ensures.first bag h.0.0 seen))
 
-pub returns-then-is_some-clause-behind : goal.returns-then-is_some-clause-behind
-returns-then-is_some-clause-behind g c = rw c.if-not-self.false (λ ordered bag h sees.
+pub returns-then-is_some-clause-none_early : goal.returns-then-is_some-clause-none_early
+returns-then-is_some-clause-none_early g c = rw c.if-not-self.false (λ ordered bag h sees.
     let state = g.T.Tree.state in
     let xs = g.A.Source.todo c.args.self.now.first in
     let seen = (sees_parts (state c.args.tree.now) xs (g.B.Source.todo c.args.self.now.second) bag sees).0 in
     behind_first _ _ (state c.args.tree.now) (state c.fill-2.new.tree) xs (h.0.2 ordered.0)
     (once (c.in-Ok.ensures.opens ordered.0))
-    (c.fill-2.ensures.behind ordered.0 bag h.0.0 seen))
+    (c.fill-2.ensures.none_early ordered.0 bag h.0.0 seen))
 
 pub returns : goal.returns
 returns g c = rw c.if-not-self.false (
@@ -142,13 +142,13 @@ returns g c = rw c.if-not-self.false (
           let b = other.same bag h.1 (later bag sees) in
           ((tt, b.0), rw (empty bag h.0.0 sees) b.1);
       first = on_ok_weaker result (λ found bag h sees. found bag h.1 (later bag sees)) other.first;
-      behind = λ ordered bag h sees.
+      none_early = λ ordered bag h sees.
           rw (empty bag h.0.0 sees)
           (behind_on (g.B.Source.remaining bag second) (g.B.Source.remaining bag second) (once (all ordered.0))
           (opened_by result (on_ok_weaker result (λ opens. opens ordered.1) other.opens)
           (on_err_weaker result (λ again. again ordered.1) other.again))
           (λ opened e f path c d. h.0.2 ordered.0 f path c (again_within (once (opens ordered.0)) opened e path d))
-          (other.behind ordered.1 bag h.1 (later bag sees)) (λ f c. c));
+          (other.none_early ordered.1 bag h.1 (later bag sees)) (λ f c. c));
       stop = IfErr-weaker result _ _
           (λ stop stops of. stop_later keeps one.no_failure
           (stops (λ honest. subst (λ bag. g.B.Source.is_of bag second) (sym keeps.bag)

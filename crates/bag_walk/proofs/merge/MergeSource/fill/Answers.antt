@@ -15,8 +15,8 @@ returns-in-Err-clause-same g c = λ bag h sees.
     let a = c.fill_unless.ensures.same bag h.0 seen.0 in
     ((a.0, h.1, tt, tt), (λ i. union (a.1 i) (g.B.Source.remaining bag self.second)))
 
-pub returns-in-Err-clause-behind : goal.returns-in-Err-clause-behind
-returns-in-Err-clause-behind g c = λ quiet bag h sees.
+pub returns-in-Err-clause-none_early : goal.returns-in-Err-clause-none_early
+returns-in-Err-clause-none_early g c = λ quiet bag h sees.
     nothing_opened _ (g.T.Tree.state c.args.tree.now) (g.T.Tree.state c.fill_unless.new.tree)
     (c.fill_unless.ensures.quiet quiet.0 (quiet.2 c.args.self.now.first))
 
@@ -66,8 +66,8 @@ returns-in-Ok-fill-clause-first g c = λ bag h sees.
     (g.met.A.Source.ascends bag c.fill_unless.new.source (c.fill_unless.ensures.same bag h.0 seen.0).0)
     (g.met.B.Source.ascends bag c.fill.new.self (c.fill.ensures.same bag h.1 seen.1).0))
 
-pub returns-in-Ok-fill-clause-behind : goal.returns-in-Ok-fill-clause-behind
-returns-in-Ok-fill-clause-behind g c = λ quiet bag h sees.
+pub returns-in-Ok-fill-clause-none_early : goal.returns-in-Ok-fill-clause-none_early
+returns-in-Ok-fill-clause-none_early g c = λ quiet bag h sees.
     let self = c.args.self.now in
     nothing_opened _ (g.T.Tree.state c.args.tree.now) (g.T.Tree.state c.fill.new.tree)
     (quiet_again (quiet.3 self.second) (once (c.in-Ok-fill.ensures.opens quiet.1))
@@ -88,8 +88,8 @@ returns-in-Err-fill-clause-same g c = λ bag h sees.
       (λ i. union (a.1 i) (b.1 i)),
     )
 
-pub returns-in-Err-fill-clause-behind : goal.returns-in-Err-fill-clause-behind
-returns-in-Err-fill-clause-behind g c = λ quiet bag h sees.
+pub returns-in-Err-fill-clause-none_early : goal.returns-in-Err-fill-clause-none_early
+returns-in-Err-fill-clause-none_early g c = λ quiet bag h sees.
     let self = c.args.self.now in
     nothing_opened _ (g.T.Tree.state c.args.tree.now) (g.T.Tree.state c.fill.new.tree)
     (quiet_again (quiet.3 self.second) (c.in-Err-fill.ensures.again quiet.1)

@@ -28,7 +28,7 @@ returns g c =
       waits = λ bag files h.
           wait_on files (todo old.source) (todo new.source) (before bag)
           (state old.tree) (state new.tree) result
-          (step.behind bag h.0 h.1) step.opens step.again;
+          (step.none_early bag h.0 h.1) step.opens step.again;
       stop = step.stop;
       anyway = step.anyway;
     }

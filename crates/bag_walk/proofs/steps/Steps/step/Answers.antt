@@ -1,18 +1,18 @@
 use Rattle.bag_walk.proofs.Common.{arith}
 use Rattle.bag_walk.proofs.steps.Steps.step.Goals as goal
 
-pub returns-in-Ok-clause-behind : goal.returns-in-Ok-clause-behind
-returns-in-Ok-clause-behind g c = λ bag h sees.
+pub returns-in-Ok-clause-none_early : goal.returns-in-Ok-clause-none_early
+returns-in-Ok-clause-none_early g c = λ bag h sees.
     let left = c.leave.ensures.left bag h in
     rw (c.leave.ensures.tree, left.1) at
-    (c.fill.ensures.behind g.met.S.InOrder.is_in_order bag left.0
+    (c.fill.ensures.none_early g.met.S.InOrder.is_in_order bag left.0
     (rw (c.leave.ensures.tree, c.leave.ensures.todo) sees))
 
-pub returns-in-Err-clause-behind : goal.returns-in-Err-clause-behind
-returns-in-Err-clause-behind g c = λ bag h sees.
+pub returns-in-Err-clause-none_early : goal.returns-in-Err-clause-none_early
+returns-in-Err-clause-none_early g c = λ bag h sees.
     let left = c.leave.ensures.left bag h in
     rw (c.leave.ensures.tree, left.1) at
-    (c.fill.ensures.behind g.met.S.InOrder.is_in_order bag left.0
+    (c.fill.ensures.none_early g.met.S.InOrder.is_in_order bag left.0
     (rw (c.leave.ensures.tree, c.leave.ensures.todo) sees))
 
 pub returns-in-Ok-clause-opens : goal.returns-in-Ok-clause-opens

@@ -11,10 +11,10 @@ returns-in-Ok-clause-same g c = λ bag h sees.
     (c.is_empty.ensures.0 c.if-not-is_empty.false)
     (ap (λ l. l ++ faults_of_files bag self.after new) c.new.ensures ∙ e)
 
-pub returns-in-Ok-clause-behind : goal.returns-in-Ok-clause-behind
-returns-in-Ok-clause-behind g c = λ ordered bag h sees.
+pub returns-in-Ok-clause-none_early : goal.returns-in-Ok-clause-none_early
+returns-in-Ok-clause-none_early g c = λ ordered bag h sees.
     rw (c.is_empty.ensures.0 c.if-not-is_empty.false)
-    (rw c.as_ref.ensures.value at (c.next_faults.ensures.behind bag sees h.files))
+    (rw c.as_ref.ensures.value at (c.next_faults.ensures.none_early bag sees h.files))
 
 pub returns-in-Err-clause-same : goal.returns-in-Err-clause-same
 returns-in-Err-clause-same g c = λ bag h sees.
@@ -22,10 +22,10 @@ returns-in-Err-clause-same g c = λ bag h sees.
     refused bag self.after self.pending c.next_faults.new.pending self.found h (c.next_faults.ensures.files bag h.files)
     (rw c.as_ref.ensures.value at (c.in-Err.ensures.same bag sees))
 
-pub returns-in-Err-clause-behind : goal.returns-in-Err-clause-behind
-returns-in-Err-clause-behind g c = λ ordered bag h sees.
+pub returns-in-Err-clause-none_early : goal.returns-in-Err-clause-none_early
+returns-in-Err-clause-none_early g c = λ ordered bag h sees.
     rw (c.is_empty.ensures.0 c.if-not-is_empty.false)
-    (rw c.as_ref.ensures.value at (c.next_faults.ensures.behind bag sees h.files))
+    (rw c.as_ref.ensures.value at (c.next_faults.ensures.none_early bag sees h.files))
 
 pub returns-in-Err-clause-reached : goal.returns-in-Err-clause-reached
 returns-in-Err-clause-reached g c = λ ordered. c.in-Err.ensures.reached
