@@ -7,7 +7,8 @@ use Rattle.bag_read.proofs.Common.{without_prefix, Alg, ManifestEscape, Manifest
 use Rattle.bag_read.proofs.Common.{TagmanifestNamesTagmanifest, Rules, checked_digest, digest_of, named_path}
 use Rattle.bag_read.proofs.Common.{spelled_path, without_marks, is_manifest_name, Reason, decoded_or, ◌>>=◌, Kind}
 use Rattle.bag_read.proofs.Common.{Payload, Tag, manifest_line}
-use Rattle.bag_read.specs.ManifestLine.{IsSpelling, MayName, IsManifestLine, LinesReadAsTheirParts, OnlyReadsManifest}
+use Rattle.bag_read.specs.ManifestLine.{IsSpelling, MayName, IsManifestLine, ManifestLinesReadAsTheirParts}
+use Rattle.bag_read.specs.ManifestLine.{OnlyReadsManifest}
 use Rattle.bag_read.specs.ManifestLine.{HasOnlyManifestReason}
 use Rattle.bag_read.proofs.LineParts.{or_false, not_false, not_empty, empty_test, is_cut, cut_part, cut_rest, not_blank}
 use Rattle.bag_read.proofs.LineParts.{begins_some, is_without, without_alone}
@@ -112,7 +113,7 @@ module _ (rules : Rules) (kind : Kind) (alg : Alg) (line digest path : List ℕ)
       ∙ ap (λ p. p >>= λ path. named_path kind path >>= λ named. Ok (digest, named)) third
       ∙ ap (λ n. n >>= λ named. Ok (digest, named)) (safe_named kind path r.is_safe r.may_name)
 
-pub lines_read : LinesReadAsTheirParts
+pub lines_read : ManifestLinesReadAsTheirParts
 lines_read rules kind alg line digest path = (
   λ reads. line_parts rules kind alg line digest path reads.1,
   λ r. (not_blank line r.hex r.rest r.parts, parts_line rules kind alg line digest path r),

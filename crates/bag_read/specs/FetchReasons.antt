@@ -15,8 +15,8 @@ use Rattle.bag_read.specs.Reason.{Reason, IsFirst}
 -- a URL, blanks, a length, blanks, and the path as it is written
 abbrev pub HasParts : List ℕ → List ℕ → Type 0
 HasParts line written =
-    (url behind size : List ℕ) × IsCutAtBlanks line url behind × IsCutAtBlanks behind size written
-    × IsLength size
+    (url after_url size : List ℕ) × IsCutAtBlanks line url after_url
+    × IsCutAtBlanks after_url size written × IsLength size
 
 -- the path is spelled so
 abbrev pub IsFetchSpelled : List ℕ → List ℕ → Type 0

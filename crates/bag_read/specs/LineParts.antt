@@ -33,5 +33,5 @@ AreDigits t = (t ≢ []) × IsTrue (list_all is_ascii_digit t)
 
 -- the text after a mark, or the text itself where the mark doesn't stand in front of it
 abbrev pub IsWithout : List ℕ → List ℕ → List ℕ → Type 0
-IsWithout mark text behind = (text ≡ mark ++ behind)
-    ⊎ ((behind ≡ text) × ((more : List ℕ) → text ≢ mark ++ more))
+IsWithout mark text after = (text ≡ mark ++ after)
+    ⊎ ((after ≡ text) × ((more : List ℕ) → text ≢ mark ++ more))

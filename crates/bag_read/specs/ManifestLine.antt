@@ -47,8 +47,8 @@ pub record IsManifestLine (rules : Rules) (kind : Kind) (alg : Alg)
   pub may_name : MayName kind path
 
 -- the law: a line reads just as it is made of these
-abbrev pub LinesReadAsTheirParts : Type 0
-LinesReadAsTheirParts = (rules : Rules) (kind : Kind) (alg : Alg) (line digest path : List ℕ)
+abbrev pub ManifestLinesReadAsTheirParts : Type 0
+ManifestLinesReadAsTheirParts = (rules : Rules) (kind : Kind) (alg : Alg) (line digest path : List ℕ)
     → ReadsManifest rules kind alg line digest path ↔ IsManifestLine rules kind alg line digest path
 
 abbrev pub OnlyReadsManifest : Rules → Kind → Alg → List ℕ → Type 0
@@ -64,7 +64,7 @@ HasOnlyManifestReason rules kind alg line =
     × ((digest path : List ℕ) → ¬ (IsManifestLine rules kind alg line digest path))
 
 -- the law: a line that isn't blank reads in one way, or has one reason why it doesn't
-abbrev pub LinesReadOrHaveOneReason : Type 0
-LinesReadOrHaveOneReason = (rules : Rules) (kind : Kind) (alg : Alg) (line : List ℕ)
+abbrev pub ManifestLinesReadOrHaveOneReason : Type 0
+ManifestLinesReadOrHaveOneReason = (rules : Rules) (kind : Kind) (alg : Alg) (line : List ℕ)
     → is_blank_line line ≡ false
     → OnlyReadsManifest rules kind alg line ⊎ HasOnlyManifestReason rules kind alg line

@@ -67,8 +67,8 @@ manifest_reasons =
     ∷ TagmanifestNamesTagmanifest ∷ []
 
 -- the law: the reason of a line holds, and none of those before it does
-abbrev pub FirstReasonIsReported : Type 0
-FirstReasonIsReported =
+abbrev pub FirstManifestReasonIsReported : Type 0
+FirstManifestReasonIsReported =
     (rules : Rules) (kind : Kind) (alg : Alg) (line : List ℕ) (reason : Reason)
     → HasManifestReason rules kind alg line reason
     → IsFirst (λ code detail. ManifestReasonHolds code rules kind alg line detail) manifest_reasons

@@ -1,6 +1,7 @@
 //! Laws of the definitions, each the contract of a function that does nothing.
-ghost use Rattle.bag_read.specs.ManifestLine.{LinesReadAsTheirParts, LinesReadOrHaveOneReason};
-ghost use Rattle.bag_read.specs.ManifestReasons.{FirstReasonIsReported};
+ghost use Rattle.bag_read.specs.ManifestLine.{ManifestLinesReadAsTheirParts};
+ghost use Rattle.bag_read.specs.ManifestLine.{ManifestLinesReadOrHaveOneReason};
+ghost use Rattle.bag_read.specs.ManifestReasons.{FirstManifestReasonIsReported};
 ghost use Rattle.bag_read.specs.TagName.{TagFilesStandInTheBase, TagPathsDiffer};
 ghost use Rattle.bag_read.specs.FetchLine.{FetchLinesReadAsTheirParts};
 ghost use Rattle.bag_read.specs.FetchLine.{FetchLinesReadOrHaveOneReason};
@@ -23,21 +24,26 @@ pub fn tag_files_stand_in_the_base()
     ensures { TagFilesStandInTheBase }
 {}
 
-/// A line of a manifest reads just where it is a digest of the algorithm, blanks, and a spelling of
-/// a path that may stand there; and it says that digest, in lower case, and that path.
-pub fn lines_read_as_their_parts()
-    ensures { LinesReadAsTheirParts }
+/// A line of a manifest reads just where it is of these parts: hex digits of either case, as many as
+/// a digest of the algorithm has; blanks; and the spelling of a path, in front of which one `*` and
+/// then one `./` may stand. It says that digest, in lower case, and that path.
+///
+/// The path is one that a manifest of this kind may name: a payload manifest those below `data/`, a
+/// tag manifest others, but no tag manifest. This is said of each line by itself; whether its path
+/// was named before is asked of the whole file.
+pub fn manifest_lines_read_as_their_parts()
+    ensures { ManifestLinesReadAsTheirParts }
 {}
 
 /// A line of a manifest that isn't blank reads in one way, or has one reason why it doesn't.
-pub fn lines_read_or_have_one_reason()
-    ensures { LinesReadOrHaveOneReason }
+pub fn manifest_lines_read_or_have_one_reason()
+    ensures { ManifestLinesReadOrHaveOneReason }
 {}
 
 /// The reason why a line of a manifest doesn't read holds of it, and none of those that stand
 /// before it in their order.
-pub fn first_reason_is_reported()
-    ensures { FirstReasonIsReported }
+pub fn first_manifest_reason_is_reported()
+    ensures { FirstManifestReasonIsReported }
 {}
 
 /// A line of `bag-info.txt` that isn't blank is the first line of an element, or goes on with one,

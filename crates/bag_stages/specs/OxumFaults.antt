@@ -41,7 +41,7 @@ module _ (path : List ℕ) where
 
     abbrev pub reported_faults : Element → Option Oxum → List Fault
     reported_faults e None = of_element OxumMalformed e e.value ∷ []
-    reported_faults e (Some told) = if same_oxum told found then [] else differs e ∷ []
+    reported_faults e (Some given) = if same_oxum given found then [] else differs e ∷ []
 
     -- the first one doesn't read, or tells another size
     abbrev pub first_faults : Element → List Fault

@@ -19,7 +19,7 @@ pub fn completeness_faults(alloc: Global, facts: &Facts) -> Result<Vec<Fault>, A
         AreFaultsOf facts.now (IsSoughtInStageSix facts.now.options.clashes) faults.items) }
 {
     let mut faults = faults_of_files(alloc, facts)?;
-    let mut of_names = clashes_asked(alloc, facts)?;
+    let mut of_names = clashes_if_set(alloc, facts)?;
     faults.append(&mut of_names)?;
     faults.sort_unstable();
     Ok(faults)
@@ -40,7 +40,7 @@ fn faults_of_files(alloc: Global, facts: &Facts) -> Result<Vec<Fault>, AllocErro
 
 /// The clashes of names where the options ask for them, and else none, in the order of their paths.
 /// The facts are read for more than the declaration. Fails only where memory runs out.
-pub fn clashes_asked(alloc: Global, facts: &Facts) -> Result<Vec<Fault>, AllocError>
+pub fn clashes_if_set(alloc: Global, facts: &Facts) -> Result<Vec<Fault>, AllocError>
     ensures { IfOk result (λ faults.
         AreFaultsOf facts.now (IsSoughtClash facts.now.options.clashes) faults.items) }
 {

@@ -42,7 +42,7 @@ mod seek;
 mod sum_faults;
 mod tag_file;
 
-pub use completeness::{clashes_asked, completeness_faults};
+pub use completeness::{clashes_if_set, completeness_faults};
 pub use declaration::declaration_faults;
 pub use expected::{Expected, expected_of};
 pub use fetch::fetch_faults;

@@ -17,7 +17,7 @@ use crate::fixed::{above, merged};
 use crate::{Fixed, InOrder, Quiet, Source};
 use bag_facts::{Facts, Fault};
 use bag_read::Kind;
-use bag_stages::{clashes_asked, is_exact, left_out_by_all, left_out_by_one, missing_of};
+use bag_stages::{clashes_if_set, is_exact, left_out_by_all, left_out_by_one, missing_of};
 use bag_text::Alg;
 use bag_tree::{Stop, Tree};
 use std::alloc::{AllocError, Global};
@@ -74,7 +74,7 @@ fn sought(alloc: Global, facts: &Facts, after: Option<&Fault>) -> Result<Vec<Fau
         (IsSoughtInStageSix facts.now.options.clashes bag) faults.items)) }
 {
     let of_files = of_files(alloc, facts, after)?;
-    let of_names = above(clashes_asked(alloc, facts)?, after);
+    let of_names = above(clashes_if_set(alloc, facts)?, after);
     merged(alloc, of_files, of_names)
 }
 

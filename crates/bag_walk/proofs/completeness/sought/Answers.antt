@@ -9,7 +9,7 @@ returns c = IfOk-weaker c.merged.result _ _
     let after = option_copied c.args.after in
     let clashes = c.args.facts.now.options.clashes in
     let files = c.in_ok-of_files.ensures bag facts deep in
-    let names = cut_above after (IsSoughtClash clashes bag) _ (c.in_ok-clashes_asked.ensures bag facts deep) in
+    let names = cut_above after (IsSoughtClash clashes bag) _ (c.in_ok-clashes_if_set.ensures bag facts deep) in
     rw (is files.ascending (rw c.above-of_names.ensures names.ascending), c.above-of_names.ensures)
     (all_sought after bag clashes _ _ files names))
     c.merged.ensures

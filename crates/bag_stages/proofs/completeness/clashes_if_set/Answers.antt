@@ -1,5 +1,5 @@
 use Rattle.bag_stages.proofs.Common.{◌≡◌, false, true, sym, ◌∙◌, IfOk-weaker, fault_cmp, nothing_listed, same_members}
-use Rattle.bag_stages.proofs.completeness.clashes_asked.Goals as goal
+use Rattle.bag_stages.proofs.completeness.clashes_if_set.Goals as goal
 
 pub returns-then-is_asked : goal.returns-then-is_asked
 returns-then-is_asked c = IfOk-weaker c.clash_faults.result _ _

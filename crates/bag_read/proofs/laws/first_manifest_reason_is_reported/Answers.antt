@@ -11,7 +11,7 @@ use Rattle.bag_read.proofs.Reason.{err_same, never_ok, clash, is_written, writte
 use Rattle.bag_read.proofs.LineParts.{not_false, not_true, is_fronted, fronted_part, fronted_rest}
 use Rattle.bag_read.proofs.ManifestLineParts.{written_is, written_alone}
 use Rattle.bag_read.proofs.ManifestName.{is_named}
-use Rattle.bag_read.proofs.laws.first_reason_is_reported.Goals as goal
+use Rattle.bag_read.proofs.laws.first_manifest_reason_is_reported.Goals as goal
 
 -- The first reason why a line of a manifest doesn't read.
 
