@@ -2,7 +2,7 @@
 use Rattle.std.specs.Prelude.{◌≡◌, ◌≢◌, ◌⊎◌, ◌<◌, ℕ, List, [], IsTrue}
 use Rattle.bag_tree.specs.Bag.{HasFile}
 use Rattle.bag_tree.specs.NothingFailed.{MayReportMemory}
-use Rattle.bag_tree.specs.Tree.{TreeState, MayRefuse, FailsOver, CameFromFile, most_entries}
+use Rattle.bag_tree.specs.Tree.{TreeState, MayRefuseListing, FailsOver, CameFromFile, most_entries}
 use Rattle.bag_tree.specs.declared.answer.Answer.TheVariants.{Unlisted}
 use Rattle.bag_tree.specs.declared.tree_fault.Stop.{Stop}
 use Rattle.bag_tree.specs.declared.tree_fault.TreeFault.{TreeFault}
@@ -41,7 +41,7 @@ MayRefuseFacts old new Exists = ⊥
 abbrev pub IsOfListing : TreeState → TreeState → Stop → Type 0
 IsOfListing old new stop =
     (stop.path ≡ []) × (new.openings ≡ old.openings) × (new.rest ≡ old.rest)
-    × (new.last ≡ Unlisted stop.cause) × MayRefuse ⊥ ⊥ old new stop.cause
+    × (new.last ≡ Unlisted stop.cause) × MayRefuseListing old new stop.cause
 
 -- a file was refused: one that is wanted, and of an honest tree's bag
 abbrev pub IsRefusedFile : Options → TreeState → Stop → Type 0

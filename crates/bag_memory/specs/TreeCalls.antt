@@ -6,7 +6,7 @@ use Rattle.bag_text.specs.Path.{is_path}
 use Rattle.bag_tree.specs.Bag.{file}
 use Rattle.bag_tree.specs.Listing.{IsOrdered, IsListingOf}
 use Rattle.bag_tree.specs.Tree.{TreeState, Keeps, MayRefuse, HasOpen, IsOpen, ReadsNext}
-use Rattle.bag_tree.specs.Tree.{answer_of_read}
+use Rattle.bag_tree.specs.Tree.{answer_of_read, MayRefuseListing}
 use Rattle.bag_tree.specs.declared.answer.Answer.TheVariants.{Given, Refused, Unlisted}
 use Rattle.bag_tree.specs.declared.tree_fault.TreeFault.{TreeFault}
 use Rattle.bag_tree.specs.declared.listing.Listing.{Listing}
@@ -21,7 +21,7 @@ pub record ListCall (old new : TreeState) (answer : Result Listing TreeFault) : 
   pub plain : OnOk answer (IsTrue old.honest → IsTrue old.plain)
   pub last : MatchResult answer (λ _. new.last ≡ Given) (λ fault. new.last ≡ Unlisted fault)
   pub honest : IfOk answer (λ listing. IsTrue old.honest → IsListingOf old.bag listing)
-  pub refused : IfErr answer (MayRefuse ⊥ ⊥ old new)
+  pub refused : IfErr answer (MayRefuseListing old new)
 
 -- what `open_file` does
 pub record OpenCall (old new : TreeState) (path : List ℕ)

@@ -77,6 +77,11 @@ MayRefuse absent closed old new NoneOpen = closed
 MayRefuse absent closed old new Memory = Unit {0}
 MayRefuse absent closed old new Exists = ⊥
 
+-- A listing may be refused so: by the device, for what stands there or how much, and when out of
+-- memory. It asks for no path, and needs no open file.
+abbrev pub MayRefuseListing : TreeState → TreeState → TreeFault → Type 0
+MayRefuseListing old new = MayRefuse ⊥ ⊥ old new
+
 -- a file is open
 abbrev pub HasOpen : TreeState → Type 0
 HasOpen state = is_some state.rest ≡ true

@@ -5,7 +5,7 @@ ghost use Rattle.bag_text.specs.Path.{is_path};
 ghost use Rattle.bag_tree.specs.Bag.{IsBag, file};
 ghost use Rattle.bag_tree.specs.Listing.{IsOrdered, IsListingOf};
 ghost use Rattle.bag_tree.specs.Tree.{TreeState, Keeps, MayRefuse, HasOpen, IsOpen, ReadsNext};
-ghost use Rattle.bag_tree.specs.Tree.{answer_of_read};
+ghost use Rattle.bag_tree.specs.Tree.{answer_of_read, MayRefuseListing};
 ghost use Rattle.bag_tree.specs.declared.answer.Answer.TheVariants.{Given, Refused, Unlisted};
 
 use crate::{Listing, TreeFault};
@@ -27,9 +27,9 @@ pub trait Tree {
     ///
     /// `Device`, `Special` and `Name` come from the device. Something that is no file and no
     /// folder, or whose name isn't UTF-8, is never passed over by an honest tree. `TooMany` comes,
-    /// of an honest tree, only where there are more than 16,777,216 files and folders. A listing
-    /// opens no file, and leaves the one that is open. Its refusal is reported apart from that of
-    /// any other call.
+    /// of an honest tree, only where there are more than 16,777,216 files and folders, and
+    /// `NotFound` never, since no path is asked for. A listing opens no file, and leaves the one
+    /// that is open. Its refusal is reported apart from that of any other call.
     fn list(&mut self) -> Result<Listing, TreeFault>
         ensures keeps { Keeps (state self.old) (state self.new) }
         ensures no_failure { OnOk result ((state self.new).failures ≡ (state self.old).failures) }
@@ -42,7 +42,7 @@ pub trait Tree {
             (state self.new).last ≡ Unlisted fault) }
         ensures honest { IfOk result (λ listing.
             IsTrue (state self.old).honest → IsListingOf (state self.old).bag listing) }
-        ensures refused { IfErr result (MayRefuse ⊥ ⊥ (state self.old) (state self.new)) };
+        ensures refused { IfErr result (MayRefuseListing (state self.old) (state self.new)) };
 
     /// Opens a file in place of the one that was open. After a refusal nothing is open. A text that
     /// isn't a path is always refused, so that nothing outside the tree is opened.

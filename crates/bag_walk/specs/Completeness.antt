@@ -12,8 +12,9 @@ use Rattle.bag_facts.specs.declared.facts.Facts.{Facts}
 use Rattle.bag_facts.specs.declared.fault.Fault.{Fault}
 use Rattle.bag_stages.specs.CompletenessFaults.{IsMissing, IsWrong}
 use Rattle.bag_stages.specs.CompletenessStage.{IsSoughtInStageSix}
+use Rattle.bag_profile.specs.Profile.{Profile}
 use Rattle.bag_report.specs.Report.{Check, IsReported, is_above}
-use Rattle.bag_walk.specs.FactsOf.{ForBagOf}
+use Rattle.bag_walk.specs.FactsOf.{ForBagOf, ForCheckOf}
 use Rattle.bag_walk.specs.Merge.{union}
 use Rattle.bag_walk.specs.Source.{first_of, rest_of}
 
@@ -43,6 +44,12 @@ AreSought facts after faults = ForBagOf facts (λ bag. reaches facts.options.dep
 abbrev pub IsStageAbove : Check → ℕ → Option Fault → List Fault → Type 0
 IsStageAbove check k after faults =
     AreAbove after (λ f. IsReported check f × (stage f.code ≡ k)) faults
+
+-- of each bag of which these facts were read, and by any profile or none: the part of its report
+-- that is of stage 6 and above a cursor
+abbrev pub AreOfStageSix : Facts → Option Fault → List Fault → Type 0
+AreOfStageSix facts after faults = (profile : Option Profile)
+    → ForCheckOf facts profile (λ check. IsStageAbove check 6 after faults)
 
 -- The least fault of two ascending lists, and what they leave.
 pub record TakesLeast (faults others : List Fault) (least : Option Fault)

@@ -1,16 +1,14 @@
 //! Faults of completeness, and clashes of names.
-ghost use Rattle.std.specs.Prelude.{◌≡◌, ⊤, [], false, Option, IfOk};
+ghost use Rattle.std.specs.Prelude.{◌≡◌, ⊤, [], false, IfOk};
 ghost use Rattle.std.specs.List.Sorted.{IsStrictlySortedBy};
 ghost use Rattle.std.specs.Option.{option_copied};
 ghost use Rattle.bag_facts.specs.FaultOrder.{fault_cmp};
 ghost use Rattle.bag_facts.specs.Facts.{OfBag};
 ghost use Rattle.bag_facts.specs.Options.{reaches};
-ghost use Rattle.bag_profile.specs.Profile.{Profile};
 ghost use Rattle.bag_stages.specs.CompletenessFaults.{IsIncomplete, IsWrong};
 ghost use Rattle.bag_stages.specs.CompletenessStage.{IsSoughtInStageSix};
 ghost use Rattle.bag_walk.specs.Completeness.{AreAbove, AreSought};
-ghost use Rattle.bag_walk.specs.Completeness.{IsOfAlg, IsOfSomeAlg, IsStageAbove};
-ghost use Rattle.bag_walk.specs.FactsOf.{ForCheckOf};
+ghost use Rattle.bag_walk.specs.Completeness.{AreOfStageSix, IsOfAlg, IsOfSomeAlg};
 ghost use Rattle.bag_walk.specs.Source.{first_of};
 
 use crate::fixed::{above, merged};
@@ -30,20 +28,18 @@ pub struct Completeness {
 }
 
 impl Completeness {
-    /// Those of a bag of which these facts were read. There are none where the depth doesn't have
-    /// them. Fails only where memory runs out.
+    /// Those of each bag of which these facts were read: what its report has of stage 6 above the
+    /// cursor, by any profile or by none, since no profile asks for more there. There are none where
+    /// the depth doesn't have the stage. Fails only when out of memory.
     pub fn new(
         alloc: Global,
         facts: &Facts,
         after: Option<&Fault>,
     ) -> Result<Completeness, AllocError>
-        ensures sought { IfOk result (λ source.
-            AreSought facts.now (option_copied after.entry) source.list.faults) }
+        ensures reported { IfOk result (λ source.
+            AreOfStageSix facts.now (option_copied after.entry) source.list.faults) }
         ensures none { IfOk result (λ source.
             reaches facts.now.options.depth 6 ≡ false → source.list.faults ≡ []) }
-        ensures reported { IfOk result (λ source.
-            (profile : Option Profile) → ForCheckOf facts.now profile (λ check.
-            IsStageAbove check 6 (option_copied after.entry) source.list.faults)) }
     {
         let faults = asked(alloc, facts, after)?;
         Ok(Completeness {
