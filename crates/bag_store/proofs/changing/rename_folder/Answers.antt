@@ -20,7 +20,7 @@ returns-in-Err-sync_with_base-clause-asked g c =
 
 pub returns-in-Err-check_free-clause-asked : goal.returns-in-Err-check_free-clause-asked
 returns-in-Err-check_free-clause-asked g c =
-    rename_refused c.args.from.now (g.D.Disk.state c.args.disk.now) (g.D.Disk.state c.check_is_folder.new.disk)
+    rename_refused _ (g.D.Disk.state c.args.disk.now) (g.D.Disk.state c.check_is_folder.new.disk)
     (g.D.Disk.state c.sync_with_base.new.disk) (g.D.Disk.state c.check_free.new.disk)
     c.in-Ok.ensures.looks c.in-Ok-sync_with_base.ensures.asked c.in-Err-check_free.ensures.looks
 
@@ -34,7 +34,7 @@ returns-in-Ok-rename-clause-asked g c =
 
 pub returns-in-Err-rename-clause-asked : goal.returns-in-Err-rename-clause-asked
 returns-in-Err-rename-clause-asked g c =
-    rename_refused c.args.from.now (g.D.Disk.state c.args.disk.now) (g.D.Disk.state c.check_is_folder.new.disk)
+    rename_refused _ (g.D.Disk.state c.args.disk.now) (g.D.Disk.state c.check_is_folder.new.disk)
     (g.D.Disk.state c.sync_with_base.new.disk) (g.D.Disk.state c.rename.new.self)
     c.in-Ok.ensures.looks c.in-Ok-sync_with_base.ensures.asked
     (looks_on (g.D.Disk.state c.sync_with_base.new.disk) (g.D.Disk.state c.check_free.new.disk)
