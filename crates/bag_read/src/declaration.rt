@@ -107,19 +107,13 @@ fn first_lines(text: &str) -> (Option<&str>, Option<&str>, usize)
 fn declared_version(line: Option<&str>) -> Option<&str>
     ensures { option_copied result ≡ option_and_then spec.version_of (option_copied line.entry) }
 {
-    match line {
-        None => None,
-        Some(line) => version_of(line),
-    }
+    line.and_then(version_of)
 }
 
 fn declared_encoding(line: Option<&str>) -> Option<&str>
     ensures { option_copied result ≡ option_and_then spec.encoding_of (option_copied line.entry) }
 {
-    match line {
-        None => None,
-        Some(line) => encoding_of(line),
-    }
+    line.and_then(encoding_of)
 }
 
 /// The text, as one that is kept.

@@ -89,11 +89,6 @@ fn manifest_at(kind: Kind, path: &str) -> Option<TagName>
     ensures { MatchOption result ((alg : Alg) → tag_path (Manifest kind alg) ≢ path.now) (λ name.
         tag_path name ≡ path.now) }
 {
-    let Some(text) = manifest_alg(kind, path) else {
-        return None;
-    };
-    match Alg::from_name(text) {
-        Some(alg) => Some(TagName::Manifest(kind, alg)),
-        None => None,
-    }
+    let alg = Alg::from_name(manifest_alg(kind, path)?)?;
+    Some(TagName::Manifest(kind, alg))
 }

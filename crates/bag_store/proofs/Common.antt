@@ -5,7 +5,7 @@ pub use Rattle.std.proofs.Common.{refl, sym, take, take-add, take_all, true, ℕ
 pub use Rattle.std.proofs.Common.{◌≡◌, ◌≤◌, ◌⊎◌}
 pub use Rattle.std.proofs.Math.Seq.{take-length}
 pub use Rattle.std.proofs.lemmas.Bool.{and_parts, eqb-true, false≢true, or_left, or_right}
-pub use Rattle.std.proofs.lemmas.Result.{on_err_weaker, on_ok_weaker}
+pub use Rattle.std.proofs.lemmas.Result.{err_from_is_err_and, on_err_weaker, on_ok_weaker}
 pub use Rattle.std.specs.Cmp.Lexicographic.{nat_list_cmp_total}
 pub use Rattle.std.specs.FinMap.{find, get-empty, get-entries, get-insert, get-remove, len-empty, len-insert}
 pub use Rattle.std.specs.FinMap.{len-remove, same_map}

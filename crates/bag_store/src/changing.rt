@@ -34,10 +34,7 @@ pub(crate) fn make_folder<D: WritableDisk>(disk: &mut D, name: &str) -> Result<(
         (IsNameTaken (D.state disk.old) name.now)) }
     ensures failures { IsCounted result (D.state disk.old) (D.state disk.new) }
 {
-    match sync_names(disk, BASE) {
-        Ok(()) => {}
-        Err(refusal) => return Err(refusal),
-    }
+    sync_names(disk, BASE)?;
     match disk.make_folder(name) {
         Ok(()) => Ok(()),
         Err(fault) => Err(not_made(disk, name, fault)),
@@ -94,10 +91,8 @@ pub(crate) fn move_in<D: WritableDisk>(
         (HasFolderInTheWay (D.state disk.old) top.now folder.now)) }
     ensures failures { IsCounted result (D.state disk.old) (D.state disk.new) }
 {
-    match sync_folder_names(disk, is_synced) {
-        Ok(()) => move_below(disk, alloc, top, folder),
-        Err(refusal) => Err(refusal),
-    }
+    sync_folder_names(disk, is_synced)?;
+    move_below(disk, alloc, top, folder)
 }
 
 /// Moves what has a name in the base folder into a folder of it, by a rename after its looks.
@@ -163,18 +158,9 @@ pub(crate) fn rename_folder<D: WritableDisk>(
         (LacksFolder (D.state disk.old) from.now) (IsNameTaken (D.state disk.old) to.now)) }
     ensures failures { IsCounted result (D.state disk.old) (D.state disk.new) }
 {
-    match check_is_folder(disk, from) {
-        Ok(()) => {}
-        Err(refusal) => return Err(refusal),
-    }
-    match sync_with_base(disk, from) {
-        Ok(()) => {}
-        Err(refusal) => return Err(refusal),
-    }
-    match check_free(disk, to) {
-        Ok(()) => {}
-        Err(refusal) => return Err(refusal),
-    }
+    check_is_folder(disk, from)?;
+    sync_with_base(disk, from)?;
+    check_free(disk, to)?;
     match disk.rename(from, to) {
         Ok(()) => Ok(()),
         Err(fault) => Err(Refusal::at_known(fault)),

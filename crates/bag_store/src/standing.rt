@@ -53,10 +53,9 @@ pub(crate) fn check_free<D: Disk>(disk: &mut D, name: &str) -> Result<(), Refusa
         (IsNameTaken (D.state disk.old) name.now)) }
     ensures failures { IsCounted result (D.state disk.old) (D.state disk.new) }
 {
-    match standing_at(disk, name) {
-        Ok(None) => Ok(()),
-        Ok(Some(_)) => Err(Refusal::Exists),
-        Err(refusal) => Err(refusal),
+    match standing_at(disk, name)? {
+        None => Ok(()),
+        Some(_) => Err(Refusal::Exists),
     }
 }
 
@@ -70,9 +69,8 @@ pub(crate) fn check_taken<D: Disk>(disk: &mut D, name: &str) -> Result<(), Refus
         → is_taken (bag_of (D.state disk.old).nodes) name.now ≡ false) ⊥) }
     ensures failures { IsCounted result (D.state disk.old) (D.state disk.new) }
 {
-    match standing_at(disk, name) {
-        Ok(None) => Err(Refusal::NotFound),
-        Ok(Some(_)) => Ok(()),
-        Err(refusal) => Err(refusal),
+    match standing_at(disk, name)? {
+        None => Err(Refusal::NotFound),
+        Some(_) => Ok(()),
     }
 }

@@ -22,10 +22,7 @@ pub(crate) fn sync_names<D: WritableDisk>(disk: &mut D, folder: &str) -> Result<
     ensures refused { IfErr result (IsDueInStep ⊥ ⊥ ⊥) }
     ensures failures { IsCounted result (D.state disk.old) (D.state disk.new) }
 {
-    match disk.sync_folder(folder) {
-        Ok(()) => Ok(()),
-        Err(fault) => Err(Refusal::at_known(fault)),
-    }
+    disk.sync_folder(folder).map_err(Refusal::at_known)
 }
 
 /// Syncs the file that was written, so that its bytes are durable, and ends its writing.
@@ -40,10 +37,7 @@ pub(crate) fn sync_file<D: WritableDisk>(disk: &mut D) -> Result<(), Refusal>
     ensures refused { IfErr result (IsDueInStep ⊥ ⊥ ⊥) }
     ensures failures { IsCounted result (D.state disk.old) (D.state disk.new) }
 {
-    match disk.sync() {
-        Ok(()) => Ok(()),
-        Err(fault) => Err(Refusal::at_known(fault)),
-    }
+    disk.sync().map_err(Refusal::at_known)
 }
 
 /// Syncs a folder, and then the base folder.

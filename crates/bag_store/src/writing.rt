@@ -43,14 +43,9 @@ fn fill<D: WritableDisk>(disk: &mut D, bytes: &[u8]) -> Result<(), Refusal>
     ensures refused { IfErr result (IsDueInStep ⊥ ⊥ ⊥) }
     ensures failures { IsCounted result (D.state disk.old) (D.state disk.new) }
 {
-    match write_all(disk, bytes) {
-        Ok(()) => {}
-        Err(refusal) => return Err(refusal),
-    }
-    match sync_file(disk) {
-        Ok(()) => sync_names(disk, BASE),
-        Err(refusal) => Err(refusal),
-    }
+    write_all(disk, bytes)?;
+    sync_file(disk)?;
+    sync_names(disk, BASE)
 }
 
 /// Writes all bytes after those of the file that is being written.

@@ -31,12 +31,7 @@ pub fn write_info(alloc: Global, elements: &[(Text, Text)]) -> Result<Vec<u8>, W
 fn has_bad_element(elements: &[(Text, Text)]) -> bool
     ensures { result ≡ list_any spec.is_bad_element elements.now }
 {
-    for element in elements {
-        if is_bad_element(element) {
-            return true;
-        }
-    }
-    false
+    elements.iter().any(|element| is_bad_element(element))
 }
 
 fn info_text(alloc: Global, elements: &[(Text, Text)]) -> Result<String, AllocError>

@@ -44,12 +44,7 @@ pub fn write_manifest(
 fn has_bad_entry(kind: Kind, alg: Alg, entries: &[(Text, Text)]) -> bool
     ensures { result ≡ list_any (spec.is_bad_entry kind alg) entries.now }
 {
-    for entry in entries {
-        if is_bad_entry(kind, alg, entry) {
-            return true;
-        }
-    }
-    false
+    entries.iter().any(|entry| is_bad_entry(kind, alg, entry))
 }
 
 fn manifest_text(alloc: Global, entries: &[(Text, Text)]) -> Result<String, AllocError>
