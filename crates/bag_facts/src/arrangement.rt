@@ -1,5 +1,7 @@
 //! Entries of a manifest put nearly in the order of their paths.
-ghost use Rattle.std.specs.List.Sorted.{IsPermutation};
+ghost use Rattle.std.specs.Prelude.{IsTrue};
+ghost use Rattle.std.specs.List.Sorted.{IsPermutation, IsSortedByKey};
+ghost use Rattle.bag_text.specs.Text.{text_cmp};
 
 use bag_read::ManifestEntry;
 use bag_text::{common_front, key_after};
@@ -10,9 +12,6 @@ use std::alloc::{AllocError, Global};
 pub(crate) fn arrange(alloc: Global, entries: &mut Vec<ManifestEntry>) -> Result<(), AllocError>
     ensures { IsPermutation entries.old.items entries.new.items }
 {
-    if are_in_order(entries.as_slice()) {
-        return Ok(());
-    }
     let mut keys = keys(alloc, entries.as_slice())?;
     keys.sort_by(|a, b| a.0.cmp(&b.0))?;
     let mut places = places(alloc, keys.as_slice())?;
@@ -21,9 +20,11 @@ pub(crate) fn arrange(alloc: Global, entries: &mut Vec<ManifestEntry>) -> Result
 }
 
 /// Whether entries are in the order of their paths, as those of many manifests are.
-fn are_in_order(entries: &[ManifestEntry]) -> bool {
+pub(crate) fn are_in_order(entries: &[ManifestEntry]) -> bool
+    ensures { IsTrue result → IsSortedByKey (λ entry. entry.path) text_cmp entries.now }
+{
     for k in 1..entries.len() {
-        if entries[k - 1].path.cmp(&entries[k].path).is_gt() {
+        if entries[k].path.cmp(&entries[k - 1].path).is_lt() {
             return false;
         }
     }

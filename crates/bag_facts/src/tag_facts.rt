@@ -13,7 +13,7 @@ ghost use Rattle.bag_text.specs.Order.{IsListOf};
 ghost use Rattle.bag_text.specs.Text.{text_cmp};
 ghost use Rattle.bag_text.specs.declared.code.Code.TheVariants.{NotUtf8};
 
-use crate::arrangement::arrange;
+use crate::arrangement::{are_in_order, arrange};
 use crate::tag_reader::TagBytes;
 use bag_read::{
     Declaration, Element, FetchEntry, Kind, LineFault, ManifestEntry, Parsed, TagName,
@@ -161,8 +161,7 @@ pub(crate) fn entry_at<'a>(entries: &'a [ManifestEntry], path: &Text) -> Option<
     entries.get(place)
 }
 
-/// Entries in the order of their paths. Most are in order before the second sort, which then only
-/// compares neighbours.
+/// Entries in the order of their paths, in which those of many manifests are.
 fn sorted_by_path(
     alloc: Global,
     entries: Items<ManifestEntry>,
@@ -170,7 +169,22 @@ fn sorted_by_path(
     ensures sorted { IfOk result (IsSortedByKey (λ entry. entry.path) text_cmp) }
     ensures permutation { IfOk result (IsPermutation entries) }
 {
-    let mut entries = entries.into_vec();
+    let entries = entries.into_vec();
+    if are_in_order(entries.as_slice()) {
+        return Ok(Items::from_vec(entries));
+    }
+    sort_by_path(alloc, entries)
+}
+
+/// Sorts entries by their paths. Most are in order before the second sort, which then only compares
+/// neighbours.
+fn sort_by_path(
+    alloc: Global,
+    mut entries: Vec<ManifestEntry>,
+) -> Result<Items<ManifestEntry>, AllocError>
+    ensures sorted { IfOk result (IsSortedByKey (λ entry. entry.path) text_cmp) }
+    ensures permutation { IfOk result (IsPermutation entries.items) }
+{
     arrange(alloc, &mut entries)?;
     entries.sort_unstable_by(|a, b| a.path.cmp(&b.path));
     Ok(Items::from_vec(entries))

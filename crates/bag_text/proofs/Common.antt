@@ -9,7 +9,8 @@ pub use Rattle.std.proofs.lemmas.Bool.{and_parts, both_ways, cases_Bool, cases_l
 pub use Rattle.std.proofs.lemmas.Bool.{false_from_ne_true, or_cases, or_right}
 pub use Rattle.std.proofs.lemmas.Bool.Decides.{nat_tests}
 pub use Rattle.std.proofs.lemmas.Grind.{common_steps, get_or-set_at}
-pub use Rattle.std.proofs.lemmas.List.{drop-replicate, get_or-drop, get_or-reverse, get_or-set_other, get_or-take}
+pub use Rattle.std.proofs.lemmas.List.{drop-replicate, drop_all, get_or-drop, get_or-reverse, get_or-set_other}
+pub use Rattle.std.proofs.lemmas.List.{get_or-take}
 pub use Rattle.std.proofs.lemmas.List.{get_or_default, length-drop, length-reverse, length-take-le, reverse-append}
 pub use Rattle.std.proofs.lemmas.List.{reverse-reverse, take-append-drop, take-append-le, take-replicate, take_more}
 pub use Rattle.std.proofs.lemmas.List.Elements.{All-contains, All-from_recursion, Contains-get_or, filter-append}

@@ -1,6 +1,7 @@
 -- Paths that are read byte by byte.
 use Rattle.bag_text.proofs.Common.{Bool, IsTrue, List, [], ap, append-nil, append_assoc, arith, cond, drop, eqb, false}
 use Rattle.bag_text.proofs.Common.{get_or, length, not, refl, suc, true, ℕ, ◌&&◌, ◌++◌, ◌+◌, ◌<◌, ◌||◌, ◌∙◌, ◌∷◌, ◌≡◌}
+use Rattle.bag_text.proofs.Common.{drop_all, subst, sym, ◌-◌, ◌≤◌}
 use Rattle.bag_text.proofs.Common.{drop-cons, list_all, components, is_component, is_path, slash, Part, Empty, Name}
 use Rattle.bag_text.specs.PathPart.{part_of, with_byte, is_name}
 use Rattle.bag_text.proofs.Paths.{is_slash, some_component}
@@ -65,3 +66,44 @@ pub plain_more : (plain begins : Bool) (t : List ℕ) (k : ℕ) → k < length t
 plain_more true begins t k h read w =
     plain_byte begins (is_slash (get_or t k 0)) (eqb (get_or t k 0) 46) t k h refl refl (read refl) w
 plain_more false begins t k h read w = cc
+
+-- what is read up to a place, after the byte before it
+abbrev pub IsReadBehind : List ℕ → ℕ → Type 0
+IsReadBehind t k = IsReadTo (cond (is_slash (get_or t k 0)) Empty Name) t (k + 1)
+
+pub plain_first : (t : List ℕ) → 0 < length t → (k : ℕ) → 1 ≡ k + 1
+    → IsTrue (not (is_slash (get_or t 0 0) || eqb (get_or t 0 0) 46)) → IsReadBehind t k
+plain_first t some k is w =
+    let here : 0 ≡ k = omega arith in
+    subst (λ j. IsReadBehind t j) here (plain_more true true t 0 some (λ _. read_start t) w)
+
+pub plain_next : (plain : Bool) (t : List ℕ) (place : ℕ) → 1 ≤ place → place < length t
+    → ((k : ℕ) → place ≡ k + 1 → IsTrue plain → IsReadBehind t k)
+    → (k : ℕ) → place + 1 ≡ k + 1
+    → IsTrue (plain && not (is_slash (get_or t (place - 1) 0)
+    && (is_slash (get_or t place 0) || eqb (get_or t place 0) 46)))
+    → IsReadBehind t k
+plain_next plain t place some within read k is w =
+    let here : place ≡ k = omega arith in
+    let before : place ≡ (place - 1) + 1 = omega arith in
+    let begins = is_slash (get_or t (place - 1) 0) in
+    subst (λ j. IsReadBehind t j) here
+    (plain_more plain begins t place within
+    (λ p. subst (λ j. IsReadTo (cond begins Empty Name) t j) (sym before) (read (place - 1) before p)) w)
+
+read_end : (t : List ℕ) (k : ℕ) → length t ≤ k → IsReadTo Name t k → is_path t ≡ true
+read_end t k all (p, is, good) = grind (arith, append-nil, name_test, drop_all)
+
+end_case : (plain is_end : Bool) (t : List ℕ) (k : ℕ) → length t ≤ k
+    → (IsTrue plain → IsReadTo (cond is_end Empty Name) t k) → IsTrue (plain && not is_end) → is_path t ≡ true
+end_case true false t k all read w = read_end t k all (read refl)
+end_case true true t k all read w = cc
+end_case false is_end t k all read w = cc
+
+pub plain_end : (plain : Bool) (t : List ℕ) (place : ℕ) → 1 ≤ place → length t ≤ place → place ≤ length t
+    → ((k : ℕ) → place ≡ k + 1 → IsTrue plain → IsReadBehind t k)
+    → IsTrue (plain && not (is_slash (get_or t (length t - 1) 0))) → is_path t ≡ true
+plain_end plain t place some all within read w =
+    let last : place ≡ (length t - 1) + 1 = omega arith in
+    end_case plain (is_slash (get_or t (length t - 1) 0)) t ((length t - 1) + 1) (omega arith)
+    (read (length t - 1) last) w

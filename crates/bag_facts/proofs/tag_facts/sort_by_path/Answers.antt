@@ -1,6 +1,6 @@
 use Rattle.bag_facts.proofs.Common.{rules, is_lt, nat_list_cmp_total, IsPermutation-trans, answers_always, ranks_by}
 use Rattle.bag_facts.proofs.Common.{text_cmp}
-use Rattle.bag_facts.proofs.tag_facts.sorted_by_path.Goals as goal
+use Rattle.bag_facts.proofs.tag_facts.sort_by_path.Goals as goal
 
 pub returns-clause-sorted : goal.returns-clause-sorted
 returns-clause-sorted c =
@@ -10,5 +10,4 @@ returns-clause-sorted c =
 
 pub returns-clause-permutation : goal.returns-clause-permutation
 returns-clause-permutation c =
-    let first = rw c.into_vec-entries.ensures at c.arrange.ensures in
-    rw c.from_vec.ensures (IsPermutation-trans _ _ _ first c.sort_unstable_by.ensures.permutation)
+    rw c.from_vec.ensures (IsPermutation-trans _ _ _ c.arrange.ensures c.sort_unstable_by.ensures.permutation)
