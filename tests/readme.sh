@@ -223,18 +223,27 @@ echo '{"BagIt-Profile-Info": {"BagIt-Profile-Identifier": "x"}, "Serialization":
 [[ $(<printed) == 'deposit is valid' ]] || give_up "docs/PROFILES.md: by the copy of a profile: $(<printed)"
 followed=$((followed + ${#keys[@]}))
 
-# LIBRARY: what it quotes stands in the crate of its examples, line by line.
+# LIBRARY: the crates that its commands copy are all that these need of this repository (they are linked here, as what is made of them
+# is large), and what it quotes stands in the crates of its examples, line by line.
+mkdir own
+block docs/LIBRARY.md 'Into a repository of your own' 1 | sed "s#cp -r \.\./bagit#ln -s $root#; s#\.\./bagit#$root#" >way
+(cd own && bash -e ../way)
+[[ $(wc -l <own/crates.txt) -gt 10 && $(cd own/crates && ls -d -- */src | wc -l) == "$(wc -l <own/crates.txt)" ]] ||
+    give_up 'docs/LIBRARY.md: its commands copy other crates than they name'
+cut -d : -f 2 own/crates.txt | tr ' ' '\n' | sort -u | while IFS= read -r needed; do
+    [[ ! -d $root/crates/$needed || ! $needed || -d own/crates/$needed ]] || give_up "docs/LIBRARY.md: its commands leave out $needed"
+done
 awk '/^```rust$/ { n++; inside = 1; next } /^```$/ { inside = 0 } inside { print > ("quoted" n) }' "$root/docs/LIBRARY.md"
 for quoted in quoted*; do
-    for file in "$root"/crates/examples/src/*.rt; do
+    for file in "$root"/crates/{examples,deposits}/src/*.rt; do
         awk -v wanted="$quoted" '
             BEGIN { while ((getline line < wanted) > 0) lines[++count] = line }
             { at = $0 == lines[at + 1] ? at + 1 : $0 == lines[1]; if (at == count) found = 1 }
             END { exit !found }' "$file" && continue 2
     done
     cat "$quoted"
-    give_up 'docs/LIBRARY.md: this stands nowhere in crates/examples'
+    give_up 'docs/LIBRARY.md: this stands nowhere in crates/examples and crates/deposits'
 done
-followed=$((followed + $(ls quoted* | wc -l)))
+followed=$((followed + 1 + $(ls quoted* | wc -l)))
 
 echo "followed $followed parts of the pages as they are written"
