@@ -1,6 +1,6 @@
 //! A making, and what each refusal asks for.
-ghost use Rattle.std.specs.Prelude.{◌≡◌, OnOk};
-ghost use Rattle.bag_make.specs.Make.{HasMade};
+ghost use Rattle.std.specs.Prelude.{◌≡◌, IfOk};
+ghost use Rattle.examples.specs.Making.{IsAdvised, advice_of};
 
 use bag_make::{MakeFault, make};
 use bag_store::WriteTree;
@@ -23,12 +23,15 @@ pub enum Advice {
 }
 
 /// Makes a bag of a folder, with SHA-256 and SHA-512 and one element, and says what is to be done
-/// then.
+/// then: after `Done` the folder is that bag.
 pub fn make_bag<T: WriteTree + Drop>(
     alloc: Global,
     tree: T,
     contact: &str,
-) -> Result<(T, Advice), AllocError> {
+) -> Result<(T, Advice), AllocError>
+    ensures advised { IfOk result (λ done.
+        IsAdvised contact.now (T.state tree) (T.state done.0) done.1) }
+{
     let label = Text::from_str(alloc, "Contact-Name")?;
     let value = Text::from_str(alloc, contact)?;
     let algs = AlgSet::empty().with(Alg::Sha256).with(Alg::Sha512);
@@ -37,7 +40,9 @@ pub fn make_bag<T: WriteTree + Drop>(
 }
 
 /// What the answer of a making asks for.
-fn what_follows(made: &Result<(), MakeFault>) -> Advice {
+fn what_follows(made: &Result<(), MakeFault>) -> Advice
+    ensures { result ≡ advice_of made.now }
+{
     match made {
         Ok(()) => Advice::Done,
         Err(MakeFault::NoAlgorithm | MakeFault::BadValue) => Advice::AskOtherwise,
