@@ -182,6 +182,6 @@ abbrev pub MayRefuseWalk : DiskState → Refusal → Type 0
 MayRefuseWalk disk = IsDue (MeetsSpecial disk) (MeetsUnnamed disk) ⊥ (HasTooMuch disk)
 
 -- and so the listing
-abbrev pub MayRefuseListing : DiskState → Refusal → Type 0
-MayRefuseListing disk =
+abbrev pub MayRefuseWholeListing : DiskState → Refusal → Type 0
+MayRefuseWholeListing disk =
     IsDueInListing (MeetsSpecial disk) (MeetsUnnamed disk) (HasTooMuch disk) (Contradiction disk)

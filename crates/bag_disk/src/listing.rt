@@ -4,7 +4,7 @@ ghost use Rattle.std.specs.List.Sorted.{IsPermutation};
 ghost use Rattle.bag_tree.specs.Listing.{IsOrdered, IsListingOf};
 ghost use Rattle.bag_disk.specs.Disk.{OnlyLooks, is_plain};
 ghost use Rattle.bag_disk.specs.DiskBag.{bag_of};
-ghost use Rattle.bag_disk.specs.FolderWalk.{ArePaths, IsUnlistable, MayRefuseListing};
+ghost use Rattle.bag_disk.specs.FolderWalk.{ArePaths, IsUnlistable, MayRefuseWholeListing};
 ghost use Rattle.bag_disk.specs.FolderWalk.{MayRefuseWalk, Walked};
 ghost use Rattle.bag_disk.specs.Refusal.{IsCounted, IsDueInListing, IsNoFailure};
 
@@ -25,7 +25,7 @@ pub fn list_below<D: Disk>(disk: &mut D, alloc: Global) -> Result<Listing, Refus
         (IsTrue (D.state disk.old).honest → IsTrue (is_plain (D.state disk.old).nodes)) }
     ensures honest { IfOk result (λ listing. IsTrue (D.state disk.old).honest
         → IsListingOf (bag_of (D.state disk.old).nodes) listing) }
-    ensures refused { IfErr result (MayRefuseListing (D.state disk.old)) }
+    ensures refused { IfErr result (MayRefuseWholeListing (D.state disk.old)) }
     ensures failures { IsCounted result (D.state disk.old) (D.state disk.new) }
 {
     let found = walk(disk, alloc)?;

@@ -48,7 +48,8 @@ pub record IsManifestLine (rules : Rules) (kind : Kind) (alg : Alg)
 
 -- the law: a line reads just as it is made of these
 abbrev pub ManifestLinesReadAsTheirParts : Type 0
-ManifestLinesReadAsTheirParts = (rules : Rules) (kind : Kind) (alg : Alg) (line digest path : List ℕ)
+ManifestLinesReadAsTheirParts =
+    (rules : Rules) (kind : Kind) (alg : Alg) (line digest path : List ℕ)
     → ReadsManifest rules kind alg line digest path ↔ IsManifestLine rules kind alg line digest path
 
 abbrev pub OnlyReadsManifest : Rules → Kind → Alg → List ℕ → Type 0

@@ -24,9 +24,9 @@ pub fn tag_files_stand_in_the_base()
     ensures { TagFilesStandInTheBase }
 {}
 
-/// A line of a manifest reads just where it is of these parts: hex digits of either case, as many as
-/// a digest of the algorithm has; blanks; and the spelling of a path, in front of which one `*` and
-/// then one `./` may stand. It says that digest, in lower case, and that path.
+/// A line of a manifest reads just where it is of these parts: hex digits of either case, as many
+/// as a digest of the algorithm has; blanks; and the spelling of a path, in front of which one `*`
+/// and then one `./` may stand. It says that digest, in lower case, and that path.
 ///
 /// The path is one that a manifest of this kind may name: a payload manifest those below `data/`, a
 /// tag manifest others, but no tag manifest. This is said of each line by itself; whether its path

@@ -29,8 +29,8 @@ pub struct Completeness {
 
 impl Completeness {
     /// Those of each bag of which these facts were read: what its report has of stage 6 above the
-    /// cursor, by any profile or by none, since no profile asks for more there. There are none where
-    /// the depth doesn't have the stage. Fails only when out of memory.
+    /// cursor, by any profile or by none, since no profile asks for more there. There are none
+    /// where the depth doesn't have the stage. Fails only when out of memory.
     pub fn new(
         alloc: Global,
         facts: &Facts,
