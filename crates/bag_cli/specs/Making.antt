@@ -31,7 +31,7 @@ pub record IsMake (algs : List Alg) (info : List NewElement) (old new : TreeStat
   pub any_moment : OutlastsCuts old new
   pub lasting : OnOk made (LastsForGood algs info old new)
 
--- the output took the line, and this is the making_status; or it refused, and took a proper prefix
+-- the output took the line, and this is its status; or it refused, and took a proper prefix
 abbrev pub ReportsMaking : List ℕ → Result (Unit {0}) MakeFault → Bool
     → OutState → OutState → Result ℕ Refused → Type 0
 ReportsMaking name made quiet before after reported =

@@ -1,4 +1,4 @@
--- The line that says how making a bag went, and the exit making_status.
+-- The line that says how making a bag went, and the exit status.
 use Rattle.std.specs.Prelude.{ℕ, Bool, List, [], ◌++◌, Result, codes, decimal, if◌then◌else◌}
 use Rattle.std.specs.declared.result.Result.TheVariants.{Ok, Err}
 use Rattle.bag_tree.specs.Cause.{cause_word}
@@ -43,7 +43,7 @@ abbrev pub line : List ℕ → Result (Unit {0}) MakeFault → Bool → List ℕ
 line name (Ok _) quiet = if quiet then [] else made_line name
 line name (Err fault) quiet = not_made_line name (reason fault)
 
--- the exit making_status
+-- the exit status
 abbrev pub making_status : Result (Unit {0}) MakeFault → ℕ
 making_status (Ok _) = 0
 making_status (Err fault) = 3

@@ -69,9 +69,8 @@ OpensNonePassed after old new =
 abbrev pub written_before : Request → Outcome → ℕ
 written_before request outcome = min (count_of outcome) (limit_of request - 1)
 
--- The lines of faults were written before the next file was opened: of the payload no file was
--- opened before which a fault stands whose line wasn't written, and where the limit was reached
--- none after the file of the last line.
+-- As the run ended, each fault that stands before a file of the payload that was opened had its
+-- line written; and where the limit was reached none was opened after the file of the last line.
 abbrev pub OpensInTurn : TreeState → TreeState → Option Profile → Request → Outcome → Type 0
 OpensInTurn old new profile request outcome = ForReportAsked old profile request (λ report.
     (read : List (List ℕ)) × (summed : List (List ℕ))
