@@ -35,5 +35,6 @@ pub mod Sorted
 pub mod Sought
 pub mod SumFaults
 pub mod SummedFiles
+pub mod UnpackedAgain
 pub mod ValidityFaults
 pub mod ValidityList

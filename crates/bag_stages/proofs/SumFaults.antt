@@ -8,7 +8,7 @@ use Rattle.bag_stages.proofs.Common.{lines_in, lines_or_none, manifest_of, Names
 use Rattle.bag_stages.proofs.Common.{differing_code, sum_differs, kind_of, expected_and_found, IsEntryIn, IsFaultOfFile}
 use Rattle.bag_stages.proofs.Common.{Expected, ◌<◌, ◌+◌, ◌++◌, ◌∷◌, ◌⊎◌, ◌↔◌, [], map, get_or, filter_map, cons_option}
 use Rattle.bag_stages.proofs.Common.{option_to_list, append-nil, map-append, filter_map-append, one_listed, only_listed}
-use Rattle.bag_stages.proofs.Common.{take_one_more, AreNaming, IsGivenBy, faults_of_bytes}
+use Rattle.bag_stages.proofs.Common.{AreNaming, IsGivenBy, faults_of_bytes}
 use Rattle.bag_facts.proofs.AlgsOf.{all_algs, no_alg_yet, one_alg_more, one_alg_other, AreThose}
 use Rattle.bag_stages.proofs.ByItem.{OfSome, all_algs_listed, next_alg_listed, no_items}
 use Rattle.bag_stages.proofs.InFile.{less_by_alg}
@@ -129,11 +129,12 @@ pub pushed : (h : Expected → Option Fault) (before : List Expected) (one : Exp
     → filter_map h before ++ option_to_list (h one) ≡ filter_map h (before ++ one ∷ [])
 pushed h before one = grind (arith, filter_map, filter_map-append, option_to_list, cons_option)
 
--- one more of them was looked at
-pub looked_at : (h : Expected → Option Fault) (xs : List Expected) (i : ℕ) (x : Expected) (before : List Fault)
-    (o : Option Fault) → i < length xs → x ≡ get_or xs i x
-    → before ≡ filter_map h (take i xs) → o ≡ h x → before ++ option_to_list o ≡ filter_map h (take (i + 1) xs)
-looked_at h xs i x before o lt is e same = grind (arith, pushed, take_one_more)
+-- the first of those that are left was looked at
+pub looked_at : (h : Expected → Option Fault) (x : Expected) (left rest : List Expected) (before all : List Fault)
+    (o : Option Fault) → left ≡ x ∷ rest → before ++ filter_map h left ≡ all → o ≡ h x
+    → before ++ cons_option o (filter_map h rest) ≡ all
+looked_at h x left rest before all o first so_far is =
+    ap (λ p. before ++ cons_option p (filter_map h rest)) is ∙ ap (λ l. before ++ filter_map h l) (sym first) ∙ so_far
 
 with_one : (before : List Expected) (one : Expected) (alg : Alg)
     → Contains (algs_of (before ++ one ∷ [])) alg ↔ (Contains (algs_of before) alg ⊎ (alg ≡ one.alg))

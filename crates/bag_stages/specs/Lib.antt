@@ -18,6 +18,7 @@ pub mod Metadata
 pub mod MetadataStage
 pub mod Names
 pub mod OxumFaults
+pub mod Packed
 pub mod PartsStage
 pub mod Payload
 pub mod PayloadNamed
@@ -26,4 +27,5 @@ pub mod Sought
 pub mod SumFaults
 pub mod SummedFiles
 pub mod TagFiles
+pub mod Unpacking
 pub mod ValidityStage

@@ -1,5 +1,5 @@
 //! The bytes of a digest.
-ghost use Rattle.std.specs.Prelude.{◌≡◌, take};
+ghost use Rattle.std.specs.Prelude.{◌≡◌, ◌≤◌, length, take};
 
 use std::marker::Model;
 
@@ -41,7 +41,8 @@ impl GivenDigest {
 
     /// The bytes, to look at.
     pub fn as_slice(&self) -> &[u8]
-        ensures { result.now ≡ self.now }
+        ensures value { result.now ≡ self.now }
+        ensures short { length result.now ≤ 64 }
     {
         &self.bytes[..usize::from(self.count)]
     }

@@ -5,8 +5,8 @@ ghost use Rattle.bag_stages.specs.SumFaults.{differing, differing_code, faults_o
 ghost use Rattle.bag_stages.specs.SumFaults.{sum_differs, AreSumsBy};
 ghost use Rattle.bag_stages.specs.ValidityStage.{expected_and_found};
 
-use crate::Expected;
 use crate::expected::kind_of;
+use crate::{Expected, Packed};
 use bag_facts::Fault;
 use bag_read::Kind;
 use bag_text::{Code, Text};
@@ -19,15 +19,15 @@ use std::alloc::{AllocError, Global};
 pub fn faults_by(
     alloc: Global,
     path: &Text,
-    expected: &[Expected],
+    expected: &Packed,
     sums: &Sums,
 ) -> Result<Vec<Fault>, AllocError>
     ensures { IfOk result (λ faults. (content : List ℕ) → AreSumsBy expected.now content sums.now
         → faults.items ≡ faults_of_bytes path.now content expected.now) }
 {
     let mut faults = Vec::new(alloc);
-    for one in expected {
-        let Some(fault) = fault_by(alloc, path, one, sums)? else {
+    for one in expected.iter() {
+        let Some(fault) = fault_by(alloc, path, &one, sums)? else {
             continue;
         };
         faults.push(fault)?;

@@ -12,8 +12,8 @@ ghost use Rattle.bag_walk.specs.ToSum.{OpensIt, StopsAtIt};
 
 use crate::fixed::above;
 use bag_facts::{Fault, refusal_of};
-use bag_stages::{Expected, faults_by};
-use bag_text::{AlgSet, Items};
+use bag_stages::{Packed, faults_by};
+use bag_text::AlgSet;
 use bag_tree::{FileEntry, Stop, Sums, Tree, TreeFault, digest_file};
 use std::alloc::{AllocError, Global};
 
@@ -21,7 +21,7 @@ use std::alloc::{AllocError, Global};
 #[derive(Debug, Drop)]
 pub(crate) struct ToSum {
     pub file: FileEntry,
-    pub expected: Items<Expected>,
+    pub expected: Packed,
 }
 
 /// The faults of a file that are above a cursor. It is opened once, and read once for all its
@@ -50,7 +50,7 @@ pub(crate) fn faults_of_file<T: Tree>(
     let Ok(path) = to_sum.file.path.copy(alloc) else {
         return Err(Stop::without_path(alloc, TreeFault::Memory));
     };
-    let algs = algs_of(to_sum.expected.as_slice());
+    let algs = algs_of(&to_sum.expected);
     let sums = match digest_file(tree, &to_sum.file, algs, buffer) {
         Ok(sums) => sums,
         Err(cause) => return Err(refusal_of(alloc, cause, path)),
@@ -62,11 +62,11 @@ pub(crate) fn faults_of_file<T: Tree>(
 }
 
 /// The algorithms by which digests are given.
-fn algs_of(expected: &[Expected]) -> AlgSet
+fn algs_of(expected: &Packed) -> AlgSet
     ensures { (one : Given) → Contains expected.now one → Contains result one.alg }
 {
     let mut algs = AlgSet::empty();
-    for one in expected {
+    for one in expected.iter() {
         algs = algs.with(one.alg);
     }
     algs
@@ -83,7 +83,6 @@ fn faults_above(
         → AreSumsBy to_sum.now.expected content sums.now → faults.items
         ≡ above (option_copied after.entry) (faults_at to_sum.now (Some content))) }
 {
-    let expected = to_sum.expected.as_slice();
-    let faults = faults_by(alloc, &to_sum.file.path, expected, sums)?;
+    let faults = faults_by(alloc, &to_sum.file.path, &to_sum.expected, sums)?;
     Ok(above(faults, after))
 }

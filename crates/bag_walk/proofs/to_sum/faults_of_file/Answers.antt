@@ -8,7 +8,7 @@ returns-in-Ok-faults_above-clause-faults g c = λ honest.
     let sums = c.in-Ok-digest_file.ensures.sums in
     c.in-Ok-faults_above.ensures sums.content
     (λ one d. sums.sums_of.each one.alg
-    (c.algs_of-algs.ensures one (subst (λ l. Contains l one) (sym c.as_slice.ensures) d)))
+    (c.algs_of-algs.ensures one d))
     ∙ ap (λ o. above (option_copied c.args.after) (faults_at c.args.to_sum.now o)) (sym (sums.honest honest))
 
 pub returns-in-Err-clause-refused : goal.returns-in-Err-clause-refused
