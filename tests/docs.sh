@@ -1,7 +1,10 @@
 #!/usr/bin/env bash
 # Compares the pages with what they name: the reading lists of docs/THEOREM.md with what tools/reading_list finds; each link, file,
 # module, definition and clause with the sources; the calls in docs/PROVED.md with the public functions of the libraries, each of which
-# has a row; the case files in docs/TESTED.md. The options of the manual page are compared by tests/package.sh.
+# has a row; the case files in docs/TESTED.md; the crates in docs/MAP.md; the fault codes in docs/FAULTS.md, and in the cases that list
+# all codes, with the definitions; the options in README.md, in the manual pages and in docs/LARGE_BAGS.md with the sources (with
+# --help and the completions tests/package.sh compares them). Each page, and the answers that readers look for first, are found within
+# three pages from README.md.
 #
 # usage: tests/docs.sh [PROGRAM]
 #
