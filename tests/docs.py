@@ -13,7 +13,7 @@ import sys
 from functools import lru_cache
 from pathlib import Path
 
-KINDS = ["link", "file", "definition or clause", "module", "name", "file of a way", "case file"]
+KINDS = ["link", "heading", "file", "definition or clause", "module", "name", "file of a way", "case file"]
 KINDS += ["public function", "law", "public call", "clause of a call", "crate", "fault code", "option", "page", "answer"]
 FOLDERS = r"docs|tests|bench|packaging|tools|crates|\.ci|\w+(?=/(?:src|specs|proofs|must-fail)/)"
 FILE = re.compile(rf"(?<![\w/.~-])((?:{FOLDERS})/[\w./*-]*|[A-Z]+\.md|crates\.txt)")
@@ -75,16 +75,25 @@ def has_module(crate, name):
 
 
 def compare_files(page, text):
-    """Links, and paths from the root, from crates/ or from the page; but for what is built, and for words such as NAME."""
-    for link in re.findall(r"\]\(([^)#\s]+)", text):
-        if not link.startswith("http"):
-            compare("link", page, link, (page.parent / link).exists())
+    """Links with their headings, and paths from the root, from crates/ or the page; not what is built, nor words such as NAME."""
+    for link, heading in re.findall(r"\]\(([^)#\s]*)#?([^)\s]*)\)", text):
+        target = page.parent / link if link else page
+        if link.startswith("http"):
+            continue
+        compare("link", page, link, target.exists())
+        if heading:
+            compare("heading", page, f"{link}#{heading}", heading in headings_of(text_of(target)))
     for name in FILE.findall(text):
         name = name.rstrip(".-")
         if "/out" in name or re.search(r"/[A-Z]+(/|$)", name):
             continue
         bases = (root, crates, page.parent)
         compare("file", page, name, any(any(base.glob(name)) if "*" in name else (base / name).exists() for base in bases))
+
+
+def headings_of(text):
+    """The headings of a page, as links name them."""
+    return {re.sub(r"[^\w -]", "", title.lower()).replace(" ", "-") for title in re.findall(r"^#+ (.*)$", text, re.M)}
 
 
 def compare_citations(page, text):

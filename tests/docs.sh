@@ -4,7 +4,7 @@
 # has a row; the case files in docs/TESTED.md; the crates in docs/MAP.md; the fault codes in docs/FAULTS.md, and in the cases that list
 # all codes, with the definitions; the options in README.md, in the manual pages and in docs/LARGE_BAGS.md with the sources (with
 # --help and the completions tests/package.sh compares them). Each page, and the answers that readers look for first, are found within
-# three pages from README.md.
+# three pages from README.md, and a link leads to the heading that it names.
 #
 # usage: tests/docs.sh [PROGRAM]
 #
