@@ -2,8 +2,8 @@
 ghost use Rattle.bag_cli.specs.Reported.{HonestDisksAreReported, HonestFoldersAreMade};
 ghost use Rattle.bag_cli.specs.Honest.{HonestFoldersAreReported};
 
-/// Over an honest disk the check of one directory, by a profile or without one, tells the report of
-/// the bag that stands there.
+/// Over an honest disk the check of one directory, by a profile or without one, writes the report
+/// of the bag that stands there.
 pub fn honest_disks_are_reported()
     ensures { HonestDisksAreReported }
 {}

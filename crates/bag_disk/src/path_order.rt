@@ -16,7 +16,7 @@ const IN_PAYLOAD: u128 = 1 << 126;
 
 const BEHIND_PAYLOAD: u128 = 1 << 127;
 
-/// Sorts files by keys that tell most paths apart, so that a sort by path finds them in order.
+/// Sorts files by keys that differ for most paths, so that a sort by path finds them in order.
 pub(crate) fn sort_by_key(files: &mut Vec<FileEntry>) -> Result<(), AllocError>
     ensures { IsPermutation files.old.items files.new.items }
 {

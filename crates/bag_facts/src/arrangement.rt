@@ -7,7 +7,7 @@ use bag_read::ManifestEntry;
 use bag_text::{common_front, key_after};
 use std::alloc::{AllocError, Global};
 
-/// Sorts entries by keys that tell most paths apart, so that a sort by path finds them in order.
+/// Sorts entries by keys that differ for most paths, so that a sort by path finds them in order.
 /// Few entries are moved more than once, and none to memory of its own.
 pub(crate) fn arrange(alloc: Global, entries: &mut Vec<ManifestEntry>) -> Result<(), AllocError>
     ensures { IsPermutation entries.old.items entries.new.items }

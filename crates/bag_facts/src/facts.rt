@@ -84,7 +84,7 @@ impl Facts {
         }
     }
 
-    /// What the bytes that were read say, by the rules that the declaration among them tells.
+    /// What the bytes that were read say, by the rules of the version that they declare.
     fn of(
         alloc: Global,
         options: Options,
@@ -264,8 +264,8 @@ fn rules_declared(declaration: &Declaration) -> Rules
     }
 }
 
-/// The rules that the declaration among files that were read tells, and those of 1.0 where it isn't
-/// among them.
+/// The rules of the version that the declaration among files that were read declares, and those of
+/// 1.0 where it isn't among them.
 fn rules_read(read: &[TagBytes]) -> Rules
     ensures { AreRulesOf read.now result }
 {

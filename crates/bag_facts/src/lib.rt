@@ -16,7 +16,7 @@
 //!
 //! The facts are the bag's, of an honest tree, and else those of some bag with the listed files;
 //! exactly the wanted tag files are opened, each once and in path order. The order of faults is
-//! total, and faults that tie are one; a line tells its fault, and is read back.
+//! total, and faults that tie are one; no two faults have the same line, and a line is read back.
 #![tactic(auto)]
 
 mod arrangement;

@@ -7,8 +7,8 @@ use std::alloc::Global;
 
 /// The stop of a refusal of the file at this path. Out of memory names no file.
 ///
-/// It takes no memory: whoever copies the path before the file is read tells no refusal of it as
-/// out of memory.
+/// It takes no memory: whoever copies the path before the file is read reports no other refusal of
+/// it as out of memory.
 pub fn refusal_of(alloc: Global, cause: TreeFault, path: Text) -> Stop
     ensures { IsRefusalOf cause path result }
 {

@@ -72,7 +72,7 @@ impl TagFacts {
         }
     }
 
-    /// Whether it is UTF-8; `None` for the declaration, of which its faults tell.
+    /// Whether it is UTF-8; `None` for the declaration, whose faults say that.
     pub fn is_text(&self) -> Option<bool>
         ensures { result ≡ text_test self.now }
     {

@@ -100,7 +100,7 @@ fn read_pairs(digits: &[u8], bytes: &mut [u8])
     }
 }
 
-/// The value of a hex digit. It takes no branch, as none could be foretold in a digest.
+/// The value of a hex digit. It takes no branch, as none could be predicted in a digest.
 fn value(digit: u8) -> u8
     requires { is_ascii_hexdigit digit ≡ true }
     ensures small { result < 16 }

@@ -1,4 +1,4 @@
-//! A reader of `bag-info.txt` that is told its lines one by one (RFC 8493, 2.2.2).
+//! A reader of `bag-info.txt` that is given its lines one by one (RFC 8493, 2.2.2).
 ghost use Rattle.std.specs.Prelude.{◌≡◌, ◌++◌, ◌∷◌, [], IfOk, OnOk, Some, None};
 ghost use Rattle.bag_read.specs.InfoReader as reading;
 ghost use Rattle.bag_read.specs.declared.info_reader.Above.TheVariants.{Nothing};

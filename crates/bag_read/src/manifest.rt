@@ -192,7 +192,7 @@ fn check_digest<'a>(
     Ok(Ok(Digest::of_digits(alloc, alg, digest.as_bytes())?))
 }
 
-/// Whether all bytes are hex digits. It takes no branch for a byte, as none could be foretold in a
+/// Whether all bytes are hex digits. It takes no branch for a byte, as none could be predicted in a
 /// digest.
 fn is_hex(bytes: &[u8]) -> bool
     ensures { result ≡ list_all is_ascii_hexdigit bytes.now }

@@ -55,7 +55,7 @@ fn fingerprints(alloc: Global, entries: &[ManifestEntry]) -> Result<Vec<u64>, Al
     Ok(found)
 }
 
-/// A number of a path, which most often tells it from other paths.
+/// A number of a path, which most often differs from those of other paths.
 #[tactic(auto, unfolding(crate::specs::Repeats::fingerprint))]
 fn fingerprint(path: &str) -> u64
     ensures { result ≡ fingerprint path.now }

@@ -11,7 +11,7 @@ use bag_text::{Code, Text, same_label};
 use bag_tree::FileEntry;
 use std::alloc::{AllocError, Global};
 
-/// The faults of the elements that tell the payload's size (RFC 8493, 2.2.2), where the payload is
+/// The faults of the elements that give the payload's size (RFC 8493, 2.2.2), where the payload is
 /// among these files: the first of them counts, and there should be no other.
 pub(crate) fn oxum_faults(
     alloc: Global,
@@ -31,28 +31,28 @@ pub(crate) fn oxum_faults(
     Ok(faults)
 }
 
-/// Where the first element stands that tells the payload's size.
+/// Where the first element stands that gives the payload's size.
 fn first_oxum(elements: &[Element]) -> Option<usize>
     ensures { result ≡ position reported.is_oxum elements.now }
 {
     elements.iter().position(|element| is_oxum(element))
 }
 
-/// Whether an element tells the payload's size.
+/// Whether an element gives the payload's size.
 fn is_oxum(element: &Element) -> bool
     ensures { result ≡ reported.is_oxum element.now }
 {
     same_label(element.label.as_str(), "Payload-Oxum")
 }
 
-/// That no element tells the payload's size.
+/// That no element gives the payload's size.
 pub(crate) fn no_oxum(alloc: Global, path: &Text) -> Result<Vec<Fault>, AllocError>
     ensures { IfOk result (λ faults. faults.items ≡ reported.no_oxum path.now ∷ []) }
 {
     Ok(vec![in alloc; whole_file(alloc, Code::NoOxum, path, "")?]?)
 }
 
-/// The fault of the first element that tells the payload's size, if it has one.
+/// The fault of the first element that gives the payload's size, if it has one.
 fn first_faults(
     alloc: Global,
     path: &Text,
@@ -72,7 +72,7 @@ fn first_faults(
     Ok(vec![in alloc; size_fault(alloc, path, element, found)?]?)
 }
 
-/// The faults of the later elements that tell the payload's size.
+/// The faults of the later elements that give the payload's size.
 fn later_faults(alloc: Global, path: &Text, elements: &[Element]) -> Result<Vec<Fault>, AllocError>
     ensures { IfOk result (λ faults.
         faults.items ≡ map (reported.again path.now) (reported.oxums elements.now)) }
@@ -100,7 +100,7 @@ fn value_fault(
     Ok(Fault::of_line(code, path.copy(alloc)?, None, element.line, detail))
 }
 
-/// The fault of an element that tells another size than the payload has.
+/// The fault of an element that gives another size than the payload has.
 fn size_fault(
     alloc: Global,
     path: &Text,

@@ -16,7 +16,7 @@
 //!
 //! Over an honest tree what is listed or read is the bag, or a named refusal; over any tree each
 //! refusal is one that the call may answer, and openings and device failures are counted. An output
-//! tells what it took and whether it has refused. An answered step is its function on the bag of an
+//! says what it took and whether it has refused. An answered step is its function on the bag of an
 //! honest tree; a refused one changes nothing, but that a refused `create` may leave a file of some
 //! first bytes. Digests are those of the joined bytes, by the algorithms asked for alone, however
 //! the reads are cut.

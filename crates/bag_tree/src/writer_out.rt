@@ -9,9 +9,10 @@ use std::io::Write;
 
 /// Writes to a writer. After a write that it refuses, nothing more is written.
 ///
-/// The bytes that it took are those that the writer answered that it took, also where the writer
-/// tells nothing of itself, as the standard output. They come after those that the writer held at
-/// first, where it told them. A writer that always tells its bytes, as a `Vec`, holds exactly them.
+/// The bytes that it took are those that the writer answered that it took, even where the writer
+/// exposes none of its bytes, as the standard output does. They come after the bytes that the
+/// writer held at first, where it exposed them. A writer that always exposes its bytes, as a `Vec`
+/// does, holds exactly these.
 #[derive(Drop)]
 pub struct WriterOut<W: Write> {
     writer: W,
@@ -30,7 +31,7 @@ impl<W: Write> WriterOut<W> {
         WriterOut::holding(writer)
     }
 
-    /// An output over a writer that holds these bytes, where it tells.
+    /// An output over a writer that holds these bytes, where it exposes them.
     fn holding(writer: W) -> WriterOut<W>
         ghost held: { List ℕ }
         requires { HasReceived W.contents writer held }

@@ -15,9 +15,9 @@ impl<T: Tree, S: InOrder<T>> Steps<T, S> {
     /// none is above it. After a refusal the position is the same. The walk after the call is as
     /// `go_on` leaves it.
     ///
-    /// The check tells a caller nothing of what a result that owns memory was lent by, and a `Stop`
-    /// owns its path. So a caller whose proof goes by the walk after the call makes the two calls
-    /// that this one makes, `go_on` and `shown`.
+    /// A caller whose proof needs the walk after the call makes the two calls that this one makes,
+    /// `go_on` and `shown`: where a result may own memory, as a `Stop` owns its path, the checker
+    /// doesn't hand on the clause `after`.
     pub fn next(&mut self) -> Result<Option<&Fault>, Stop>
         ensures* after { sem 𝓛 (follows_so (the_row T.row S.row) (the_row T.row S.row)
             self.entry.ghost_name none (λ _ _. ⊤)

@@ -1,4 +1,4 @@
-//! Answers: what a command writes, what it tells, and its status.
+//! Answers: what a command writes, what it reports, and its status.
 use crate::bytes::Bytes;
 use std::alloc::Global;
 
@@ -11,7 +11,7 @@ pub struct Answer {
 }
 
 impl Answer {
-    /// The answer of what tells nothing.
+    /// The answer of what reports nothing.
     pub fn of(alloc: Global, written: Bytes, status: u8) -> Answer {
         Answer {
             written,
