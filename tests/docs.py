@@ -234,7 +234,7 @@ def public_functions():
 
 
 def compare_functions(page, text):
-    """The tables of calls: one that may be refused is named as `TYPE::NAME` or `NAME`, the others beside their type or crate."""
+    """The tables of calls: in the first one is named as `TYPE::NAME` or `NAME`, in the others beside its type or crate."""
     functions = set(public_functions())
     known, rows = {(owner, name) for _, owner, name in functions}, set()
     files = [text_of(path) for path in sorted(crates.glob("bag_*/src/*.rt"))]
