@@ -7,9 +7,10 @@ pub loop-plain-preserved : goal.loop-plain-preserved
 loop-plain-preserved c =
     let parts = rw c.in-Some.is at (split_parts 37 _ _ c.split_once.ensures.cases (lit< tt)) in
     let one = encode_ascii c.behind_percent-c.result.0 c.behind_percent-c.ensures.ascii in
-    let now : string_bytes c.push.new.self ≡ (string_bytes c.loop-plain.path ++ c.in-Some.plain.now) ++ c.behind_percent-c.result.0 ∷ [] =
+    let read = string_bytes c.loop-plain.path ++ c.in-Some.plain.now in
+    let now : string_bytes c.push.new.self ≡ read ++ c.behind_percent-c.result.0 ∷ [] =
     c.in_ok-push.ensures.bytes ∙ ap (λ x. x ++ encode_utf8 c.behind_percent-c.result.0) c.in_ok-push_str.ensures.bytes
-    ∙ ap (λ x. (string_bytes c.loop-plain.path ++ c.in-Some.plain.now) ++ x) one in
+    ∙ ap (λ x. read ++ x) one in
     record {
       utf8 = search rules;
       read =
