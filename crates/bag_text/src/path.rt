@@ -274,7 +274,7 @@ fn decode_line_ends(alloc: Global, text: &str) -> Result<String, AllocError>
     let mut rest = text;
     while let Some((plain, after)) = rest.split_once('%') {
         path.push_str(plain)?;
-        let (c, more) = behind_percent(after);
+        let (c, more) = after_percent(after);
         path.push(c)?;
         rest = more;
     }
@@ -284,7 +284,7 @@ fn decode_line_ends(alloc: Global, text: &str) -> Result<String, AllocError>
 
 /// The character that a `%` with this text after it stands for, and what follows: the end of a
 /// line, or itself.
-fn behind_percent(after: &str) -> (char, &str)
+fn after_percent(after: &str) -> (char, &str)
     ensures value { spelled.with_line_ends (spelled.percent ∷ after.now)
         ≡ result.0 ∷ spelled.with_line_ends result.1.now }
     ensures ascii { result.0 < 128 }

@@ -70,8 +70,8 @@ impl Pool {
         ensures { IfSome result (λ t. t ≡ text.now) }
     {
         let found = Text::part_of(self.wholes.get(which)?, place, text)?;
-        let behind = place.saturating_add(text.len()).saturating_add(1);
-        self.next.set((which, behind));
+        let after = place.saturating_add(text.len()).saturating_add(1);
+        self.next.set((which, after));
         Some(found)
     }
 

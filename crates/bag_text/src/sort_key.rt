@@ -21,7 +21,7 @@ pub fn common_front<'a>(first: &'a [u8], second: &[u8]) -> &'a [u8]
 pub fn key_after(bytes: &[u8], skipped: usize) -> u128
     ensures { result ≡ spec.key_after bytes.now skipped }
 {
-    let rest = behind(bytes, skipped);
+    let rest = bytes_after(bytes, skipped);
     match rest.first_chunk::<16>() {
         Some(front) => u128::from_be_bytes(*front),
         None => padded_key(rest),
@@ -29,7 +29,7 @@ pub fn key_after(bytes: &[u8], skipped: usize) -> u128
 }
 
 /// The bytes after the first `skipped`, if any.
-fn behind(bytes: &[u8], skipped: usize) -> &[u8]
+fn bytes_after(bytes: &[u8], skipped: usize) -> &[u8]
     ensures { result.now ≡ drop skipped bytes.now }
 {
     match bytes.split_at_checked(skipped) {
