@@ -10,14 +10,14 @@ pub fn rest_within<'a>(top: &str, path: &'a str) -> Option<&'a str>
     ensures { MatchOption result (moving.is_within top.now path.now ≡ false) (λ rest.
         (moving.is_within top.now path.now ≡ true) × (path.now ≡ top.now ++ rest.now)) }
 {
-    let Some(rest) = behind(top, path) else {
+    let Some(rest) = rest_after(top, path) else {
         return None;
     };
     if is_below(rest) { Some(rest) } else { None }
 }
 
 /// What follows a text in one that begins with it.
-fn behind<'a>(front: &str, text: &'a str) -> Option<&'a str>
+fn rest_after<'a>(front: &str, text: &'a str) -> Option<&'a str>
     ensures { MatchOption result ((rest : List ℕ) → text.now ≢ front.now ++ rest) (λ rest.
         text.now ≡ front.now ++ rest.now) }
 {
