@@ -82,8 +82,8 @@ fn read_line(
 ) -> Result<Result<FetchEntry, Why>, AllocError>
     ensures { IfOk result (λ read. read ≡ spec.fetch_entry_in rules number line.now) }
 {
-    let (url, behind) = split_at_blanks(line);
-    let (length, written) = split_at_blanks(behind);
+    let (url, after) = split_at_blanks(line);
+    let (length, written) = split_at_blanks(after);
     if lacks_part(url, length, written) {
         return refuse(alloc, Code::FetchLine, "");
     }
