@@ -114,11 +114,13 @@ pub move_passes : (bag : Bag) (top folder : List ℕ) → is_text_name folder �
     → has_folder bag folder ≡ true → PassesAsBag bag → PassesAsBag (move_in top folder bag)
 move_passes bag top folder name differ has passes =
     let folders = set.remove bag.folders top in
-    let goods : (path content : List ℕ) → file bag path ≡ Some content → IsGood folders (renamed top (under folder top) path) content = λ path content at. good bag folders top (under folder top) path content
+    let new = under folder top in
+    let goods : (path content : List ℕ) → file bag path ≡ Some content → IsGood folders (renamed top new path) content =
+    λ path content at. good bag folders top new path content
     (λ within is. grind (arith, goes_in, under_is_path))
     (λ within first rest first_is same. grind (arith, goes_in, one_folder, stays_there, and_parts))
     (λ q differ has. stays_there bag.folders top q differ has) passes at in
-    passes_from bag folders top (under folder top) goods (λ q has.
+    passes_from bag folders top new goods (λ q has.
     grind (arith, passes.names q, set.contains-remove nat_list_cmp_total bag.folders top q))
 
 -- a bag with another name for a folder is a bag
