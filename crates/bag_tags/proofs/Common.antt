@@ -9,7 +9,7 @@ pub use Rattle.std.proofs.lemmas.Bool.{eqb-true, false_from_ne_true, true≢fals
 pub use Rattle.std.proofs.lemmas.Bool.Decides.{nat_tests}
 pub use Rattle.std.proofs.lemmas.List.{append-nil, get_or-map, get_or-reverse, length-map, length-reverse, take-map}
 pub use Rattle.std.proofs.lemmas.List.Elements.{All-drop, All-from_recursion, All-take, recursion_from_All}
-pub use Rattle.std.proofs.lemmas.List.Folds.{list_any-append, list_any_at}
+pub use Rattle.std.proofs.lemmas.List.Folds.{list_any-append}
 pub use Rattle.std.proofs.lemmas.Map.Keys.{IsDistinct-IsPermutation, IsDistinct-from_apart, IsDistinct-from_sorted}
 pub use Rattle.std.proofs.lemmas.Map.Keys.{IsDistinct-head, IsDistinct-tail, apart_from_distinct}
 pub use Rattle.std.proofs.lemmas.Map.Keys.{sorted_from_all_adjacent}
@@ -19,14 +19,14 @@ pub use Rattle.std.proofs.lemmas.Slice.Eq.{bytes_eq-Decides}
 pub use Rattle.std.proofs.lemmas.Str.{IsUtf8-append, IsUtf8-encode, IsUtf8-from_ascii, IsUtf8-from_is_utf8, IsUtf8-nil}
 pub use Rattle.std.proofs.lemmas.Str.{is_utf8-from_IsUtf8}
 pub use Rattle.std.specs.Borrow.{Bor}
-pub use Rattle.std.specs.Char.{IsScalar, is_ascii_hexdigit, to_ascii_lowercase}
+pub use Rattle.std.specs.Char.{IsScalar, is_ascii_hexdigit}
 pub use Rattle.std.specs.List.{AllByRecursion, IsDistinct, after_first, before_first, list_all, list_any}
 pub use Rattle.std.specs.List.{position_or_len, prefix_len, slice_get, suffix_len}
 pub use Rattle.std.specs.Prelude.{Contains, IsTrue, ◌↔◌}
 pub use Rattle.std.specs.Str.{IsUtf8, all_scalars, encode_utf8_all, str_to_ascii_lowercase}
-pub use Rattle.std.specs.declared.cmp.Ordering.TheVariants.{Equal, Greater, Less}
+pub use Rattle.std.specs.declared.cmp.Ordering.TheVariants.{Less}
 pub use Rattle.bag_read.proofs.LineParts.{empty_test, not_empty, not_false, not_true, or_false}
-pub use Rattle.bag_read.proofs.ManifestName.{has_alg, named_is}
+pub use Rattle.bag_read.proofs.ManifestName.{has_alg}
 pub use Rattle.bag_read.proofs.PickedOut.{both_true}
 pub use Rattle.bag_read.specs.Info.{InfoFault, IsElement, begins_element, continuations, is_colon, is_label}
 pub use Rattle.bag_read.specs.Info.{leading_continuations, split, value_of_parts}
