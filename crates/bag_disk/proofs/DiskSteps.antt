@@ -188,14 +188,14 @@ path_put nodes files folders listed pending path entry.Folder disk is known walk
 path_put nodes files folders listed pending path entry.Other disk is known walked = absurd (known refl)
 
 -- the step, where the path's text is known in three ways
-pub name_added : (nodes : Nodes) (files files_after : List FileEntry)
-    (folders folders_after listed pending : List (List ℕ)) (location path text : List ℕ) (found : Entry) → IsDisk nodes
-    → path ≡ location → text ≡ path
-    → (IsReachedByFolders nodes text → option_map entry_of_node (node nodes text) ≡ Some found) → Has nodes location
-    → files_after ≡ files_with files path found → folders_after ≡ folders_with folders path found
-    → (found ≡ entry.Other → ⊥)
-    → Walked nodes files folders listed (location ∷ pending) → Walked nodes files_after folders_after listed pending
-name_added nodes files files_after folders folders_after listed pending location path text found disk at same is has files_are folders_are known walked = grind (arith, path_put)
+module _ (nodes : Nodes) (files files_after : List FileEntry) (folders folders_after listed pending : List (List ℕ))
+    (location path text : List ℕ) (found : Entry) (disk : IsDisk nodes) (at : path ≡ location) (same : text ≡ path)
+    (is : IsReachedByFolders nodes text → option_map entry_of_node (node nodes text) ≡ Some found)
+    (has : Has nodes location) (files_are : files_after ≡ files_with files path found)
+    (folders_are : folders_after ≡ folders_with folders path found) (known : found ≡ entry.Other → ⊥) where
+  pub name_added : Walked nodes files folders listed (location ∷ pending)
+      → Walked nodes files_after folders_after listed pending
+  name_added walked = grind (arith, path_put)
 
 pub on_ok3 : {A E P Q R S : Type 0} (r : Result A E) → OnOk r P → OnOk r Q → OnOk r R → (P → Q → R → S) → OnOk r S
 on_ok3 r p q s f = grind (arith, f)
@@ -214,28 +214,29 @@ abbrev Next : DiskState → DiskState → Option (List ℕ) → Type 0
 Next at new next = MatchOption next (at.names ≡ []) (λ name. at.names ≡ name ∷ new.names)
 
 -- a turn of the walk through one folder
-pub turn : (old at new : DiskState) (next : Option (List ℕ)) (files files_after : List FileEntry)
+module _ (old at new : DiskState) (next : Option (List ℕ)) (files files_after : List FileEntry)
     (folders folders_after listed : List (List ℕ)) (folder name name_text : List ℕ)
-    → OnlyLooks old at → OnlyLooks at new → next ≡ Some name → (IsTrue at.honest → Next at new next) → name_text ≡ name
-    → (IsTrue new.honest → Has new.nodes (path_in folder name_text) → (listed pending : List (List ℕ))
+    (before : OnlyLooks old at) (after : OnlyLooks at new) (is : next ≡ Some name)
+    (gives : IsTrue at.honest → Next at new next) (same : name_text ≡ name)
+    (added : IsTrue new.honest → Has new.nodes (path_in folder name_text) → (listed pending : List (List ℕ))
     → Walked new.nodes files folders listed (path_in folder name_text ∷ pending)
-    → Walked new.nodes files_after folders_after listed pending)
-    → IsTrue old.honest → Listing old.nodes files folders listed folder at.names
-    → Listing old.nodes files_after folders_after listed folder new.names
-turn old at new next files files_after folders folders_after listed folder name name_text before after is gives same added honest now =
-    let names : at.names ≡ name ∷ new.names = grind arith in
-    let nodes : new.nodes ≡ old.nodes = after.nodes ∙ before.nodes in
-    let was = rw names at now in
-    record {
-      walked =
-          grind (
-            arith,
-            was.there name (contains_first name new.names),
-            was.walked,
-            rw nodes at (added (after.honest ∙ before.honest ∙ honest)),
-          );
-      there = λ n h. was.there n (Contains-append_right (name ∷ []) new.names n h);
-    }
+    → Walked new.nodes files_after folders_after listed pending) where
+  pub turn : IsTrue old.honest → Listing old.nodes files folders listed folder at.names
+      → Listing old.nodes files_after folders_after listed folder new.names
+  turn honest now =
+      let names : at.names ≡ name ∷ new.names = grind arith in
+      let nodes : new.nodes ≡ old.nodes = after.nodes ∙ before.nodes in
+      let was = rw names at now in
+      record {
+        walked =
+            grind (
+              arith,
+              was.there name (contains_first name new.names),
+              was.walked,
+              rw nodes at (added (after.honest ∙ before.honest ∙ honest)),
+            );
+        there = λ n h. was.there n (Contains-append_right (name ∷ []) new.names n h);
+      }
 
 -- the next name is that of something in the folder
 pub next_there : (old at new : DiskState) (next : Option (List ℕ)) (files : List FileEntry)
@@ -261,14 +262,14 @@ pub looks_on : (old at new : DiskState) → OnlyLooks old at → OnlyLooks at ne
 looks_on old at new before after = grind arith
 
 -- what follows from the listing of a folder holds once the folder is with those that were listed
-pub folder_done : (old at : DiskState) (files : List FileEntry) (folders listed : List (List ℕ))
-    (folder text again : List ℕ) (after : List (List ℕ)) (Q : Nodes → List (List ℕ) → Type 0)
-    → IsDisk old.nodes → OnlyLooks old at → text ≡ folder → again ≡ folder → after ≡ listed ++ folder ∷ []
-    → (IsTrue old.honest → IsFolder old.nodes text → AreNamesIn old.nodes text at.names)
-    → (IsTrue at.honest → (listed : List (List ℕ)) → Listing at.nodes files folders listed again at.names
-    → Q at.nodes (listed ++ again ∷ []))
-    → IsTrue old.honest → Walked old.nodes files (folders ++ folder ∷ []) listed [] → Q old.nodes after
-folder_done old at files folders listed folder text again after Q disk looks same same_again after_is are follows honest walked = grind (arith, listing_begun)
+module _ (old at : DiskState) (files : List FileEntry) (folders listed : List (List ℕ)) (folder text again : List ℕ)
+    (after : List (List ℕ)) (Q : Nodes → List (List ℕ) → Type 0) (disk : IsDisk old.nodes) (looks : OnlyLooks old at)
+    (same : text ≡ folder) (same_again : again ≡ folder) (after_is : after ≡ listed ++ folder ∷ [])
+    (are : IsTrue old.honest → IsFolder old.nodes text → AreNamesIn old.nodes text at.names)
+    (follows : IsTrue at.honest → (listed : List (List ℕ)) → Listing at.nodes files folders listed again at.names
+    → Q at.nodes (listed ++ again ∷ [])) where
+  pub folder_done : IsTrue old.honest → Walked old.nodes files (folders ++ folder ∷ []) listed [] → Q old.nodes after
+  folder_done honest walked = grind (arith, listing_begun)
 
 -- what was found stands there
 pub all_stand : (nodes : Nodes) (files : List FileEntry) (folders listed pending : List (List ℕ))
