@@ -5,10 +5,12 @@ pub use Rattle.std.proofs.Common.{refl, rules, string_bytes, subst, suc, sym, tr
 pub use Rattle.std.proofs.Common.{◌≡◌, ◌≢◌, ◌≤◌, ◌⊎◌}
 pub use Rattle.std.proofs.lemmas.Bool.{and_from, and_parts, cases_lt, eq-eqb, eqb-true, false_from_ne_true, iff_false}
 pub use Rattle.std.proofs.lemmas.Bool.{ne_eqb, or_cases, or_left, or_right, true≢false}
+pub use Rattle.std.proofs.lemmas.Result.{IfErr-weaker, IfOk-weaker, MatchResult-from_both, err_from_is_err_and}
 pub use Rattle.std.proofs.lemmas.Slice.Eq.{bytes_eq-Decides}
 pub use Rattle.std.specs.List.{AllByRecursion, onto_first, slice_split}
 pub use Rattle.std.specs.Option.{ForSome, MatchOption, is_some, option_and_then, option_map, option_or}
 pub use Rattle.std.specs.Prelude.{Contains, find}
+pub use Rattle.std.specs.Result.{IsErrAnd, MatchResult}
 pub use Rattle.std.specs.Str.{IsUtf8, bytes_eq, is_utf8}
 pub use Rattle.std.specs.declared.cmp.Ordering.TheVariants.{Equal, Greater, Less}
 pub use Rattle.bag_text.specs.Text.{text_cmp}

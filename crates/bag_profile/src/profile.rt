@@ -67,10 +67,7 @@ impl Profile {
         ensures names { option_map (λ names. names.now) result ≡ spec.names self.now rule }
         ensures ascending { IfSome result (λ names. IsAscending names.now) }
     {
-        match self.list(rule) {
-            Some(names) => Some(names.as_slice()),
-            None => None,
-        }
+        self.list(rule).as_ref().map(|names| names.as_slice())
     }
 
     fn list(&self, rule: ListRule) -> &Option<Items<Text>>

@@ -36,16 +36,13 @@ fn json_of(alloc: Global, bytes: &[u8]) -> Result<Value, ProfileFault>
     ensures { MatchResult result (λ value. spec.json_of bytes.now ≡ Some (view value))
         (λ fault. spec.IsNoJson fault (spec.json_of bytes.now)) }
 {
-    match Value::from_slice(alloc, bytes) {
-        Ok(value) => Ok(value),
-        Err(error) => {
-            if error.is_memory() {
-                Err(ProfileFault::Memory)
-            } else {
-                Err(ProfileFault::NotJson)
-            }
+    Value::from_slice(alloc, bytes).map_err(|error| {
+        if error.is_memory() {
+            ProfileFault::Memory
+        } else {
+            ProfileFault::NotJson
         }
-    }
+    })
 }
 
 #[tactic(auto, unfolding(crate::specs::Read::profile_of))]
