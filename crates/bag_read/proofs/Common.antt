@@ -29,7 +29,7 @@ pub use Rattle.std.specs.Cmp.{IsTotalOrder, nat_cmp_is}
 pub use Rattle.std.specs.List.{AllByRecursion, IsDistinct, after_first, before_first, cons_option, enumerate_from}
 pub use Rattle.std.specs.List.{filter, join_with_byte, list_all, list_any, position_or_len, prefix_len, slice_get}
 pub use Rattle.std.specs.List.{starts_with}
-pub use Rattle.std.specs.Option.{is_some, option_copied}
+pub use Rattle.std.specs.Option.{is_some, option_copied, option_or}
 pub use Rattle.std.specs.Ordering.{is_eq, is_lt, nat_cmp, on, ordering_reverse}
 pub use Rattle.std.specs.Prelude.{Contains, IfOk, IsTrue, OkIff, decimal, filter_map, nat_le, option_and_then, ◌↔◌}
 pub use Rattle.std.specs.Str.{all_ascii_digits, byte, is_utf8, str_to_ascii_lowercase}

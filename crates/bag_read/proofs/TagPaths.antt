@@ -1,7 +1,7 @@
 -- The paths of tag files.
 use Rattle.bag_read.proofs.Common.{Bool, List, MatchOption, None, Option, Some, [], ap, append_assoc, arith, bytes_eq}
 use Rattle.bag_read.proofs.Common.{codes, false, find, get_or, refl, sym, true, ℕ, ◌++◌, ◌∙◌, ◌∷◌, ◌≡◌, ◌≢◌}
-use Rattle.bag_read.proofs.Common.{bytes_eq-Decides, list_all, slice_get, alg_named, algs, name, Alg, is_alg_text}
+use Rattle.bag_read.proofs.Common.{bytes_eq-Decides, option_or, list_all, slice_get, alg_named, algs, name, Alg, is_alg_text}
 use Rattle.bag_read.proofs.Common.{manifest_name, prefix, Kind, Payload, Tag}
 use Rattle.std.proofs.lemmas.List.Elements.{All-contains}
 use Rattle.std.proofs.lemmas.List.Sums.{AllPass-from_list_all}
@@ -61,14 +61,15 @@ pub no_manifest_by : (kind : Kind) (path text : List ℕ) → path ≡ manifest_
     → (alg : Alg) → tag_path (Manifest kind alg) ≢ path
 no_manifest_by kind path text at e alg same = grind (arith, one_text, name_named)
 
--- a path that is none of the three files, nor that of a payload manifest
-pub at_no_payload : (path : List ℕ) (r : Option TagName) → false ≡ bytes_eq path (codes "bagit.txt")
+-- what stands at a path that is none of the three files: the manifest of a kind, or of the other
+pub of_kinds : (path : List ℕ) (r o : Option TagName) → false ≡ bytes_eq path (codes "bagit.txt")
     → false ≡ bytes_eq path (codes "bag-info.txt") → false ≡ bytes_eq path (codes "fetch.txt")
-    → ((alg : Alg) → tag_path (Manifest Payload alg) ≢ path)
-    → MatchOption r ((alg : Alg) → tag_path (Manifest Tag alg) ≢ path) (λ name. tag_path name ≡ path)
-    → MatchOption r ((name : TagName) → tag_path name ≢ path) (λ name. tag_path name ≡ path)
-at_no_payload path (Some name) d i f payload found = found
-at_no_payload path None d i f payload tag =
+    → MatchOption r ((alg : Alg) → tag_path (Manifest Payload alg) ≢ path) (λ name. tag_path name ≡ path)
+    → MatchOption o ((alg : Alg) → tag_path (Manifest Tag alg) ≢ path) (λ name. tag_path name ≡ path)
+    → MatchOption (option_or r o) ((name : TagName) → tag_path name ≢ path) (λ name. tag_path name ≡ path)
+of_kinds path (Some name) o d i f found tag = found
+of_kinds path None (Some name) d i f payload found = found
+of_kinds path None None d i f payload tag =
     elim [
       | Manifest kind alg ↦ elim kind as (λ k. tag_path (Manifest k alg) ≢ path)
           [ Payload ↦ payload alg | Tag ↦ tag alg ]

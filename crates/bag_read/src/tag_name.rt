@@ -46,10 +46,7 @@ impl TagName {
         } else if path == FETCH {
             Some(TagName::Fetch)
         } else {
-            match manifest_at(Kind::Payload, path) {
-                Some(name) => Some(name),
-                None => manifest_at(Kind::Tag, path),
-            }
+            manifest_at(Kind::Payload, path).or(manifest_at(Kind::Tag, path))
         }
     }
 

@@ -94,10 +94,8 @@ impl Sums {
         ensures { MatchOption result (sum_at self.now alg ≡ None) (λ bytes.
             (length bytes.now ≤ 64) × (sum_at self.now alg ≡ Some (encode_lower bytes.now))) }
     {
-        match &self.digests[usize::from(alg.rank()) - 1] {
-            Some(digest) => Some(&digest[..alg.hex_len() / 2]),
-            None => None,
-        }
+        let digest = self.digests[usize::from(alg.rank()) - 1].as_ref()?;
+        Some(&digest[..alg.hex_len() / 2])
     }
 }
 
