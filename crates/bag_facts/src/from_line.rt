@@ -149,10 +149,7 @@ fn read_line_number(field: &str) -> Result<u64, CursorFault>
     if field == "-" {
         return Ok(0);
     }
-    match field.parse() {
-        Ok(line) => Ok(line),
-        Err(_) => Err(CursorFault::NotALine),
-    }
+    field.parse().map_err(|_| CursorFault::NotALine)
 }
 
 /// The text that is written so, or some text written otherwise.
