@@ -160,7 +160,9 @@ pub fn unescape_path(alloc: Global, rules: Rules, text: &str) -> Result<String, 
 /// Whether a text is the path that it is written for: by the rules of 1.0 where it has no `%`. By
 /// those of 0.97 it isn't looked at.
 pub fn is_written_as_itself(rules: Rules, text: &str) -> bool
-    ensures { IsTrue result → spelled.unescaped rules text.now ≡ Some text.now }
+    ensures itself { IsTrue result → spelled.unescaped rules text.now ≡ Some text.now }
+    ensures no_percent { rules ≡ Rules.V10
+        → list_all (λ c. not (c == spelled.percent)) text.now ≡ true → IsTrue result }
 {
     match rules {
         Rules::V10 => has_no_percent(text.as_bytes()),
