@@ -1,5 +1,6 @@
 //! Texts that are at hand, so that equal ones take no memory of their own.
-ghost use Rattle.std.specs.Prelude.{◌≡◌, IfOk, IfSome};
+ghost use Rattle.std.specs.Prelude.{◌≡◌, ◌++◌, ◌∷◌, [], IfOk, IfSome, OnOk};
+ghost use Rattle.bag_text.specs.Pool.{pool_runs, run_bytes};
 
 use crate::Text;
 use memchr::{memchr, memrchr};
@@ -26,7 +27,9 @@ pub struct Pool {
 
 impl Pool {
     /// The pool of no text, which takes no memory.
-    pub fn empty(alloc: Global) -> Pool {
+    pub fn empty(alloc: Global) -> Pool
+        ensures { pool_runs result ≡ [] }
+    {
         Pool {
             wholes: Vec::new(alloc),
             next: Cell::new((0, 0)),
@@ -34,7 +37,9 @@ impl Pool {
     }
 
     /// Adds the texts of a run, which stand after those that it has.
-    pub fn add(&mut self, run: Run) -> Result<(), AllocError> {
+    pub fn add(&mut self, run: Run) -> Result<(), AllocError>
+        ensures { OnOk result (pool_runs self.new ≡ pool_runs self.old ++ run_bytes run ∷ []) }
+    {
         let Run { whole } = run;
         self.wholes.push(RcStr::from_string(whole)?)?;
         Ok(())
@@ -139,14 +144,18 @@ pub struct Run {
 
 impl Run {
     /// For texts that have so many bytes together, each with one more. For more it grows.
-    pub fn with_room(alloc: Global, bytes: usize) -> Result<Run, AllocError> {
+    pub fn with_room(alloc: Global, bytes: usize) -> Result<Run, AllocError>
+        ensures { IfOk result (λ run. run_bytes run ≡ []) }
+    {
         Ok(Run {
             whole: String::with_capacity(alloc, bytes)?,
         })
     }
 
     /// Puts a text at the end.
-    pub fn push(&mut self, text: &str) -> Result<(), AllocError> {
+    pub fn push(&mut self, text: &str) -> Result<(), AllocError>
+        ensures { OnOk result (run_bytes self.new ≡ run_bytes self.old ++ text.now ++ 0 ∷ []) }
+    {
         self.whole.push_str(text)?;
         self.whole.push(END)?;
         Ok(())
