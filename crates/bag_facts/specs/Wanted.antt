@@ -58,7 +58,7 @@ OpensUpTo options files path old new =
     × AreWanted options files (before ++ path ∷ after)
     × IsRefusedAt (old.openings ++ before) path new
 
--- so it is for a listing that the tree gave, in an honest tree that of its bag
+-- so it is for some ordered listing, which of an honest tree is its bag's
 abbrev pub ForListing : TreeState → (List FileEntry → Type 0) → Type 0
 ForListing old IsSo =
     (listing : Listing) × IsOrdered listing.files

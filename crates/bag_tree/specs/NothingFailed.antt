@@ -3,8 +3,7 @@ use Rattle.std.specs.Prelude.{◌≡◌, ◌⊎◌, None, Some}
 use Rattle.bag_tree.specs.Tree.{TreeState, refusal_of}
 use Rattle.bag_tree.specs.declared.tree_fault.TreeFault.TheVariants.{Memory}
 
--- Nothing was refused: the device didn't fail, and nothing was asked of the tree, or its last
--- answer is no refusal.
+-- the device didn't fail, and the tree's last answer is no refusal, or nothing was asked of it
 pub record NothingFailed (old new : TreeState) : Type 0 where
   pub failures : new.failures ≡ old.failures
   pub last : (new ≡ old) ⊎ (refusal_of new.last ≡ None)

@@ -2,7 +2,7 @@
 use Rattle.bag_walk.proofs.Common.{◌≡◌, ◌<◌, ◌≤◌, ◌++◌, ◌∷◌, ℕ, zero, suc, List, [], Option, length, min, take}
 use Rattle.bag_walk.proofs.Common.{slice_get, refl, sym, ap, ◌∙◌, subst, arith, concat, OutState, Stop, Fault, closing}
 use Rattle.bag_walk.proofs.Common.{MayEnd, ended, ideal, limit_of, written, Closes, Outcome, Request, ClosesSegment}
-use Rattle.bag_walk.proofs.Common.{IsSegment, IfStopped, Segment, AtEnd, length-take-le, common_steps, take-map}
+use Rattle.bag_walk.proofs.Common.{IsSegment, IfRunUnread, Segment, AtEnd, length-take-le, common_steps, take-map}
 use Rattle.bag_walk.proofs.Common.{take-take, inl, inr, length-map, Some, nat_le, nat_tests, Appends, count_of}
 use Rattle.bag_walk.proofs.Common.{written_line, lines_of_run, ReachesEnd, Wrote, WritesReport, take_at}
 use Rattle.bag_walk.specs.declared.outcome.Outcome.TheVariants as outcome
@@ -158,8 +158,8 @@ module _ (request : Request) (faults : List Fault) (before mid : OutState) (segm
 
 -- a closing line leaves the outcome's stop
 pub told_by : (P : Stop → Type 0) (request : Request) (ending result : Outcome) (before after : OutState)
-    → Closes request ending before after result → IfStopped ending P → IfStopped result P
+    → Closes request ending before after result → IfRunUnread ending P → IfRunUnread result P
 told_by P request ending result before after c told = grind arith
 
-pub end_has_no_stop : (P : Stop → Type 0) (cursor : Option Fault) (n : ℕ) → IfStopped (ended cursor n) P
+pub end_has_no_stop : (P : Stop → Type 0) (cursor : Option Fault) (n : ℕ) → IfRunUnread (ended cursor n) P
 end_has_no_stop P cursor n = grind arith

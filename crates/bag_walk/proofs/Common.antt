@@ -116,7 +116,7 @@ pub use Rattle.bag_walk.specs.Source.{AllBelow, MayStopAnyway, MayStopFilling, S
 pub use Rattle.bag_walk.specs.Start.{AreAheadBefore, IsListedToOpen, IsStarted, IsToOpen}
 pub use Rattle.bag_walk.specs.Steps.{Gives, IsAhead, IsNextOf, LendsNext, MayStopStep, IsReportAfter, left, shown}
 pub use Rattle.bag_walk.specs.Steps.{shown_by, to_give, went}
-pub use Rattle.bag_walk.specs.Stops.{IfStopped, MayStop}
+pub use Rattle.bag_walk.specs.Stops.{IfRunUnread, MayStop}
 pub use Rattle.bag_walk.specs.ToSum.{faults_at, faults_in, faults_of_files, paths_to_sum}
 pub use Rattle.bag_walk.specs.Union.{first_of_union, rest_alone, rest_equal, rest_greater, rest_less, rest_other}
 pub use Rattle.bag_walk.specs.Validity.{AreFilesOf, IsOfBag, is_passed}

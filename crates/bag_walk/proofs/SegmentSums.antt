@@ -1,7 +1,7 @@
 -- What segments come to where none is unread, and what an answer says of those that are.
 use Rattle.bag_walk.proofs.Common.{◌≡◌, ◌≢◌, ◌<◌, ◌≤◌, ◌+◌, ◌-◌, ◌∷◌, inl, inr, ℕ, cond, List, [], None, length, min}
 use Rattle.bag_walk.proofs.Common.{take, nat_le, arith, sum, nat_tests, sum_by-cons, Fault, Stop, count_of, ended}
-use Rattle.bag_walk.proofs.Common.{IfStopped, Outcome, Stopped, Unread, Unwritten, SegmentsFrom, cost, MayLose, refl}
+use Rattle.bag_walk.proofs.Common.{IfRunUnread, Outcome, Stopped, Unread, Unwritten, SegmentsFrom, cost, MayLose, refl}
 use Rattle.bag_walk.proofs.Common.{sym, ap, ◌∙◌, subst}
 use Rattle.bag_walk.specs.SegmentLaws.{AnswersTellUnread, SegmentsAddUp}
 
@@ -70,10 +70,10 @@ module _ (report : List Fault) (Stops : Stop → Type 0) where
   -- where the last limit alone isn't 0
   alone : (m : ℕ) (limits : List ℕ) (u r n : ℕ) (outcome : Outcome) (u' r' n' : ℕ) (outcome' : Outcome)
       → sum (take (length limits) (m ∷ limits)) ≡ 0
-      → IfStopped outcome' (λ stop. ⊥) → SegmentsFrom report Stops u r n outcome (m ∷ limits) u' r' n' outcome' → r' ≡ r
+      → IfRunUnread outcome' (λ stop. ⊥) → SegmentsFrom report Stops u r n outcome (m ∷ limits) u' r' n' outcome' → r' ≡ r
   alone m [] u r n outcome u' r' n' outcome' none read (inl (full, (lost, unread, count, last))) = unread
   alone m [] u r n outcome u' r' n' outcome' none read (inr (inr (inl (j, stop, less, most, stops, (lost, unread, count, last))))) =
-      absurd (subst (λ (o : Outcome). IfStopped o (λ stop. ⊥)) last read)
+      absurd (subst (λ (o : Outcome). IfRunUnread o (λ stop. ⊥)) last read)
   alone m (next ∷ limits) u r n outcome u' r' n' outcome' none read (inl (full, rest)) =
       alone next limits u r (n + m) (Stopped (n + m)) u' r' n' outcome'
       (omega (arith, none, sum_by-cons (λ (x : ℕ). x) m (take (length limits) (next ∷ limits)))) read rest
@@ -83,7 +83,7 @@ module _ (report : List Fault) (Stops : Stop → Type 0) where
   alone m limits u r n outcome u' r' n' outcome' none read (inr (inr (inr (j, less, within, lost, unread, count, last)))) = unread
 
   alone_of : (limits : List ℕ) (u r n : ℕ) (outcome : Outcome) → sum (take (length limits - 1) limits) ≡ 0
-      → IfStopped outcome (λ stop. ⊥) → SegmentsFrom report Stops 0 0 0 (Stopped 0) limits u r n outcome → r ≡ 0
+      → IfRunUnread outcome (λ stop. ⊥) → SegmentsFrom report Stops 0 0 0 (Stopped 0) limits u r n outcome → r ≡ 0
   alone_of [] u r n outcome none read are = are.1
   alone_of (m ∷ limits) u r n outcome none read are =
       let one_less : length (m ∷ limits) - 1 ≡ length limits =

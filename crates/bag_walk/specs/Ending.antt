@@ -73,7 +73,7 @@ ReachesEnd (Stopped n) = ⊥
 ReachesEnd (Unread n stop) = ⊥
 ReachesEnd (Unwritten n) = ⊥
 
--- the tree refused nothing that the run asked of it
+-- the run ended by no refusal of the tree
 abbrev pub IsAnswered : Outcome → Type 0
 IsAnswered Clean = ⊤
 IsAnswered (Faults n) = ⊤

@@ -28,7 +28,7 @@ use Rattle.bag_walk.specs.Openings.{NoFaultBefore}
 use Rattle.bag_walk.specs.Start.{AreToOpen}
 use Rattle.bag_walk.specs.Validity.{is_passed}
 use Rattle.bag_walk.specs.Run.{check_of, ForReportAsked, IsAsked}
-use Rattle.bag_walk.specs.Stops.{IfStopped}
+use Rattle.bag_walk.specs.Stops.{IfRunUnread}
 
 -- Tag files were read, each once at most and in path order, and then at depth Full files were
 -- summed, each once at most and in path order: files that are there and that manifests name, where
@@ -69,7 +69,7 @@ OpensNonePassed after old new =
 abbrev pub written_before : Request → Outcome → ℕ
 written_before request outcome = min (count_of outcome) (limit_of request - 1)
 
--- As the run ended, each fault that stands before a file of the payload that was opened had its
+-- As the run ended, each fault that stands before a file that was opened for its digests had its
 -- line written; and where the limit was reached none was opened after the file of the last line.
 abbrev pub OpensInTurn : TreeState → TreeState → Option Profile → Request → Outcome → Type 0
 OpensInTurn old new profile request outcome = ForReportAsked old profile request (λ report.
@@ -101,7 +101,7 @@ pub record OpensUpToSummed (old new : TreeState) (profile : Option Profile) (req
 -- files that are read, or also those whose digests are compared.
 abbrev pub StopsInTurn : TreeState → TreeState → Option Profile → Request → Outcome → Type 0
 StopsInTurn old new profile request outcome =
-    IfStopped outcome (λ stop. stop.path ≢ []
+    IfRunUnread outcome (λ stop. stop.path ≢ []
     → ForListing old (λ files. OpensUpTo request.options files stop.path old new)
     ⊎ OpensUpToSummed old new profile request (count_of outcome) stop.path)
 

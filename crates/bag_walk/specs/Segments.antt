@@ -20,7 +20,7 @@ use Rattle.bag_walk.specs.declared.outcome.Outcome.TheVariants.{Stopped, Unread,
 use Rattle.bag_walk.specs.Lines.{IsLastLine, cursor_after}
 use Rattle.bag_walk.specs.Segment.{IsSegment}
 use Rattle.bag_walk.specs.SegmentOpenings.{AreListed, OpensFew}
-use Rattle.bag_walk.specs.Stops.{IfStopped, IsOfSummed}
+use Rattle.bag_walk.specs.Stops.{IfRunUnread, IsOfSummed}
 use Rattle.bag_walk.specs.declared.segment.Segment.{Segment}
 use Rattle.bag_walk.specs.declared.segment.SegmentEnd.{SegmentEnd}
 use Rattle.bag_walk.specs.declared.segment.SegmentEnd.TheVariants as end_of
@@ -84,7 +84,7 @@ pub record MayLose (options : Options) (old new : TreeState) (stop : Stop) : Typ
 -- reported only where the tree reported it or refused nothing.
 abbrev pub IsStopped : Options → List ℕ → TreeState → TreeState → Outcome → Type 0
 IsStopped options before old new outcome =
-    IfStopped outcome (λ stop. MayLose options old new stop × ReportsAnswer new stop
+    IfRunUnread outcome (λ stop. MayLose options old new stop × ReportsAnswer new stop
     × (sum before ≡ 0 → stop.cause ≡ Memory → MayReportMemory old new))
 
 -- What the segments of these limits write of a report, how the last ends, and which payload files

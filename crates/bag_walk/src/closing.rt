@@ -88,7 +88,8 @@ fn put_cause<W: Out>(stop: &Stop, count: u64, out: &mut W) -> Result<(), Refused
     )
 }
 
-/// Hands a text to the output as a field of a line, and then the pieces. It takes no memory.
+/// Hands a text to the output as a field of a line, and then the pieces, with no line end of its
+/// own. It takes no memory.
 pub fn put_line<W: Out>(text: &str, pieces: &[&str], out: &mut W) -> Result<(), Refused>
     ensures { Writes (W.state out.old) (W.state out.new)
         (field text.now ++ joined_pieces pieces.now) result }

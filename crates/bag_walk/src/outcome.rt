@@ -23,7 +23,8 @@ pub struct Request {
 /// How a run ended, with the number of fault lines that it wrote.
 #[derive(Debug, Drop)]
 pub enum Outcome {
-    /// There was no cursor, the end of the report was reached, and the bag has no fault.
+    /// There was no cursor, the end of the report was reached, and the bag has no fault that was
+    /// asked for.
     Clean,
     /// There was no cursor, and the end of the report was reached.
     Faults(u64),

@@ -9,7 +9,7 @@ ghost use Rattle.bag_walk.specs.Openings.{NoFaultBeforeStop, OpensAgain, OpensNo
 ghost use Rattle.bag_walk.specs.Steps.{left, to_open, ForEachBag, WalkIsOfHonest};
 ghost use Rattle.bag_walk.specs.RunOpenings.{written_before};
 ghost use Rattle.bag_walk.specs.Segment.{MayStopRun, WritesWithoutFailure};
-ghost use Rattle.bag_walk.specs.Stops.{IfStopped};
+ghost use Rattle.bag_walk.specs.Stops.{IfRunUnread};
 ghost use Rattle.bag_walk.specs.WholeRun.{IsRunOver};
 
 use crate::cursor::copy_of_cursor;
@@ -24,9 +24,9 @@ use std::alloc::Global;
 ///
 /// A fault's line is handed to the output before the next file is opened. Each line ends in LF, and
 /// is one write where the output takes it whole; the closing line takes no memory. At depth `Full`
-/// each file that a manifest names and that the cursor hasn't passed is opened once at most, for
-/// all its algorithms together, after the lines of stages 1 to 6 were written; where these reach
-/// the limit, none is. The tree comes back, with the last file that was read open.
+/// each file that a manifest names and that the cursor hasn't passed is opened once at most for its
+/// digests, all its algorithms together, after the lines of stages 1 to 6 were written; where these
+/// reach the limit, none is. The tree comes back, with the last file that was read open.
 pub fn run<T: Tree, W: Out>(
     alloc: Global,
     tree: T,
@@ -74,9 +74,9 @@ fn run_of_walk<T: Tree, S: InOrder<T> + Drop, W: Out>(
         (MayStopRun (WalkIsOfHonest T.Tree S.Source walk) (to_open S.Source walk)
         (T.state walk.tree) (T.state result.0))
         (T.state walk.tree) (T.state result.0) (W.state out.old) (W.state out.new) result.1 }
-    ensures waits { IfStopped result.1 (λ stop. ForEachBag T.Tree S.Source walk (λ bag.
+    ensures waits { IfRunUnread result.1 (λ stop. ForEachBag T.Tree S.Source walk (λ bag.
         NoFaultBeforeStop (drop (count_of result.1) (left S.Source bag walk)) stop.path)) }
-    ensures stop { IfStopped result.1 (MayStopRun (WalkIsOfHonest T.Tree S.Source walk)
+    ensures stop { IfRunUnread result.1 (MayStopRun (WalkIsOfHonest T.Tree S.Source walk)
         (to_open S.Source walk) (T.state walk.tree) (T.state result.0)) }
 {
     let mut walk = walk;

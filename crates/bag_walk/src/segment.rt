@@ -14,7 +14,7 @@ ghost use Rattle.bag_walk.specs.Steps.{left, to_open, ForEachBag, WalkIsOfHonest
 ghost use Rattle.bag_walk.specs.Lines.{IsLastOf, IsLastLine};
 ghost use Rattle.bag_walk.specs.Segment.{ClosesSegment, IfUnread, IsRead, IsSegment};
 ghost use Rattle.bag_walk.specs.Segment.{MayStopWalk, StopsAt, still_to_come};
-ghost use Rattle.bag_walk.specs.Stops.{IfStopped};
+ghost use Rattle.bag_walk.specs.Stops.{IfRunUnread};
 ghost use Rattle.bag_facts.specs.FaultOrder.{IsFault};
 ghost use Rattle.bag_walk.specs.Writer.{Closes};
 ghost use Rattle.bag_walk.specs.Write.{Writes, joined_pieces};
@@ -122,7 +122,7 @@ pub(crate) fn close_segment<W: Out>(request: &Request, segment: Segment, out: &m
         → IsSegment faults (limit_of request.now) began (W.state out.old) segment
         → ClosesSegment request.now faults segment began (W.state out.new) result }
     ensures count { count_of result ≡ segment.written }
-    ensures stop { IfStopped result (StopsAt segment) }
+    ensures stop { IfRunUnread result (StopsAt segment) }
 {
     let Segment { written, end } = segment;
     match end {
