@@ -1,4 +1,4 @@
--- What checks and makings of honest disks tell.
+-- What checks and makings of honest disks report.
 use Rattle.std.specs.Prelude.{ℕ, ◌≡◌, ◌≢◌, IsTrue, List, [], ◌∷◌, Option, None, length, map, min}
 use Rattle.std.specs.Io.KnownBytes.{Appends}
 use Rattle.std.specs.List.{concat}
@@ -34,21 +34,21 @@ reported_lines request faults =
 -- Unless a read, a write or a growth was refused, the output took the lines of the bag's report
 -- above the cursor, up to the limit, and the closing line, and the status tells whether there are
 -- faults.
-abbrev pub TellsReport : Plan → Option Profile → Bag → List ℕ → OutState → OutState → ℕ → Type 0
-TellsReport plan profile bag name before after n =
+abbrev pub GivesReport : Plan → Option Profile → Bag → List ℕ → OutState → OutState → ℕ → Type 0
+GivesReport plan profile bag name before after n =
     let request = request_of plan name in
     n ≢ 3 → (report : List Fault) → IsReport (check_of bag profile request) report
     → (n ≡ status (ideal request (above plan.after report)))
     × Appends before.taken after.taken (concat (reported_lines request (above plan.after report)))
 
--- the law: over an honest disk, the check of one directory tells the report of the bag that stands
+-- the law: over an honest disk, the check of one directory gives the report of the bag that stands
 -- there
 abbrev pub HonestDisksAreReported : Type 0
 HonestDisksAreReported =
     (plan : Plan) (profile : Option Profile) (below : List ℕ → DiskState) (name : List ℕ)
     (before after : OutState) (visits : List Event) (n : ℕ) → IsTrue (below name).honest
     → AreChecksOf plan profile (λ name. tree_state (below name) 0) (name ∷ []) before after visits n
-    → TellsReport plan profile (bag_of (below name).nodes) name before after n
+    → GivesReport plan profile (bag_of (below name).nodes) name before after n
 
 -- The folder's tree was left as the bag that the plan makes of what stood there, which has no fault
 -- where its size can be known and outlasts a power cut. That was said, but for a quiet making.

@@ -59,7 +59,7 @@ abbrev pub OfBag : Facts → (Bag → Type 0) → Type 0
 OfBag facts IsSo = (bag : Bag) → IsFactsOf bag facts → facts.options.depth ≢ depth_of.Declaration
     → IsSo bag
 
--- the rules that the declaration among files that were read tells, and those of 1.0 where it isn't
+-- the rules that the declaration among files that were read gives, and those of 1.0 where it isn't
 -- among them
 abbrev pub AreRulesOf : List TagBytes → Rules → Type 0
 AreRulesOf read rules =
@@ -74,6 +74,6 @@ AreParsed rules (file ∷ read) (tag ∷ tags) = IsParsed rules file tag × AreP
 AreParsed rules [] (tag ∷ tags) = ⊥
 AreParsed rules (file ∷ read) [] = ⊥
 
--- so it is by the rules that they tell themselves
+-- so it is by the rules that they give themselves
 abbrev pub AreJudged : List TagBytes → List TagFacts → Type 0
 AreJudged read tags = (rules : Rules) × AreRulesOf read rules × AreParsed rules read tags

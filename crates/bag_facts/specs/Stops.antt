@@ -48,14 +48,14 @@ abbrev pub IsRefusedFile : Options → TreeState → Stop → Type 0
 IsRefusedFile options old stop =
     IsWanted options stop.path × (IsTrue old.honest → HasFile old.bag stop.path)
 
--- A stop tells what the tree answered last: where it names no file that the listing was refused,
+-- A stop says what the tree answered last: where it names no file that the listing was refused,
 -- and where it names one that a file was. Out of memory may be the caller's own, and names none.
 abbrev pub ReportsAnswer : TreeState → Stop → Type 0
 ReportsAnswer new stop =
     IsOutOfMemory stop ⊎ ((stop.path ≡ []) × (new.last ≡ Unlisted stop.cause))
     ⊎ ((stop.path ≢ []) × CameFromFile new stop.cause)
 
--- A stop tells the cause, which is the tree's own answer but for out of memory, and the file that
+-- A stop names the cause, which is the tree's own answer but for out of memory, and the file that
 -- was refused. It names none when out of memory, and where it was the listing that was refused. Out
 -- of memory is reported only where the tree reported it or refused nothing.
 pub record MayStopReading (options : Options) (old new : TreeState) (stop : Stop) : Type 0 where

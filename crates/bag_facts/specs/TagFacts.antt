@@ -76,7 +76,7 @@ pub record IsParsed (rules : Rules) (file : TagBytes) (tag : TagFacts) : Type 0 
   pub name : name_of tag ≡ file.name
   pub says : SaysOfTagFile rules file.bytes.items tag
 
--- whether it is UTF-8, but for the declaration, of which its faults tell
+-- whether it is UTF-8, but for the declaration, which its faults report
 abbrev pub text_test : TagFacts → Option Bool
 text_test (facts.Declaration declaration) = None
 text_test (facts.Info metadata) = Some metadata.is_text

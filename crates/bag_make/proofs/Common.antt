@@ -108,7 +108,7 @@ pub use Rattle.bag_make.specs.PowerCut.{HasAllFiles, LastsForGood, OutlastsCuts}
 pub use Rattle.bag_make.specs.Request.{AreTexts}
 pub use Rattle.bag_make.specs.Steps.{AllAsk, CanTake, CanTakeAll, HasDone, HasLeft, HasTaken, IsStep, RefusedAsks}
 pub use Rattle.bag_make.specs.Steps.{StepAsks, after_steps, change, new_folder}
-pub use Rattle.bag_make.specs.Stops.{IsAtFile, MayStopMaking, StopsSumming, TellsOneFile}
+pub use Rattle.bag_make.specs.Stops.{IsAtFile, MayStopMaking, StopsSumming, RefusesOneFile}
 pub use Rattle.bag_make.specs.Summed.{AreSummed, AreSummedFiles, HasItsSums, IsSummedEntry, OpensFirstOf, entry_of_file}
 pub use Rattle.bag_make.specs.Summed.{summed_entry}
 pub use Rattle.bag_make.specs.Texts.{info_of, manifests_of, named_of, size_of}

@@ -1,7 +1,7 @@
 -- A refusal is reported of one file.
 use Rattle.bag_make.proofs.Common.{ℕ, ◌≡◌, ◌<◌, ◌+◌, ◌++◌, ◌∷◌, inl, inr, List, [], Some, is_some, true, false, take}
 use Rattle.bag_make.proofs.Common.{length, slice_get, ap, sym, ◌∙◌, arith, length-append, length-take, slice_get_within}
-use Rattle.bag_make.proofs.Common.{TellsOneFile}
+use Rattle.bag_make.proofs.Common.{RefusesOneFile}
 
 -- as many files were opened before
 module _ (paths old : List (List ℕ)) (k l : ℕ) (one other : List ℕ) (at : slice_get paths k ≡ Some one)
@@ -30,7 +30,7 @@ module _ (paths old : List (List ℕ)) (k l : ℕ) (one other : List ℕ) (at : 
         size l (slice_get_within paths l other too),
       ))
 
-pub tells_one_file : TellsOneFile
+pub tells_one_file : RefusesOneFile
 tells_one_file paths old new one other (k, at, inl (closed, e)) (l, too, inl (shut, f)) =
     same_closed paths old.openings k l one other at too (sym e ∙ f)
 tells_one_file paths old new one other (k, at, inl (closed, e)) (l, too, inr (is, f)) =

@@ -19,8 +19,8 @@ IsAtFile paths old new path =
     (k : ℕ) × (slice_get paths k ≡ Some path) × IsRefusedAt (old.openings ++ take k paths) path new
 
 -- the law: a refusal can be reported of one file alone
-abbrev pub TellsOneFile : Type 0
-TellsOneFile =
+abbrev pub RefusesOneFile : Type 0
+RefusesOneFile =
     (paths : List (List ℕ)) (old new : TreeState) (one other : List ℕ) → IsAtFile paths old new one
     → IsAtFile paths old new other → one ≡ other
 
@@ -41,7 +41,7 @@ IsOfFolder old new stop =
     → IsAtFile (map (λ e. e.0) (files_of old.bag)) old new stop.path
     × (is_in_the_way old.bag ≡ false))
 
--- A stop tells the cause, which is the tree's own answer, and the file that was refused; none where
+-- A stop names the cause, which is the tree's own answer, and the file that was refused; none where
 -- it was the listing.
 pub record MayStopMaking (old new : TreeState) (stop : Stop) : Type 0 where
   pub cause : MayRefuseFacts old new stop.cause

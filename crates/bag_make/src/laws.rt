@@ -2,7 +2,7 @@
 ghost use Rattle.bag_make.specs.Plan.{StepsMake};
 ghost use Rattle.bag_make.specs.Contents.{MadeHasTheseFiles, MadeHasTheseFolders, ManifestsAscend};
 ghost use Rattle.bag_make.specs.Contents.{PayloadIsTheFolder};
-ghost use Rattle.bag_make.specs.Stops.{TellsOneFile};
+ghost use Rattle.bag_make.specs.Stops.{RefusesOneFile};
 ghost use Rattle.bag_make.specs.Valid.{MadeIsValid};
 
 /// All steps together make the bag, of each folder in which nothing has the name of the folder that
@@ -43,5 +43,5 @@ pub fn a_made_bag_has_no_fault()
 /// The refusal of a file that was to be read is reported of one path alone: no other file can be
 /// named for it.
 pub fn a_refusal_tells_one_file()
-    ensures { TellsOneFile }
+    ensures { RefusesOneFile }
 {}

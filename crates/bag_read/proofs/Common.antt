@@ -88,7 +88,7 @@ pub use Rattle.bag_read.specs.Oxum.{IsOxum, OxumsReadAsTheirParts, WritesNumber,
 pub use Rattle.bag_read.specs.Reason.{IsFirst, Reason, decoded_or}
 pub use Rattle.bag_text.specs.FirstFault.{◌>>=◌}
 pub use Rattle.bag_read.specs.Repeats.{PathsAscend, AreDifferent, IsReadOnce, IsRepeatedLine, NamesBelow, RepeatsBelow}
-pub use Rattle.bag_read.specs.Repeats.{TellsRepeats, fingerprint, mark_of}
+pub use Rattle.bag_read.specs.Repeats.{FindsRepeats, fingerprint, mark_of}
 pub use Rattle.bag_read.specs.declared.fetch.FetchEntry.{FetchEntry}
 pub use Rattle.bag_read.specs.declared.info.Element.{Element}
 pub use Rattle.bag_read.specs.declared.kind.Kind.{Kind}

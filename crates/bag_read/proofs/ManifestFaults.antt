@@ -5,7 +5,7 @@ use Rattle.bag_read.proofs.Common.{nat_cmp, on, is_utf8, nothing_listed, one_lis
 use Rattle.bag_read.proofs.Common.{lines_of_file, lines_of_text, IsListOf, IsNoText, IsText, text_of, Alg, Code}
 use Rattle.bag_read.proofs.Common.{NamedAgain, NotUtf8, Rules, AreFaults, entries_read, faults_read, line_fault_cmp}
 use Rattle.bag_read.proofs.Common.{not_utf8, IsEntry, IsManifestFault, ManifestFault, named, named_before, Reason}
-use Rattle.bag_read.proofs.Common.{IsReadOnce, TellsRepeats, Kind, LineFault, ManifestEntry, manifest_line}
+use Rattle.bag_read.proofs.Common.{IsReadOnce, FindsRepeats, Kind, LineFault, ManifestEntry, manifest_line}
 use Rattle.bag_read.specs.Manifest.{HasManifestReason, manifest_entry_in}
 use Rattle.bag_read.proofs.FaultOrder.{is_fault}
 use Rattle.bag_read.proofs.LinesRead.{IsRead, IsUnread, entries_listed, faults_listed}
@@ -38,7 +38,7 @@ module _ (rules : Rules) (kind : Kind) (alg : Alg) where
         × (reason.0 ≡ NamedAgain) × (reason.1 ≡ said.1))
     why n line reason h = grind (arith, manifest_line, err_same)
 
-    module _ (all : List (List ℕ)) (tells : TellsRepeats rules kind alg all names_again) where
+    module _ (all : List (List ℕ)) (tells : FindsRepeats rules kind alg all names_again) where
       entry_read : (e : ManifestEntry) → IsRead reads all line_of e → IsEntry rules kind alg all e
       entry_read e (line, at, (some, is)) =
           let p = entry_parts e.line line e is in (
@@ -62,7 +62,7 @@ module _ (rules : Rules) (kind : Kind) (alg : Alg) where
           is_entry (entries_listed reads all line_of numbered)
 
     module _ (bytes : List ℕ) (is_utf8 : IsText bytes)
-        (tells : TellsRepeats rules kind alg (lines_of_file bytes) names_again) where
+        (tells : FindsRepeats rules kind alg (lines_of_file bytes) names_again) where
       abbrev all : List (List ℕ)
       all = lines_of_file bytes
 
@@ -128,7 +128,7 @@ module _ (rules : Rules) (kind : Kind) (alg : Alg) where
     abbrev pub is_named_before : ℕ → List ℕ → Bool
     is_named_before n path = list_any (bytes_eq path) (named_before rules kind alg all n)
 
-    pub named_before_tells : TellsRepeats rules kind alg all is_named_before
+    pub named_before_tells : FindsRepeats rules kind alg all is_named_before
     named_before_tells n line digest path at reads = (
       λ t. let (p, c, e) =
           from_any (bytes_eq path) (named_before rules kind alg all n) t in rw ((bytes_eq-Decides path p).0 e) c,

@@ -6,7 +6,7 @@ use Rattle.bag_read.proofs.Common.{get_or_from_slice_get, slice_get-get_or, slic
 use Rattle.bag_read.proofs.Common.{IsTotalOrder, IsDistinct, slice_get, is_eq, is_lt, nat_cmp, on, Contains, IsTrue}
 use Rattle.bag_read.proofs.Common.{◌↔◌, Less, IsLine, IsListOf, text_cmp, Alg, Rules, entries_read, ReadsManifest}
 use Rattle.bag_read.proofs.Common.{named_before, PathsAscend, AreDifferent, IsRepeatedLine, NamesBelow, RepeatsBelow}
-use Rattle.bag_read.proofs.Common.{TellsRepeats, fingerprint, mark_of, Kind, ManifestEntry}
+use Rattle.bag_read.proofs.Common.{FindsRepeats, fingerprint, mark_of, Kind, ManifestEntry}
 use Rattle.std.specs.List.Sorted.{IsPermutation, IsSortedBy, IsStrictlyIncreasing}
 use Rattle.std.specs.Cmp.Rules.{comparing}
 use Rattle.std.proofs.lemmas.List.Sorted.{IsPermutation-sym, sorted_far, ranks_by}
@@ -141,7 +141,7 @@ module _ (rules : Rules) (kind : Kind) (alg : Alg) (all : List (List ℕ)) (at_f
   -- lines that are found to name a path again among these entries tell repeats
   pub repeats_told : (names_again : ℕ → List ℕ → Bool)
       → ((n : ℕ) (path : List ℕ) → IsTrue (names_again n path) ↔ IsRepeatedLine items n)
-      → TellsRepeats rules kind alg all names_again
+      → FindsRepeats rules kind alg all names_again
   repeats_told names_again is n line digest path at reads =
       (λ t. to ((is n path).0 t), λ c. (is n path).1 (from (named_earlier rules kind alg all n path c)))
     where
@@ -168,7 +168,7 @@ module _ (rules : Rules) (kind : Kind) (alg : Alg) (all : List (List ℕ)) (at_f
       (rw (get_or_from_slice_get items j d e before, get_or_from_slice_get items i e e there) same)
 
   -- where the entries' paths are all different, none is named again
-  pub different_told : AreDifferent items → TellsRepeats rules kind alg all at_first
+  pub different_told : AreDifferent items → FindsRepeats rules kind alg all at_first
   different_told different =
       repeats_told at_first (λ n path.
       (λ t. absurd (clash (at_first n path) t (none_known n path)), λ r. absurd (none_repeated different n r)))

@@ -48,9 +48,9 @@ RepeatsBelow entries k n =
 abbrev pub IsRepeatedLine : List ManifestEntry → ℕ → Type 0
 IsRepeatedLine entries n = RepeatsBelow entries (length entries) n
 
--- the test tells of each line that reads whether an earlier line names its path
-abbrev pub TellsRepeats : Rules → Kind → Alg → List (List ℕ) → (ℕ → List ℕ → Bool) → Type 0
-TellsRepeats rules kind alg all names_again =
+-- the test says of each line that reads whether an earlier line names its path
+abbrev pub FindsRepeats : Rules → Kind → Alg → List (List ℕ) → (ℕ → List ℕ → Bool) → Type 0
+FindsRepeats rules kind alg all names_again =
     (n : ℕ) (line digest path : List ℕ) → IsLine all n line
     → ReadsManifest rules kind alg line digest path
     → IsTrue (names_again n path) ↔ Contains (named_before rules kind alg all n) path
@@ -59,6 +59,6 @@ TellsRepeats rules kind alg all names_again =
 pub record IsReadOnce (rules : Rules) (kind : Kind) (alg : Alg) (all : List (List ℕ))
     (items : List ManifestEntry) (faults : List LineFault) : Type 0 where
   pub names_again : ℕ → List ℕ → Bool
-  pub tells : TellsRepeats rules kind alg all names_again
+  pub tells : FindsRepeats rules kind alg all names_again
   pub items_are : items ≡ entries_read (manifest_entry_in names_again rules kind alg) all
   pub faults_are : faults ≡ faults_read (manifest_entry_in names_again rules kind alg) all

@@ -16,7 +16,7 @@ use Rattle.bag_stages.specs.HasList.{HasList}
 use Rattle.bag_stages.specs.Metadata.{bag_info_txt, HasElement, HasFirst, HasLater}
 use Rattle.bag_stages.specs.Payload.{oxum, oxum_text}
 
--- the label of the element that tells the payload's size
+-- the label of the element that gives the payload's size
 abbrev pub oxum_label : List ℕ
 oxum_label = codes "Payload-Oxum"
 

@@ -43,7 +43,7 @@ module _ (path : List ℕ) where
     reported_faults e None = of_element OxumMalformed e e.value ∷ []
     reported_faults e (Some given) = if same_oxum given found then [] else differs e ∷ []
 
-    -- the first one doesn't read, or tells another size
+    -- the first one doesn't read, or gives another size
     abbrev pub first_faults : Element → List Fault
     first_faults e = reported_faults e (oxum_of e.value)
 

@@ -50,9 +50,9 @@ state_of state tree =
 abbrev pub HasFailed : DiskState → DiskState → Type 0
 HasFailed old new = old.failures < new.failures
 
--- What a tree's refusal tells of its disk, as it was before the call and after it: that its device
+-- What a tree's refusal says of its disk, as it was before the call and after it: that its device
 -- refused in this call, that something stands there that is no file and no folder, or that
--- something has a name that isn't UTF-8. `reason` says when the tree tells of a failure for itself.
+-- something has a name that isn't UTF-8. `reason` says when the tree reports a failure of its own.
 abbrev pub ReportsDisk : Type 0 → DiskState → DiskState → TreeFault → Type 0
 ReportsDisk reason old new Device = HasFailed old new ⊎ reason
 ReportsDisk reason old new Special = MeetsSpecial old

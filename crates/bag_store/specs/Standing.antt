@@ -1,4 +1,4 @@
--- What a look at a path tells.
+-- What a look at a path finds.
 use Rattle.std.specs.Prelude.{ℕ, ◌≡◌, List, Option, Some, None}
 use Rattle.bag_disk.specs.Disk.{Nodes, node}
 use Rattle.bag_disk.specs.Disk.Node.{Folder as FolderNode}

@@ -24,7 +24,7 @@ abbrev pub has_below : Bag → List ℕ → Bool
 has_below bag folder = list_any (λ e. starts_with nat_eq e.0 (folder ++ slash ∷ [])) (files_of bag)
 
 -- The folder is known to be there: it is the base folder, one that stands in it, or one with a file
--- below it. Others may be there or not, since a bag doesn't tell of deeper folders without files.
+-- below it. Others may be there or not, since a bag doesn't have deeper folders without files.
 abbrev pub is_there : Bag → List ℕ → Bool
 is_there bag folder = bytes_eq folder [] || has_folder bag folder || has_below bag folder
 
@@ -54,7 +54,7 @@ lose from bag = record {
   folders = set.remove bag.folders from;
 }
 
--- the bag with a folder that is made; it tells of those in the base folder alone
+-- the bag with a folder that is made; it has those in the base folder alone
 abbrev pub with_made_folder : List ℕ → Bag → Bag
 with_made_folder name bag = if is_base_name name then make_folder name bag else bag
 

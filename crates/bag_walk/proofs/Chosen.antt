@@ -8,7 +8,7 @@ use Rattle.bag_walk.proofs.Common.{same_members, Bag, file, HasFile, FileEntry, 
 use Rattle.bag_walk.proofs.Common.{fault_cmp_total, IsFactsOf, paths_of, Facts, Depth, Declaration, Full, take_one_more}
 use Rattle.bag_walk.proofs.Common.{before_next, less_by_path, faults_of_bytes, IsNamed, IsSummed, IsFaultOfFile}
 use Rattle.bag_walk.proofs.Common.{IsOfValidity, Expected, validity_of_stage_seven, above, is_above, filtered_list}
-use Rattle.bag_walk.proofs.Common.{AreToSum, IsNamedAhead, TellsItsFaults, faults_at, faults_in, faults_of_files}
+use Rattle.bag_walk.proofs.Common.{AreToSum, IsNamedAhead, HasItsFaults, faults_at, faults_in, faults_of_files}
 use Rattle.bag_walk.proofs.Common.{paths_to_sum, is_passed, AreFilesOf, IsOfBag, ToSum, is_lt, false_from_ne_true}
 use Rattle.bag_walk.proofs.Common.{Contains-push_cases, Contains-push, nil_from_length}
 use Rattle.std.specs.List.Sorted.{IsStrictlySortedBy}
@@ -57,7 +57,7 @@ module _ (bag : Bag) (after : Option Fault) where
     }
 
     module _ (to_sum : ToSum) (is : to_sum.file ≡ file) (ahead : IsNamedAhead bag after file.path)
-        (tells : TellsItsFaults bag to_sum)
+        (tells : HasItsFaults bag to_sum)
         (less : (path : List ℕ) → Contains (paths_of before) path → text_cmp path file.path ≡ Less) where
       pub added : AreToSum bag after (before ++ file ∷ []) (chosen ++ to_sum ∷ [])
       added = record {
@@ -78,7 +78,7 @@ module _ (bag : Bag) (after : Option Fault) where
         ];
         faults =
             λ t c. elim (Contains-push_cases chosen to_sum t c)
-            [ inl a ↦ so_far.faults t a | inr e ↦ subst (TellsItsFaults bag) e tells ];
+            [ inl a ↦ so_far.faults t a | inr e ↦ subst (HasItsFaults bag) e tells ];
       }
 
 -- the first files of a list, and one more
@@ -104,7 +104,7 @@ module _ (bag : Bag) (after : Option Fault) (files : List FileEntry) (i : ℕ) (
       (passed_over bag after (take i files) file chosen so_far lacks)
 
   pub one_added : IsStrictlySortedBy text_cmp (paths_of files) → (to_sum : ToSum) → to_sum.file ≡ file
-      → IsNamedAhead bag after file.path → TellsItsFaults bag to_sum
+      → IsNamedAhead bag after file.path → HasItsFaults bag to_sum
       → AreToSum bag after (take (i + 1) files) (chosen ++ to_sum ∷ [])
   one_added ordered to_sum is ahead tells =
       subst (λ l. AreToSum bag after l (chosen ++ to_sum ∷ [])) (sym more_files)
@@ -131,7 +131,7 @@ pub tells : (bag : Bag) (to_sum : ToSum)
     → ((bytes : List ℕ) → file bag to_sum.file.path ≡ Some bytes
     → IsListOf fault_cmp (IsFaultOfFile bag to_sum.file.path)
     (faults_of_bytes to_sum.file.path bytes to_sum.expected))
-    → TellsItsFaults bag to_sum
+    → HasItsFaults bag to_sum
 tells bag to_sum each = tells_by bag to_sum (file bag to_sum.file.path) refl each
 
 -- there is a digest exactly where a manifest names the file
@@ -172,7 +172,7 @@ module _ (bag : Bag) (after : Option Fault) where
   Among paths f = Contains paths f.path × IsAbove f
 
   pub listed_faults : (files : List ToSum) → IsStrictlySortedBy text_cmp (paths_to_sum files)
-      → ((to_sum : ToSum) → Contains files to_sum → TellsItsFaults bag to_sum)
+      → ((to_sum : ToSum) → Contains files to_sum → HasItsFaults bag to_sum)
       → IsListOf fault_cmp (Among (paths_to_sum files)) (faults_of_files bag after files)
   unfolding IsStrictlySortedBy
   listed_faults [] s tell = nothing_listed fault_cmp (Among []) (λ f h. contains_nothing f.path h.0)

@@ -94,7 +94,7 @@ pub use Rattle.bag_walk.specs.Closing.{closing, count_of}
 pub use Rattle.bag_walk.specs.Completeness.{AreAbove, IsAbove, IsOfAlg, IsOfSomeAlg, IsStageAbove, TakesLeast}
 pub use Rattle.bag_walk.specs.Ending.{IsAnswered, IsCutAt, MayEnd, ReachesEnd, Wrote, ended, ideal, limit_of}
 pub use Rattle.bag_walk.specs.Ending.{lines_of_run, written, written_line}
-pub use Rattle.bag_walk.specs.Files.{AreToSum, IsNamedAhead, IsToSum, TellsItsFaults}
+pub use Rattle.bag_walk.specs.Files.{AreToSum, IsNamedAhead, IsToSum, HasItsFaults}
 pub use Rattle.bag_walk.specs.Filled.{awaits_second, is_both}
 pub use Rattle.bag_walk.specs.Lines.{IsLastLine, IsLastOf, cursor_after}
 pub use Rattle.bag_walk.specs.Merge.{fronts, least_of, union, union_is}

@@ -3,7 +3,7 @@ use Rattle.bag_walk.proofs.Common.{◌≡◌, ◌≢◌, ◌<◌, ◌≤◌, ◌
 use Rattle.bag_walk.proofs.Common.{take, nat_le, arith, sum, nat_tests, sum_by-cons, Fault, Stop, count_of, ended}
 use Rattle.bag_walk.proofs.Common.{IfRunUnread, Outcome, Stopped, Unread, Unwritten, SegmentsFrom, cost, MayLose, refl}
 use Rattle.bag_walk.proofs.Common.{sym, ap, ◌∙◌, subst}
-use Rattle.bag_walk.specs.SegmentLaws.{AnswersTellUnread, SegmentsAddUp}
+use Rattle.bag_walk.specs.SegmentLaws.{AnswersReportUnread, SegmentsAddUp}
 
 abbrev AddUp : List Fault → ℕ → ℕ → ℕ → ℕ → Outcome → Type 0
 AddUp report all u u' n' outcome' =
@@ -96,7 +96,7 @@ segments_add_up options report limits old new before after outcome runs none wri
     (from report (MayLose options old new) limits 0 0 0 runs.lost runs.unread runs.count outcome (omega arith) none
     written runs.segments)
 
-pub answers_tell_unread : AnswersTellUnread
+pub answers_tell_unread : AnswersReportUnread
 answers_tell_unread options report limits old new before after outcome runs =
     let Stops = MayLose options old new in
     let few = short report Stops limits 0 0 0 (Stopped 0) runs.lost runs.unread runs.count outcome runs.segments in

@@ -18,15 +18,15 @@ abbrev pub IsNamedAhead : Bag → Option Fault → List ℕ → Type 0
 IsNamedAhead bag after path = IsNamed bag path × (is_passed after path ≡ false)
 
 -- the faults that its digests have are those of the file in the bag
-abbrev pub TellsItsFaults : Bag → ToSum → Type 0
-TellsItsFaults bag to_sum =
+abbrev pub HasItsFaults : Bag → ToSum → Type 0
+HasItsFaults bag to_sum =
     IsListOf fault_cmp (IsFaultOfFile bag to_sum.file.path) (faults_in bag to_sum)
 
 -- the file, where it is ahead of a cursor
 abbrev pub IsToSum : Bag → Option Fault → FileEntry → Option ToSum → Type 0
 IsToSum bag after file chosen =
     MatchOption chosen (¬ (IsNamedAhead bag after file.path))
-    (λ to_sum. (to_sum.file ≡ file) × IsNamedAhead bag after file.path × TellsItsFaults bag to_sum)
+    (λ to_sum. (to_sum.file ≡ file) × IsNamedAhead bag after file.path × HasItsFaults bag to_sum)
 
 -- these are the files, among some, that are ahead of a cursor
 pub record AreToSum (bag : Bag) (after : Option Fault) (files : List FileEntry)
@@ -34,4 +34,4 @@ pub record AreToSum (bag : Bag) (after : Option Fault) (files : List FileEntry)
   pub paths : IsListOf text_cmp
       (λ path. Contains (paths_of files) path × IsNamedAhead bag after path) (paths_to_sum chosen)
   pub listed : (to_sum : ToSum) → Contains chosen to_sum → Contains files to_sum.file
-  pub faults : (to_sum : ToSum) → Contains chosen to_sum → TellsItsFaults bag to_sum
+  pub faults : (to_sum : ToSum) → Contains chosen to_sum → HasItsFaults bag to_sum

@@ -72,8 +72,8 @@ still_to_come segment faults = drop (looked_past segment.end segment.written) fa
 abbrev pub StopsAt : Segment → Stop → Type 0
 StopsAt segment stop = segment.end ≡ Unread stop
 
--- the lines of the first of these faults and a closing line were written, which tells of a stop
--- that the segment tells of
+-- the lines of the first of these faults and a closing line were written, which reports a stop
+-- that the segment reports
 abbrev pub ClosesSegment : Request → List Fault → Segment → OutState → OutState → Outcome → Type 0
 ClosesSegment request faults segment before after outcome =
     (writes : WritesReport request faults (StopsAt segment) before after outcome)

@@ -1,6 +1,6 @@
 //! Laws of the definitions, each the contract of a function that does nothing.
 ghost use Rattle.bag_walk.specs.Cursor.{CursorCutsList};
-ghost use Rattle.bag_walk.specs.SegmentLaws.{AnswersTellUnread, ChainsAreSegments, SegmentsAddUp};
+ghost use Rattle.bag_walk.specs.SegmentLaws.{AnswersReportUnread, ChainsAreSegments, SegmentsAddUp};
 ghost use Rattle.bag_walk.specs.SegmentOpenings.{EachBagHasListedFiles};
 ghost use Rattle.bag_walk.specs.Segments.{SegmentsJoin};
 
@@ -27,7 +27,7 @@ pub fn segments_add_up()
 
 /// No limit is unread where as many faults were written as all limits allow.
 pub fn answers_tell_unread()
-    ensures { AnswersTellUnread }
+    ensures { AnswersReportUnread }
 {}
 
 /// Every bag has a list of the payload files whose digests are compared, whatever is asked for.

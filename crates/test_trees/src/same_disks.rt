@@ -1,6 +1,6 @@
 //! Honest disks with files, and the program over them.
 ghost use Rattle.std.specs.Prelude.{◌≡◌, List, None, ℕ};
-ghost use Rattle.bag_cli.specs.Reported.{IsCheckOfOne, TellsReport};
+ghost use Rattle.bag_cli.specs.Reported.{IsCheckOfOne, GivesReport};
 ghost use Rattle.bag_store.specs.DiskBag.{bag_of};
 ghost use Rattle.test_disk.specs.MemoryDisk.{fresh, state_of};
 
@@ -48,7 +48,7 @@ pub fn checked<O: Out, E: Out>(
     err: &mut E,
 ) -> u8
     ensures { (name : List ℕ) → IsCheckOfOne plan.now name
-        → TellsReport plan.now None (bag_of (state_of held.now).nodes) name (O.state out.old)
+        → GivesReport plan.now None (bag_of (state_of held.now).nodes) name (O.state out.old)
         (O.state out.new) result }
 {
     honest_disks_are_reported();
