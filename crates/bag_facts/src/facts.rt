@@ -2,7 +2,7 @@
 ghost use Rattle.std.specs.Prelude.{◌≡◌, ◌≢◌, ◌⊎◌, ◌↔◌, [], IsTrue, IfOk, IfErr, OnOk, OnErr};
 ghost use Rattle.std.specs.Prelude.{MatchOption, Any, Contains, codes};
 ghost use Rattle.std.specs.Option.{option_copied};
-ghost use Rattle.bag_text.specs.declared.alg.Alg.{Alg as Named};
+ghost use Rattle.bag_text.specs.declared.alg.Alg.{Alg as AlgValue};
 ghost use Rattle.bag_text.specs.Path.{is_payload_path};
 ghost use Rattle.bag_text.specs.Rules.{rules_of};
 ghost use Rattle.bag_read.specs.TagName.{tag_path};
@@ -184,7 +184,7 @@ impl Facts {
     /// whatever the facts were read for.
     pub fn algs(&self, kind: Kind) -> AlgSet
         ensures { (bag : Bag) → IsFactsOf bag self.now
-            → (alg : Named) → Contains result alg
+            → (alg : AlgValue) → Contains result alg
             ↔ HasFile bag (tag_path (file_of.Manifest kind alg)) }
     {
         let files = self.listing.files.as_slice();

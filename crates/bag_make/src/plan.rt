@@ -1,7 +1,7 @@
 //! The steps that make a bag, in order.
 ghost use Rattle.std.specs.Prelude.{◌≡◌, ◌∷◌, ◌++◌, [], not, List, All, IsTrue, IfOk, OnOk, map};
 ghost use Rattle.bag_text.specs.Path.{is_base_name};
-ghost use Rattle.bag_text.specs.declared.alg.Alg.{Alg as Named};
+ghost use Rattle.bag_text.specs.declared.alg.Alg.{Alg as AlgValue};
 ghost use Rattle.bag_tree.specs.Bag.{Bag, files_of};
 ghost use Rattle.bag_tree.specs.Listing.{IsListingOf, IsOrdered};
 ghost use Rattle.bag_tags.specs.Distinct.{lent_texts};
@@ -27,7 +27,7 @@ pub fn plan(
     ensures steps { IfOk result (λ steps.
         steps.items ≡ spec.steps_for (spec.listed_tops listing.now) tag_files.items) }
     ensures of_bag { IfOk result (λ steps.
-        (bag : Bag) (algs : List Named) (info : List NewElement) → IsOrdered listing.now.files
+        (bag : Bag) (algs : List AlgValue) (info : List NewElement) → IsOrdered listing.now.files
         → IsListingOf bag listing.now
         → tag_files.items ≡ new_tag_files (files_of bag) algs info
         → steps.items ≡ spec.steps bag algs info) }

@@ -4,7 +4,7 @@ ghost use Rattle.std.specs.List.Sorted.{IsStrictlySortedBy};
 ghost use Rattle.bag_text.specs.Order.{IsListOf};
 ghost use Rattle.bag_text.specs.Path.{is_payload_path};
 ghost use Rattle.bag_text.specs.Text.{text_cmp};
-ghost use Rattle.bag_text.specs.declared.alg.Alg.{Alg as Named};
+ghost use Rattle.bag_text.specs.declared.alg.Alg.{Alg as AlgValue};
 ghost use Rattle.bag_facts.specs.FaultOrder.{fault_cmp};
 ghost use Rattle.bag_facts.specs.Facts.{OfBag};
 ghost use Rattle.bag_facts.specs.TagFacts.{AreByPath};
@@ -124,7 +124,7 @@ fn named_by_none(alloc: Global, facts: &Facts) -> Result<Vec<Fault>, AllocError>
 /// Whether some payload manifest names the payload's files and no other.
 fn is_some_exact(facts: &Facts) -> bool
     ensures { OfBag facts.now (λ bag. IsTrue result
-        → (alg : Named) × IsNamedExactly bag alg) }
+        → (alg : AlgValue) × IsNamedExactly bag alg) }
 {
     for alg in Alg::ALL {
         if is_exact(facts, alg) {

@@ -1,6 +1,6 @@
 //! Digests of bytes that come piece by piece.
 ghost use Rattle.std.specs.Prelude.{◌≡◌, ℕ, List, [], ◌++◌};
-ghost use Rattle.bag_text.specs.declared.alg.Alg.{Alg as Named};
+ghost use Rattle.bag_text.specs.declared.alg.Alg.{Alg as AlgValue};
 ghost use Rattle.bag_tree.specs.Digest.{AreSumsOf};
 ghost use Rattle.bag_tree.specs.Digests.{HaveTaken, HoldsWhere, IsHashWhere};
 
@@ -27,7 +27,7 @@ impl Digests {
 
     /// Takes the next bytes.
     pub fn update(&mut self, bytes: &[u8])
-        ensures { (algs : List Named) (message : List ℕ) → HaveTaken algs self.old message
+        ensures { (algs : List AlgValue) (message : List ℕ) → HaveTaken algs self.old message
             → HaveTaken algs self.new (message ++ bytes.now) }
     {
         for slot in &mut self.hashers {
@@ -37,7 +37,7 @@ impl Digests {
 
     /// The digests of all bytes that were taken, joined in their order, however they were cut.
     pub fn finish(self) -> Sums
-        ensures { (algs : List Named) (message : List ℕ) → HaveTaken algs self message
+        ensures { (algs : List AlgValue) (message : List ℕ) → HaveTaken algs self message
             → AreSumsOf algs message result }
     {
         let Digests { hashers } = self;
@@ -58,7 +58,7 @@ fn hasher_where(algs: AlgSet, alg: Alg) -> Option<Hasher>
 
 /// Takes the next bytes, where there is a hasher.
 fn update_slot(slot: &mut Option<Hasher>, bytes: &[u8])
-    ensures { (algs : List Named) (alg : Named) (message : List ℕ)
+    ensures { (algs : List AlgValue) (alg : AlgValue) (message : List ℕ)
         → HoldsWhere algs alg message slot.old
         → HoldsWhere algs alg (message ++ bytes.now) slot.new }
 {
@@ -69,7 +69,7 @@ fn update_slot(slot: &mut Option<Hasher>, bytes: &[u8])
 
 /// The digest of what was taken, with zeros after it, where there is a hasher.
 fn finish_slot(slot: Option<Hasher>) -> Option<[u8; MOST_BYTES]>
-    ensures { (algs : List Named) (alg : Named) (message : List ℕ)
+    ensures { (algs : List AlgValue) (alg : AlgValue) (message : List ℕ)
         → HoldsWhere algs alg message slot → IsHashWhere algs alg message result }
 {
     slot.map(Hasher::finish)

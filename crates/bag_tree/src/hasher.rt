@@ -1,6 +1,6 @@
 //! A hash function in the midst of a message. Each algorithm stands in this file alone.
 ghost use Rattle.std.specs.Prelude.{◌≡◌, ℕ, List, [], ◌++◌, ◌≤◌, length, take};
-ghost use Rattle.bag_text.specs.declared.alg.Alg.{Alg as Named};
+ghost use Rattle.bag_text.specs.declared.alg.Alg.{Alg as AlgValue};
 ghost use Rattle.bag_tree.specs.Digest.{hash, hash_len};
 ghost use Rattle.bag_tree.specs.Hasher.{HoldsMessage};
 
@@ -40,7 +40,7 @@ impl Hasher {
 
     /// Puts bytes at the end of the message.
     pub(crate) fn update(&mut self, bytes: &[u8])
-        ensures { (alg : Named) (message : List ℕ) → HoldsMessage alg self.old message
+        ensures { (alg : AlgValue) (message : List ℕ) → HoldsMessage alg self.old message
             → HoldsMessage alg self.new (message ++ bytes.now) }
     {
         match self {
@@ -55,7 +55,7 @@ impl Hasher {
 
     /// The digest of the message, with zeros after it.
     pub(crate) fn finish(self) -> [u8; MOST_BYTES]
-        ensures { (alg : Named) (message : List ℕ) → HoldsMessage alg self message
+        ensures { (alg : AlgValue) (message : List ℕ) → HoldsMessage alg self message
             → take (hash_len alg) result ≡ hash alg message }
     {
         match self {

@@ -2,7 +2,7 @@
 ghost use Rattle.std.specs.Prelude.{◌≡◌, ℕ, List, Some, drop};
 ghost use Rattle.std.specs.Option.{option_copied};
 ghost use Rattle.bag_tree.specs.Tree.{Keeps};
-ghost use Rattle.bag_facts.specs.declared.fault.Fault.{Fault as Spoken};
+ghost use Rattle.bag_facts.specs.declared.fault.Fault.{Fault as FaultValue};
 ghost use Rattle.bag_walk.specs.Closing.{count_of};
 ghost use Rattle.bag_walk.specs.Ending.{limit_of};
 ghost use Rattle.bag_walk.specs.Openings.{NoFaultBeforeStop, OpensAgain, OpensNoFileEarly};
@@ -70,7 +70,7 @@ fn run_of_walk<T: Tree, S: InOrder<T> + Drop, W: Out>(
         (MayStopRun (WalkIsOfHonest T.Tree S.Source walk) (to_open S.Source walk)
         (T.state walk.tree) (T.state result.0))
         (T.state walk.tree) (T.state result.0) (W.state out.old) (W.state out.new) result.1) }
-    ensures unseen { (faults : List Spoken) × WritesWithoutFailure request.now faults
+    ensures unseen { (faults : List FaultValue) × WritesWithoutFailure request.now faults
         (MayStopRun (WalkIsOfHonest T.Tree S.Source walk) (to_open S.Source walk)
         (T.state walk.tree) (T.state result.0))
         (T.state walk.tree) (T.state result.0) (W.state out.old) (W.state out.new) result.1 }

@@ -5,7 +5,7 @@ ghost use Rattle.std.specs.Option.{option_copied};
 ghost use Rattle.bag_tree.specs.NothingFailed.{NothingFailed};
 ghost use Rattle.bag_tree.specs.Out.{OutState};
 ghost use Rattle.bag_tree.specs.Tree.{Keeps};
-ghost use Rattle.bag_facts.specs.declared.fault.Fault.{Fault as Spoken};
+ghost use Rattle.bag_facts.specs.declared.fault.Fault.{Fault as FaultValue};
 ghost use Rattle.bag_facts.specs.Stops.{IsOutOfMemory};
 ghost use Rattle.bag_walk.specs.Closing.{count_of};
 ghost use Rattle.bag_walk.specs.Ending.{limit_of, written_line, ended};
@@ -74,7 +74,7 @@ pub(crate) fn write_faults<T: Tree, S: InOrder<T>, W: Out>(
     ensures last { ForEachBag T.Tree S.Source walk.old (λ bag.
         IsLastOf (left S.Source bag walk.old) result.written
         (string_bytes lines.old.last) (string_bytes lines.new.last)) }
-    ensures unseen { (faults : List Spoken) ×
+    ensures unseen { (faults : List FaultValue) ×
         IsSegment faults limit (W.state out.old) (W.state out.new) result }
     ensures stop { IfUnread result.end (MayStopWalk (WalkIsOfHonest T.Tree S.Source walk.old)
         (to_open S.Source walk.old) (to_open S.Source walk.new)
@@ -118,7 +118,7 @@ pub(crate) fn write_faults<T: Tree, S: InOrder<T>, W: Out>(
 
 /// Writes the closing line of a run whose lines were written so.
 pub(crate) fn close_segment<W: Out>(request: &Request, segment: Segment, out: &mut W) -> Outcome
-    ensures closes { (faults : List Spoken) (began : OutState)
+    ensures closes { (faults : List FaultValue) (began : OutState)
         → IsSegment faults (limit_of request.now) began (W.state out.old) segment
         → ClosesSegment request.now faults segment began (W.state out.new) result }
     ensures count { count_of result ≡ segment.written }
@@ -177,7 +177,7 @@ impl Lines {
 
     /// The fault whose line was written last, if one was. Fails only where memory runs out.
     pub(crate) fn last_fault(&self, alloc: Global) -> Result<Option<Fault>, AllocError>
-        ensures { (last : Option Spoken) → IsLastLine last (string_bytes self.now.last)
+        ensures { (last : Option FaultValue) → IsLastLine last (string_bytes self.now.last)
             → IfOk result (λ fault. fault ≡ last) }
     {
         let Some(line) = self.last.as_str().strip_suffix("\n") else {

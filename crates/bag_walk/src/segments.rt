@@ -3,7 +3,7 @@ ghost use Rattle.std.specs.Prelude.{◌≡◌, ◌<◌, ◌≤◌, ◌^◌, ℕ,
 ghost use Rattle.std.specs.Option.{option_copied};
 ghost use Rattle.bag_tree.specs.NothingFailed.{NothingFailed};
 ghost use Rattle.bag_tree.specs.Tree.{Keeps};
-ghost use Rattle.bag_facts.specs.declared.fault.Fault.{Fault as Spoken};
+ghost use Rattle.bag_facts.specs.declared.fault.Fault.{Fault as FaultValue};
 ghost use Rattle.bag_walk.specs.Openings.{OpensAgain, OpensNoFileEarly};
 ghost use Rattle.bag_walk.specs.Steps.{left, to_open, ForEachBag, WalkIsOfHonest};
 ghost use Rattle.bag_walk.specs.Lines.{IsLastOf};
@@ -103,7 +103,7 @@ fn write_segment<T: Tree, W: Out>(
     ensures bounded { result.1.written ≤ limit }
     ensures untouched { limit ≡ 0 → result.0 ≡ tree }
     ensures stop { IfUnread result.1.end (MayStop options (T.state tree) (T.state result.0)) }
-    ensures unseen { (faults : List Spoken) ×
+    ensures unseen { (faults : List FaultValue) ×
         IsSegment faults limit (W.state out.old) (W.state out.new) result.1 }
     ensures segment { ForReportFrom (T.state tree) (option_copied profile.entry) options
         (string_bytes lines.old.last) (λ report n. spec.ContinuesReport report n limit
@@ -156,7 +156,7 @@ fn segment_of_walk<T: Tree, S: InOrder<T> + Drop, W: Out>(
         (to_open S.Source walk) (T.state walk.tree) (T.state result.0)) }
     ensures seen { ForEachBag T.Tree S.Source walk (λ bag.
         IsSegment (left S.Source bag walk) limit (W.state out.old) (W.state out.new) result.1) }
-    ensures unseen { (faults : List Spoken) ×
+    ensures unseen { (faults : List FaultValue) ×
         IsSegment faults limit (W.state out.old) (W.state out.new) result.1 }
     ensures last { ForEachBag T.Tree S.Source walk (λ bag.
         IsLastOf (left S.Source bag walk) result.1.written
