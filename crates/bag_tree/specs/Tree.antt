@@ -45,7 +45,8 @@ pub record LeavesBag (old new : TreeState) : Type 0 where
   pub failures : old.failures ≤ new.failures
   pub noted : new.noted ≡ old.noted
 
--- it leaves all that, and the device does nothing that it notes
+-- a call leaves the bag, what else stands there and its honesty, forgets no failure, and its device
+-- does nothing that it notes
 pub record Keeps (old new : TreeState) : Type 0 where
   pub bag : new.bag ≡ old.bag
   pub plain : new.plain ≡ old.plain
