@@ -55,7 +55,8 @@ module _ (facts : Facts) (options : Options) (listing : Listing) (files : List F
   pub known_seen : (mid : TreeState) → HasItsFolder listing → PathsAreTexts files
       → ((one : TagBytes) → Contains read one → IsWhole files mid one) → (bag : Bag) × IsBag bag × IsFactsOf bag facts
   known_seen mid needs texts whole =
-      let sizes : (one : TagBytes) → Contains read one → size_at listing.files (read_path one) ≡ Some (length one.bytes.items) =
+      let sizes : (one : TagBytes) → Contains read one
+      → size_at listing.files (read_path one) ≡ Some (length one.bytes.items) =
       λ one c. subst (λ some. size_at some (read_path one) ≡ Some (length one.bytes.items)) files_are (whole one c).size
       in
       let listed = listing_seen read listing ordered.ascending sizes ordered needs in (
