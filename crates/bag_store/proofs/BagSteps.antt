@@ -320,14 +320,14 @@ listed_within bag listing files top same ordered listed any =
     grind (arith, any_entry top (files_of bag), listings_are_of_the_bag bag listing ordered listed, list_any-from_Any)
 
 -- what was moved into a folder
-pub moved_into : (old first seen then new : DiskState) (folder top target target_then : List ℕ) (o : Option Standing)
-    → OnlyLooks old first → OnlyLooks first seen → OnlyLooks seen then
-    → is_base_name folder ≡ true → is_base_name top ≡ true → target ≡ path_in folder top
-    → target_then ≡ path_in folder top
-    → (IsTrue old.honest → IsReachedByFolders old.nodes folder → node old.nodes folder ≡ Some Folder)
-    → IsNameTaken first top → o ≡ None
-    → (IsTrue seen.honest → IsReachedByFolders seen.nodes target → IsStanding seen.nodes target o)
-    → (IsTrue then.honest → IsReachedByFolders then.nodes top → IsReachedByFolders then.nodes target_then
-    → node then.nodes target_then ≡ None → Moves then.nodes new.nodes top target_then)
-    → IsMovedIn old new top folder
-moved_into old first seen then new folder top target target_then o one two three is named at at_then there taken none_is stands moves = grind (arith, path_in_is_under, target_reached, none_standing, base_reached)
+module _ (old first seen then new : DiskState) (folder top target target_then : List ℕ) (o : Option Standing)
+    (one : OnlyLooks old first) (two : OnlyLooks first seen) (three : OnlyLooks seen then)
+    (is : is_base_name folder ≡ true) (named : is_base_name top ≡ true) (at : target ≡ path_in folder top)
+    (at_then : target_then ≡ path_in folder top)
+    (there : IsTrue old.honest → IsReachedByFolders old.nodes folder → node old.nodes folder ≡ Some Folder)
+    (taken : IsNameTaken first top) (none_is : o ≡ None)
+    (stands : IsTrue seen.honest → IsReachedByFolders seen.nodes target → IsStanding seen.nodes target o)
+    (moves : IsTrue then.honest → IsReachedByFolders then.nodes top → IsReachedByFolders then.nodes target_then
+    → node then.nodes target_then ≡ None → Moves then.nodes new.nodes top target_then) where
+  pub moved_into : IsMovedIn old new top folder
+  moved_into = grind (arith, path_in_is_under, target_reached, none_standing, base_reached)

@@ -4,8 +4,13 @@ use Rattle.bag_store.proofs.WrittenFiles.{next_written, nothing_written, rest_is
 use Rattle.bag_store.proofs.writing.write_all.Goals as goal
 
 pub loop-done-init : goal.loop-done-init
-loop-done-init g
-    c = (omega arith, refl, nothing_written (g.D.Disk.state c.args.disk.now) (g.D.WritableDisk.written c.args.disk.now), refl, λ path at noted. no_pieces path (g.D.Disk.state c.args.disk.now).trail)
+loop-done-init g c = (
+  omega arith,
+  refl,
+  nothing_written (g.D.Disk.state c.args.disk.now) (g.D.WritableDisk.written c.args.disk.now),
+  refl,
+  λ path at noted. no_pieces path (g.D.Disk.state c.args.disk.now).trail,
+)
 
 pub loop-done-smaller : goal.loop-done-smaller
 loop-done-smaller g c = grind (arith, rest_is, length-drop)
