@@ -145,10 +145,7 @@ pub(crate) fn limit(matches: &ArgMatches<'_>) -> Option<u64>
     requires { spec.HasLimit (spec.rows_in matches.now) }
     ensures { spec.IsLimit (spec.value (spec.rows_in matches.now) (codes "max-faults")) result }
 {
-    match value(matches, "max-faults") {
-        None => None,
-        Some(text) => text.parse::<u64>().ok(),
-    }
+    value(matches, "max-faults")?.parse::<u64>().ok()
 }
 
 /// The set with an algorithm more where its option is given.
