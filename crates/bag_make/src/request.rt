@@ -25,38 +25,28 @@ pub fn check_request(algs: AlgSet, info: &[(Text, Text)]) -> Result<(), MakeFaul
     if has_refused(info) {
         return Err(MakeFault::BadValue);
     }
-    see_texts(info);
     Ok(())
 }
 
-/// Does nothing but say that the elements are texts.
-fn see_texts(info: &[(Text, Text)])
-    ensures { All AreTexts info.now }
-{
-    for element in info {
-        see_both(element.0.as_str(), element.1.as_str());
-    }
-}
-
-/// Does nothing but say that what a `&str` holds is a text.
-fn see_both(label: &str, value: &str)
-    ensures { IsText label.now × IsText value.now }
-{}
-
+/// Whether one of the elements is refused. Where none is, each is of texts.
 fn has_refused(info: &[(Text, Text)]) -> bool
-    ensures { result ≡ list_any is_refused_by info.now }
+    ensures refused { result ≡ list_any is_refused_by info.now }
+    ensures texts { result ≡ false → All AreTexts info.now }
 {
-    for element in info {
-        if is_refused(element) {
-            return true;
-        }
-    }
-    false
+    info.iter().any(|element| is_refused(element))
 }
 
 /// Whether an element can't be written, or is computed.
 fn is_refused(element: &(Text, Text)) -> bool
-    ensures { result ≡ is_refused_by element.now }
+    ensures refused { result ≡ is_refused_by element.now }
+    ensures texts { AreTexts element.now }
 {
-    is_bad_element(element) || same_label(element.0.as_str(), OXUM_LABEL)
+    let (label, value) = (element.0.as_str(), element.1.as_str());
+    are_texts(label, value);
+    is_bad_element(element) || same_label(label, OXUM_LABEL)
 }
+
+/// The law that what a `&str` holds is a text.
+fn are_texts(label: &str, value: &str)
+    ensures { IsText label.now × IsText value.now }
+{}

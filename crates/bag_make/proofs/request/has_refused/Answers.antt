@@ -1,8 +1,12 @@
-use Rattle.bag_make.proofs.Common.{sym, ap, ◌∙◌, list_any_at, is_refused}
+use Rattle.std.proofs.Common.{rules, tests}
+use Rattle.std.proofs.lemmas.Bool.{MatchBool-at_false}
+use Rattle.std.proofs.lemmas.Iterator.{YieldsList-from_slice, cases_from_any}
+use Rattle.std.proofs.lemmas.List.Elements.{All-from_all_within}
+use Rattle.bag_make.proofs.Common.{AreTexts}
 use Rattle.bag_make.proofs.request.has_refused.Goals as goal
 
-pub returns-then-is_refused : goal.returns-then-is_refused
-returns-then-is_refused c =
-    let item = c.element-item.result in
-    sym (list_any_at is_refused c.args.info.now c.loop-element.element-index item c.loop-element-test.true
-    (ap is_refused (sym c.element-item.is) ∙ sym c.if-is_refused.ensures))
+pub returns-clause-texts : goal.returns-clause-texts
+returns-clause-texts c = λ none.
+    All-from_all_within AreTexts c.args.info.now (MatchBool-at_false _ _ none (cases_from_any _ _ _ (λ e. Unit {0})
+    AreTexts c.any.ensures.ran (YieldsList-from_slice c.args.info.now cc) (λ x q k. tt)
+    (λ x q k. search (rules, tests))))
