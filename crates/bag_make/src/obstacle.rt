@@ -26,12 +26,7 @@ pub fn is_in_the_way(listing: &Listing) -> bool
 fn has_new_path(files: &[FileEntry]) -> bool
     ensures { result ≡ list_any (λ entry. is_within new_folder entry.path) files.now }
 {
-    for entry in files {
-        if is_new(entry.path.as_str()) {
-            return true;
-        }
-    }
-    false
+    files.iter().any(|entry| is_new(entry.path.as_str()))
 }
 
 fn is_new(path: &str) -> bool
