@@ -27,7 +27,7 @@ impl Model for Packed {
 }
 
 impl Packed {
-    ghost use Rattle.bag_stages.specs.Unpacking.{left};
+    ghost use Rattle.bag_stages.specs.Unpacking.{still_packed};
 
     /// The same as a list. Takes memory once.
     pub fn of(alloc: Global, expected: &[Expected]) -> Result<Packed, AllocError>
@@ -42,7 +42,7 @@ impl Packed {
 
     /// What they give, in its order, one by one. It takes no memory.
     pub fn iter(&self) -> Unpacking<'_>
-        ensures { left result ≡ self.now }
+        ensures { still_packed result ≡ self.now }
     {
         Unpacking {
             rest: self.bytes.as_slice(),
@@ -50,7 +50,7 @@ impl Packed {
     }
 }
 
-/// What is left of what manifests give for a file.
+/// What is still packed of what manifests give for a file.
 #[derive(Debug, Drop)]
 pub struct Unpacking<'a> {
     rest: &'a [u8],
@@ -59,11 +59,11 @@ pub struct Unpacking<'a> {
 impl<'a> Iterator for Unpacking<'a> {
     type Item = Expected;
 
-    ghost use Rattle.bag_stages.specs.Unpacking.{left};
+    ghost use Rattle.bag_stages.specs.Unpacking.{still_packed};
 
-    ghost next_gives = { YieldsFirst left };
+    ghost next_gives = { YieldsFirst still_packed };
 
-    ghost remaining = { item_count left };
+    ghost remaining = { item_count still_packed };
 
     fn next(&mut self) -> Option<Expected> {
         let Some((one, rest)) = split_packed(self.rest) else {

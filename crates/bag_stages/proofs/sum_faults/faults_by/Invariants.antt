@@ -1,12 +1,12 @@
 use Rattle.bag_stages.proofs.Common.{◌≡◌, ◌++◌, ℕ, List, filter_map, differing, faults_of_bytes, AreSumsBy}
-use Rattle.bag_stages.specs.Unpacking.{left}
+use Rattle.bag_stages.specs.Unpacking.{still_packed}
 use Rattle.bag_stages.proofs.sum_faults.faults_by.Given as goal
 
 abbrev pub invariant-loop-one : goal.invariant-loop-one
 invariant-loop-one l = record {
   faults : (content : List ℕ) → AreSumsBy l.expected content l.sums
-      → l.faults.items ++ filter_map (differing l.path content) (left l.one-iterator)
+      → l.faults.items ++ filter_map (differing l.path content) (still_packed l.one-iterator)
       ≡ faults_of_bytes l.path content l.expected;
   among : (content : List ℕ) → AreSumsBy l.expected content l.sums
-      → AreSumsBy (left l.one-iterator) content l.sums;
+      → AreSumsBy (still_packed l.one-iterator) content l.sums;
 }

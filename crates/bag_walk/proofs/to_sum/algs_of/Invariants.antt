@@ -1,7 +1,7 @@
 use Rattle.bag_walk.proofs.Common.{◌⊎◌, Expected, Contains}
-use Rattle.bag_stages.specs.Unpacking.{left}
+use Rattle.bag_stages.specs.Unpacking.{still_packed}
 use Rattle.bag_walk.proofs.to_sum.algs_of.Given as goal
 
 abbrev pub invariant-loop-one : goal.invariant-loop-one
 invariant-loop-one l =
-    (one : Expected) → Contains l.expected one → Contains l.algs one.alg ⊎ Contains (left l.one-iterator) one
+    (one : Expected) → Contains l.expected one → Contains l.algs one.alg ⊎ Contains (still_packed l.one-iterator) one
