@@ -118,7 +118,8 @@ returns g c = rw c.if-not-self.false (
     let all : g.A.Source.in_order → Opens (xs ++ ys) ys old mid = λ ordered. opens_front (opens ordered) ys in
     let later : (bag : Bag) → Sees old (xs ++ ys) bag → Sees mid ys bag = λ bag sees.
     sees_later ys bag keeps (sees_parts old xs ys bag sees).1 in
-    let empty : (bag : Bag) → g.A.Source.is_of bag first → Sees old (xs ++ ys) bag → g.A.Source.remaining bag first ≡ [] = λ bag of sees.
+    let empty : (bag : Bag) → g.A.Source.is_of bag first → Sees old (xs ++ ys) bag
+    → g.A.Source.remaining bag first ≡ [] = λ bag of sees.
     let seen = (sees_parts old xs ys bag sees).0 in
     sym (c.fill-2.ensures.same bag of seen).1
     ∙ none_is (g.A.Source.remaining bag c.fill-2.new.self) (sym (one.first bag of seen) ∙ none) in

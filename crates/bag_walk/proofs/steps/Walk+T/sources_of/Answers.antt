@@ -14,7 +14,8 @@ returns g c =
     let check : Bag → Check = λ bag.
     record { bag = bag; profile = option_copied c.args.profile; options = c.args.facts.now.options } in
     let sums : Bag → List Fault = λ bag. validity.found ++ faults_of_files bag validity.after validity.pending in
-    let hold : (bag : Bag) → IsFactsOf bag c.args.facts.now → Hold (check bag) after c.in_ok-early.early.items complete (sums bag) late = λ bag h. record {
+    let hold : (bag : Bag) → IsFactsOf bag c.args.facts.now
+    → Hold (check bag) after c.in_ok-early.early.items complete (sums bag) late = λ bag h. record {
       first = c.in_ok-early.ensures bag h;
       sixth = c.in_ok-completeness.ensures.reported (option_copied c.args.profile) bag h;
       seventh =
