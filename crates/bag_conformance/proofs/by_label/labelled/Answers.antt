@@ -14,7 +14,8 @@ returns c =
     let split : IsPartitionPoint (λ e. is_below label e ≡ true) (λ e. is_below label e ≡ false) sorted i =
     c.partition_point-before.ensures.partitioned (is_below label)
     (always_returns_same _ _ _ (λ a r f called. search (rules, of_calls))) (below_first label sorted c.requires) in
-    let part : IsPartitionPoint (λ e. has_label label e ≡ true) (λ e. has_label label e ≡ false) c.split_at.result.1.now k =
+    let part : IsPartitionPoint (λ e. has_label label e ≡ true) (λ e. has_label label e ≡ false)
+    c.split_at.result.1.now k =
     c.partition_point-count.ensures.partitioned (has_label label)
     (always_returns_same _ _ _ (λ a r f called. search (rules, of_calls)))
     (subst (IsPartitionedBy (has_label label)) (sym rest) (label_first label sorted c.requires i split)) in

@@ -3,8 +3,6 @@ use Rattle.std.proofs.lemmas.Bool.{both_ways}
 use Rattle.bag_conformance.proofs.FaultSets.{all_items, one_next}
 use Rattle.bag_conformance.proofs.Manifests.{lacking_all, lacking_fault, listed_as, IsLacking}
 use Rattle.bag_conformance.proofs.manifest_names.lacking_manifests.Goals as goal
-use Rattle.bag_conformance.proofs.manifest_names.lacking_manifests.Goals.{then-not-has_manifest+in_ok-file_fault+in_ok-push}
-use Rattle.bag_conformance.proofs.manifest_names.lacking_manifests.Goals.{else-not-has_manifest}
 
 pub loop-name-preserved : goal.loop-name-preserved
 loop-name-preserved c = λ bag facts.
@@ -15,14 +13,14 @@ loop-name-preserved c = λ bag facts.
     c.loop-name.faults.items
     c.loop-name-test.true c.name-item.is (c.loop-name.invariant bag facts) c.if-not-has_manifest.faults.items
     (elim c.if-not-has_manifest.branch [
-      | then-not-has_manifest+in_ok-file_fault+in_ok-push w ↦ inl (
+      | goal.then-not-has_manifest+in_ok-file_fault+in_ok-push w ↦ inl (
         w.in_ok-file_fault.field-0,
         rw w.faults-is w.in_ok-push.ensures.items,
         w.in_ok-file_fault.ensures ∙ ap (λ path. of_path c.required_code-code.result path None []) c.in_ok-path.ensures
             ∙ ap (λ code. of_path code (manifest_name c.args.kind name) None []) c.required_code-code.ensures,
         λ has. both_ways _ w.if-not-has_manifest.true (tells.1 has),
       )
-      | else-not-has_manifest w ↦ inr (rw w.faults-is refl, λ lacks. lacks (tells.0 w.if-not-has_manifest.false))
+      | goal.else-not-has_manifest w ↦ inr (rw w.faults-is refl, λ lacks. lacks (tells.0 w.if-not-has_manifest.false))
     ])
 
 pub returns : goal.returns

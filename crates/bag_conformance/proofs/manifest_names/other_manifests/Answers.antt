@@ -4,8 +4,6 @@ use Rattle.bag_conformance.proofs.FaultSets.{all_items, one_next}
 use Rattle.bag_conformance.proofs.FilesThere.{fault_of, HoldsOf}
 use Rattle.bag_conformance.proofs.Manifests.{other_all}
 use Rattle.bag_conformance.proofs.manifest_names.other_manifests.Goals as goal
-use Rattle.bag_conformance.proofs.manifest_names.other_manifests.Goals.{then-is_other_manifest+in_ok-file_fault+in_ok-push}
-use Rattle.bag_conformance.proofs.manifest_names.other_manifests.Goals.{else-is_other_manifest}
 
 pub loop-entry-preserved : goal.loop-entry-preserved
 loop-entry-preserved c =
@@ -17,13 +15,13 @@ loop-entry-preserved c =
     c.loop-entry.faults.items
     c.loop-entry-test.true c.entry-item.is c.loop-entry.invariant c.if-is_other_manifest.faults.items
     (elim c.if-is_other_manifest.branch [
-      | then-is_other_manifest+in_ok-file_fault+in_ok-push w ↦ inl (
+      | goal.then-is_other_manifest+in_ok-file_fault+in_ok-push w ↦ inl (
         w.in_ok-file_fault.field-0,
         rw w.faults-is w.in_ok-push.ensures.items,
         w.in_ok-file_fault.ensures ∙ ap (λ code. of_path code entry.path None []) c.other_code-code.ensures,
         tells.0 w.if-is_other_manifest.true,
       )
-      | else-is_other_manifest w ↦ inr (
+      | goal.else-is_other_manifest w ↦ inr (
         rw w.faults-is refl,
         λ is.
             both_ways _ w.if-is_other_manifest.false (tells.1 is),
