@@ -1,6 +1,11 @@
 //! Why no bag is made.
+ghost use Rattle.std.specs.Prelude.{◌≡◌};
+ghost use Rattle.bag_make.specs.declared.fault.MakeFault.TheVariants as why;
+
+use crate::step::Refusal;
 use bag_text::said;
 use bag_tree::{Stop, TreeFault};
+use std::alloc::AllocError;
 use thiserror::Error;
 
 /// Why no bag is made. Each refusal but `StepRefused` leaves the tree's bag as it was.
@@ -24,4 +29,20 @@ pub enum MakeFault {
     /// The tree refused a step, which is given by its place from 1. All before it were taken.
     #[error("{step}{0} {1}", step = said::STEP)]
     StepRefused(u64, TreeFault),
+}
+
+impl From<AllocError> for MakeFault {
+    ghost from_gives = { λ _ fault. fault ≡ why.Memory };
+
+    fn from(_: AllocError) -> MakeFault {
+        MakeFault::Memory
+    }
+}
+
+impl From<Refusal> for MakeFault {
+    ghost from_gives = { λ refusal fault. fault ≡ why.StepRefused refusal.step refusal.cause };
+
+    fn from(refusal: Refusal) -> MakeFault {
+        MakeFault::StepRefused(refusal.step, refusal.cause)
+    }
 }

@@ -91,10 +91,8 @@ fn make_in<T: WriteTree>(
 {
     check_request(algs, info)?;
     let steps = read_and_plan(alloc, tree, algs, info)?;
-    match take_steps(tree, &steps) {
-        Ok(()) => Ok(()),
-        Err(refusal) => Err(MakeFault::StepRefused(refusal.step, refusal.cause)),
-    }
+    take_steps(tree, &steps)?;
+    Ok(())
 }
 
 /// Reads the files of a folder, and plans the steps that make a bag of them.
@@ -131,10 +129,8 @@ fn read_and_plan<T: Tree>(
         Ok(payload) => payload,
         Err(stop) => return Err(stopped(stop)),
     };
-    match steps_of(alloc, &listing, &payload, algs, info) {
-        Ok(steps) => Ok(steps),
-        Err(AllocError) => Err(MakeFault::Memory),
-    }
+    let steps = steps_of(alloc, &listing, &payload, algs, info)?;
+    Ok(steps)
 }
 
 /// The refusal that a stop is. Out of memory is one of its own, the tree's too.

@@ -107,10 +107,10 @@ fn append_summed<T: Tree>(
         Ok(sums) => sums,
         Err(cause) => return Err(refusal_of(alloc, cause, path)),
     };
-    match push_summed(alloc, summed, entry.path.as_str(), sums) {
-        Ok(()) => Ok(()),
-        Err(AllocError) => Err(Stop::without_path(alloc, TreeFault::Memory)),
-    }
+    push_summed(alloc, summed, entry.path.as_str(), sums).map_err(|_| Stop::without_path(
+        alloc,
+        TreeFault::Memory,
+    ))
 }
 
 /// Adds the digests of a file that has this path in the folder.

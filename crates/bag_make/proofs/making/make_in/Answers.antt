@@ -1,20 +1,23 @@
 use Rattle.bag_make.proofs.Common.{◌∙◌, keeps_itself}
+use Rattle.std.proofs.lemmas.Result.{err_from_is_err_and}
 use Rattle.bag_make.proofs.Made.{has_made, opens_nothing}
 use Rattle.bag_make.proofs.PowerCut.{outlasts_before, outlasts_all, outlasts_some, lasts_for_good}
 use Rattle.bag_make.proofs.making.make_in.Goals as goal
 
-pub returns-in-Ok-clause-made : goal.returns-in-Ok-clause-made
-returns-in-Ok-clause-made g c =
+pub returns-clause-made : goal.returns-clause-made
+returns-clause-made g c =
     let read = c.in_ok-steps.ensures in
     has_made c.args.algs c.args.info.now _ _ _ _ (g.met.T.Tree.is_bag c.args.tree.now) read.keeps read.planned
-    (rw c.deref.ensures.value at c.in-Ok.ensures.taken)
+    (rw c.deref.ensures.value at c.in_ok-take_steps.ensures.taken)
     c.in_ok-check_request.ensures.good c.in_ok-check_request.ensures.texts read.ascend read.plain read.no_failure
     read.opened
 
-pub returns-clause-refused : goal.returns-clause-refused
-returns-clause-refused g c =
+pub returns-in_err-take_steps-clause-refused : goal.returns-in_err-take_steps-clause-refused
+returns-in_err-take_steps-clause-refused g c =
     let read = c.in_ok-steps.ensures in
-    let stopped = c.in-Err.ensures.stopped in (
+    let stopped = c.in_err-take_steps.ensures.stopped in
+    let p = err_from_is_err_and c.from_residual-in_err-take_steps.result c.from_residual-in_err-take_steps.ensures.1 in
+    rw (p.1, p.2) (
       c.in_ok-check_request.ensures.good,
       record {
         free = λ honest. (read.planned honest).1;
@@ -37,20 +40,20 @@ returns-in_err-check_request-clause-any_moment g c = outlasts_before _ _ (keeps_
 pub returns-in_err-steps-clause-any_moment : goal.returns-in_err-steps-clause-any_moment
 returns-in_err-steps-clause-any_moment g c = outlasts_before _ _ c.read_and_plan.ensures.keeps
 
-pub returns-in-Ok-clause-any_moment : goal.returns-in-Ok-clause-any_moment
-returns-in-Ok-clause-any_moment g c =
-    let read = c.in_ok-steps.ensures in
-    outlasts_all c.args.algs c.args.info.now _ _ _ _ (g.met.T.Tree.is_bag c.args.tree.now) read.keeps read.planned
-    (rw c.deref.ensures.value at c.in-Ok.ensures.taken)
-
-pub returns-in-Ok-clause-lasting : goal.returns-in-Ok-clause-lasting
-returns-in-Ok-clause-lasting g c =
-    let read = c.in_ok-steps.ensures in
-    lasts_for_good c.args.algs c.args.info.now _ _ _ _ (g.met.T.Tree.is_bag c.args.tree.now) read.keeps read.planned
-    (rw c.deref.ensures.value at c.in-Ok.ensures.taken)
-
 pub returns-clause-any_moment : goal.returns-clause-any_moment
 returns-clause-any_moment g c =
     let read = c.in_ok-steps.ensures in
+    outlasts_all c.args.algs c.args.info.now _ _ _ _ (g.met.T.Tree.is_bag c.args.tree.now) read.keeps read.planned
+    (rw c.deref.ensures.value at c.in_ok-take_steps.ensures.taken)
+
+pub returns-clause-lasting : goal.returns-clause-lasting
+returns-clause-lasting g c =
+    let read = c.in_ok-steps.ensures in
+    lasts_for_good c.args.algs c.args.info.now _ _ _ _ (g.met.T.Tree.is_bag c.args.tree.now) read.keeps read.planned
+    (rw c.deref.ensures.value at c.in_ok-take_steps.ensures.taken)
+
+pub returns-in_err-take_steps-clause-any_moment : goal.returns-in_err-take_steps-clause-any_moment
+returns-in_err-take_steps-clause-any_moment g c =
+    let read = c.in_ok-steps.ensures in
     outlasts_some c.args.algs c.args.info.now _ _ _ _ (g.met.T.Tree.is_bag c.args.tree.now) read.keeps read.planned _
-    (rw c.deref.ensures.value at c.in-Err.ensures.stopped)
+    (rw c.deref.ensures.value at c.in_err-take_steps.ensures.stopped)
