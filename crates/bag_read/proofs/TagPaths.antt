@@ -1,8 +1,8 @@
 -- The paths of tag files.
 use Rattle.bag_read.proofs.Common.{Bool, List, MatchOption, None, Option, Some, [], ap, append_assoc, arith, bytes_eq}
 use Rattle.bag_read.proofs.Common.{codes, false, find, get_or, refl, sym, true, ℕ, ◌++◌, ◌∙◌, ◌∷◌, ◌≡◌, ◌≢◌}
-use Rattle.bag_read.proofs.Common.{bytes_eq-Decides, option_or, list_all, slice_get, alg_named, algs, name, Alg, is_alg_text}
-use Rattle.bag_read.proofs.Common.{manifest_name, prefix, Kind, Payload, Tag}
+use Rattle.bag_read.proofs.Common.{bytes_eq-Decides, option_or, list_all, slice_get, alg_named, algs, name, Alg}
+use Rattle.bag_read.proofs.Common.{is_alg_text, manifest_name, prefix, Kind, Payload, Tag}
 use Rattle.std.proofs.lemmas.List.Elements.{All-contains}
 use Rattle.std.proofs.lemmas.List.Sums.{AllPass-from_list_all}
 use Rattle.bag_text.proofs.AlgSets.{each_is_listed, name_is_read_again, names_tell_apart}
