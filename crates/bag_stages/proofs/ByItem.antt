@@ -89,7 +89,8 @@ module _ {I : Type 0} (item_cmp : I → I → Ordering) (made : I → Fault) (Is
       → (IsWrong item × (more ≡ faults ++ made item ∷ [])) ⊎ ((¬ (IsWrong item)) × (more ≡ faults))
       → IsListOf fault_cmp (OfSome (IsMade made IsWrong) (take (i + 1) items)) more
   one_tested_more items i item faults more s lt e list told =
-      let next : (of_item : List Fault) → IsListOf fault_cmp (IsMade made IsWrong item) of_item → IsListOf fault_cmp (OfSome (IsMade made IsWrong) (take (i + 1) items)) (faults ++ of_item) =
+      let next : (of_item : List Fault) → IsListOf fault_cmp (IsMade made IsWrong item) of_item
+      → IsListOf fault_cmp (OfSome (IsMade made IsWrong) (take (i + 1) items)) (faults ++ of_item) =
       λ of_item. one_item_more item_cmp (IsMade made IsWrong) (λ x y f g h k before. rw (h.0, k.0) (less x y before))
       items i item faults of_item s lt e list in
       elim told [

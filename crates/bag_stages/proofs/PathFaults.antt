@@ -1,11 +1,11 @@
 -- The faults that manifests name files that aren't there, and that they don't name payload files.
-use Rattle.bag_stages.proofs.Common.{◌≡◌, List, [], true, false, None, Some, sym, ◌∙◌, subst, Contains, IsListOf, Alg}
+use Rattle.bag_stages.proofs.Common.{◌≡◌, ℕ, List, [], true, false, None, Some, sym, ◌∙◌, subst, Contains, IsListOf}
 use Rattle.bag_stages.proofs.Common.{Code, PayloadFileNotListed, nothing_listed, Kind, Payload, ManifestEntry, Bag}
 use Rattle.bag_stages.proofs.Common.{file, has_file, LacksFile, FileEntry, fault_cmp, Fault, rules_in, entry_paths}
 use Rattle.bag_stages.proofs.Common.{AreByPath, IsManifestNamed, IsReadOf, AreFilesOfBag, paths_of, Manifest}
 use Rattle.bag_stages.proofs.Common.{file_listed, listed_file, manifest_of, Names, missing_code, IsFileLeftOutByOne}
 use Rattle.bag_stages.proofs.Common.{IsMissing, IsNamedExactly, IsOfPathAmong, IsLeftOutAmong, IsFileNamedByNone}
-use Rattle.bag_stages.proofs.Common.{IsPathNamedByNone}
+use Rattle.bag_stages.proofs.Common.{Alg, IsPathNamedByNone}
 use Rattle.bag_stages.proofs.ReadManifest.{by_path, names_entry, entry_names, names_nothing, is_absent, is_there}
 use Rattle.bag_stages.proofs.ReadManifest.{of_alg}
 use Rattle.bag_stages.proofs.ByPath.{in_other_words}
@@ -22,9 +22,11 @@ module _ (bag : Bag) (kind : Kind) (alg : Alg) where
       (IsOfPathAmong code (Some alg) (λ path. ¬ (Contains (paths_of files) path)) (entry_paths entries)) faults)
       → IsListOf fault_cmp (IsMissing bag kind alg) faults
   read_missing m code entries files faults read is same listed list =
-      let found : AreByPath m.entries → IsListOf fault_cmp (IsOfPathAmong (missing_code kind) (Some alg) (λ path. ¬ (Contains (paths_of files) path)) (entry_paths m.entries)) faults =
+      let IsAbsent : List ℕ → Type 0 = λ path. ¬ (Contains (paths_of files) path) in
+      let found : AreByPath m.entries
+      → IsListOf fault_cmp (IsOfPathAmong (missing_code kind) (Some alg) IsAbsent (entry_paths m.entries)) faults =
       rw (is, same) at list in
-      in_other_words (missing_code kind) (Some alg) (λ path. ¬ (Contains (paths_of files) path)) (entry_paths m.entries)
+      in_other_words (missing_code kind) (Some alg) IsAbsent (entry_paths m.entries)
       (λ path. Names bag kind alg path × LacksFile bag path) faults
       (λ path c lacks. (
         entry_names bag kind alg m read path c,

@@ -29,7 +29,9 @@ module _ (bag : Bag) (kind : Kind) (alg : Alg) where
         → IsManifestNamed (rules_in bag) kind alg bytes m
         → IsListOf (on (λ e. e.path) text_cmp) (IsEntryIn bag kind alg) m.entries
     listed_by bytes there (of, is_kind, is_alg) =
-        let list : IsListOf (on (λ e. e.path) text_cmp) (IsEntry (rules_in bag) kind alg (lines_in bag (manifest_of kind alg))) m.entries = rw (there, sym is_kind, sym is_alg) of.entries in list
+        let list : IsListOf (on (λ e. e.path) text_cmp)
+        (IsEntry (rules_in bag) kind alg (lines_in bag (manifest_of kind alg))) m.entries =
+        rw (there, sym is_kind, sym is_alg) of.entries in list
 
     module _ (read : IsReadOf (IsManifestNamed (rules_in bag) kind alg) (file bag (manifest_of kind alg)) (Some m))
       where
