@@ -97,8 +97,8 @@ fn entry_near<'a>(
             *place = found + 1;
             entries.get(found)
         }
-        Err(behind) => {
-            *place = behind;
+        Err(after) => {
+            *place = after;
             None
         }
     }

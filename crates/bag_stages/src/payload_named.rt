@@ -62,7 +62,7 @@ fn are_named(entries: &[ManifestEntry], files: &[FileEntry]) -> bool
 {
     let mut rest = entries;
     for file in files {
-        let Some(after) = behind(rest, &file.path) else {
+        let Some(after) = rest_after(rest, &file.path) else {
             return false;
         };
         rest = after;
@@ -72,7 +72,7 @@ fn are_named(entries: &[ManifestEntry], files: &[FileEntry]) -> bool
 
 /// The entries that are left after a file: all of them where it isn't of the payload, and else
 /// those after the first, which has its path.
-fn behind<'a>(entries: &'a [ManifestEntry], path: &Text) -> Option<&'a [ManifestEntry]>
+fn rest_after<'a>(entries: &'a [ManifestEntry], path: &Text) -> Option<&'a [ManifestEntry]>
     ensures { MatchOption result
         (IsPayloadNotFirst (entry_paths entries.now) path.now)
         (λ rest. RestStartsAfter (entry_paths entries.now) path.now (entry_paths rest.now)) }

@@ -12,7 +12,7 @@ returns-in-Ok c = λ ordered.
 
 pub returns-in-Err : goal.returns-in-Err
 returns-in-Err c = λ ordered.
-    no_entry_found c.args.entries.now c.args.path.now c.in-Err.behind c.binary_search_by.result c.in-Err.is ordered
+    no_entry_found c.args.entries.now c.args.path.now c.in-Err.after c.binary_search_by.result c.in-Err.is ordered
     c.binary_search_by.ensures.bound
     (c.binary_search_by.ensures.position (λ entry. text_cmp entry.path c.args.path.now)
     (always_returns_same _ _ _ (λ a r f called. search (rules, of_calls))))
