@@ -1,11 +1,11 @@
 -- The faults of names that clash, of an ascending list of names.
-use Rattle.bag_stages.proofs.Common.{arith, drop-cons, suc, filter-append, kept, refl, ◌≡◌, ◌<◌, ◌↔◌, inl, inr, ◌+◌}
+use Rattle.bag_stages.proofs.Common.{arith, drop-cons, suc, filter-append, kept, refl, ◌≡◌, ◌<◌, ◌↔◌, ◌+◌}
 use Rattle.bag_stages.proofs.Common.{◌++◌, ◌∷◌, ℕ, List, [], length, take, drop, take-append-drop, get_or, Option, None}
 use Rattle.bag_stages.proofs.Common.{Some, Bool, true, false, ap, sym, ◌∙◌, subst, cond, Contains, bytes_eq}
 use Rattle.bag_stages.proofs.Common.{if◌then◌else◌, Bor, nat_list_cmp_total, IsStrictlySortedBy, option_map}
 use Rattle.bag_stages.proofs.Common.{option_to_list, IsAscii, Less, bytes_eq-Decides, IsListOf, text_cmp}
-use Rattle.bag_stages.proofs.Common.{contains_first, nothing_listed, one_listed, same_members, Bag}
-use Rattle.bag_stages.proofs.Common.{not_less_than_itself, fault_cmp, Fault, take_one_more, taken_cases, first_with}
+use Rattle.bag_stages.proofs.Common.{All, All-contains, contains_first, nothing_listed, one_listed, same_members, Bag}
+use Rattle.bag_stages.proofs.Common.{not_less_than_itself, fault_cmp, Fault, take_one_more, first_with}
 use Rattle.bag_stages.proofs.Common.{name_clash, IsClashAmong, IsClashOf, IsClashFault, nfc_of, IsLeastAlike}
 use Rattle.bag_stages.proofs.Common.{IsPayloadName, texts_of}
 use Rattle.bag_stages.proofs.FaultFields.{made_of}
@@ -98,22 +98,15 @@ module _ (names : List (List ℕ)) where
       → text_cmp a b ≡ Less → fault_cmp x y ≡ Less
   less_clash a b x y h k less = grind (arith, less_by_path)
 
-  -- ASCII names, and one more
-  pub one_ascii_more : (i : ℕ) (name : List ℕ) → i < length names → name ≡ get_or names i name
-      → ((n : List ℕ) → Contains (take i names) n → IsAscii n) → IsAscii name
-      → (n : List ℕ) → Contains (take (i + 1) names) n → IsAscii n
-  one_ascii_more i name lt is before ascii n c =
-      elim (taken_cases names i name n lt is c) [ inl a ↦ before n a | inr same ↦ subst IsAscii same ascii ]
-
   pub all_clashes : (faults : List Fault) → IsListOf fault_cmp (OfSome (IsClashOf (Contains names)) names) faults
       → IsListOf fault_cmp (IsClashAmong (Contains names)) faults
   all_clashes faults list = same_members fault_cmp _ _ faults (λ f h. (h.0, h.2)) (λ f h. (h.0, h.1.2.0, h.1)) list
 
   -- ASCII names don't clash
-  pub no_ascii_clashes : ((name : List ℕ) → Contains names name → IsAscii name)
-      → IsListOf fault_cmp (IsClashAmong (Contains names)) []
+  pub no_ascii_clashes : All IsAscii names → IsListOf fault_cmp (IsClashAmong (Contains names)) []
   no_ascii_clashes ascii =
-      nothing_listed fault_cmp (IsClashAmong (Contains names)) (λ f h. grind (arith, ascii_itself, ascii))
+      nothing_listed fault_cmp (IsClashAmong (Contains names))
+      (λ f h. grind (arith, ascii_itself, All-contains IsAscii names))
 
 -- one more lent name
 module _ (lent : List Lent) (i : ℕ) (d : Lent) (sorted : IsStrictlySortedBy text_cmp (texts_of lent))

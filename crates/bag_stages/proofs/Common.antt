@@ -10,7 +10,7 @@ pub use Rattle.std.proofs.lemmas.Bool.Decides.{nat_tests}
 pub use Rattle.std.proofs.lemmas.Grind.{common_steps}
 pub use Rattle.std.proofs.lemmas.List.{append_cancel_left, get_or_default, length-map, length-take, map-append}
 pub use Rattle.std.proofs.lemmas.List.{take-append-le, take_all, take_min, take_rest}
-pub use Rattle.std.proofs.lemmas.List.Elements.{All-contains, filter-append, filter_map-append}
+pub use Rattle.std.proofs.lemmas.List.Elements.{All-contains, All-map, filter-append, filter_map-append}
 pub use Rattle.std.proofs.lemmas.List.Kept.{Any-dedup, Contains-from_dedup, IsStrictlySortedBy-dedup}
 pub use Rattle.std.proofs.lemmas.List.Kept.{IsStrictlySortedBy-filter}
 pub use Rattle.std.proofs.lemmas.List.Sorted.{Contains-permutation, IsPermutation-filter_both, IsPermutation-sym}
@@ -26,6 +26,7 @@ pub use Rattle.std.specs.FinMap.{contains_key-keys, keys}
 pub use Rattle.std.specs.List.{cons_option, dedup, enumerate_from, filter, list_any}
 pub use Rattle.std.specs.List.Sorted.{IsPermutation, IsSorted, IsSortedBy, IsStrictlySortedBy}
 pub use Rattle.std.specs.Ordering.{eq_by_cmp, is_eq, nat_cmp, on, ordering_reverse}
+pub use Rattle.std.specs.Prelude.{All}
 pub use Rattle.std.specs.Str.{IsAscii, is_utf8}
 pub use Rattle.bag_facts.proofs.Ascending.{not_both, not_less_than_itself, self_ties}
 pub use Rattle.bag_facts.proofs.ByPath.{items_ascend, less_case, paths_ascend, reversed, tie_case}

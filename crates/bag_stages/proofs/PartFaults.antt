@@ -1,14 +1,14 @@
 -- The faults of a bag's parts.
 use Rattle.bag_stages.proofs.Common.{◌≡◌, ◌≢◌, ◌⊎◌, ◌↔◌, inl, inr, ◌++◌, ◌∷◌, ℕ, List, [], None, Some, Bool, true}
 use Rattle.bag_stages.proofs.Common.{false, refl, sym, ap, ◌∙◌, subst, arith, is_some, codes, append_assoc, Contains}
-use Rattle.bag_stages.proofs.Common.{◌+◌, ◌<◌, length, get_or, take, IsTrue, if◌then◌else◌, IsStrictlySortedBy, is_utf8}
+use Rattle.bag_stages.proofs.Common.{◌+◌, IsTrue, if◌then◌else◌, IsStrictlySortedBy, is_utf8}
 use Rattle.bag_stages.proofs.Common.{All-contains, is_path, Less, text_cmp, IsNoText, alg_named, stage, IsListOf}
 use Rattle.bag_stages.proofs.Common.{IsOnly, Alg, Code, NoPayloadFolder, NoPayloadManifest, AlgorithmUnsupported}
 use Rattle.bag_stages.proofs.Common.{NotUtf8, nothing_listed, one_listed, joined, same_members, Bag, file, has_folder}
 use Rattle.bag_stages.proofs.Common.{IsOrdered, FileEntry, manifest_name, prefix, tag_path, Kind, Payload, Tag, TagName}
 use Rattle.bag_stages.proofs.Common.{same_alg, name_named, paths_differ, of_path, Fault, fault_cmp, rules_in, IsFactsOf}
 use Rattle.bag_stages.proofs.Common.{IsSaidOfTagFile, name_of, path_of, text_test, SaysOfTagFile, paths_of, Facts}
-use Rattle.bag_stages.proofs.Common.{TagFacts, file_listed, listed_file, contains_mapped, taken_cases, AreTagsOf}
+use Rattle.bag_stages.proofs.Common.{TagFacts, file_listed, listed_file, contains_mapped, AreTagsOf}
 use Rattle.bag_stages.proofs.Common.{ListsPayloadManifest, HasTextless, IsUnsupported, IsFileFault, IsFaultAmong}
 use Rattle.bag_stages.proofs.Common.{PartFaultsAreOfStageTwo, of_bag, HasManifest, HasNoText}
 use Rattle.bag_read.specs.declared.tag_name.TagName.TheVariants as tag_name
@@ -194,11 +194,6 @@ textless_known bag tags tag path known at = (
             ((λ e. h.0.1 (paths_differ h.0.0 tag (h.0.2 ∙ sym at) ∙ sym found.2 ∙ e)), ap is_utf8 one ∙ h.1.2),
       ),
 )
-
-pub one_more_textless : (tags : List TagFacts) (i : ℕ) (tag : TagFacts) (of : TagName) → i < length tags
-    → tag ≡ get_or tags i tag → (HasTextless (take i tags) of → ⊥)
-    → (name_of tag ≡ of → text_test tag ≡ Some false → ⊥) → HasTextless (take (i + 1) tags) of → ⊥
-one_more_textless tags i tag of lt e before this h = grind (arith, taken_cases tags i tag h.0 lt e h.1)
 
 -- the stage as the facts tell it: the missing parts, and the faults of files
 module _ (bag : Bag) (all : Facts) (has_manifest : Bool) (known : IsFactsOf bag all)

@@ -1,5 +1,5 @@
 //! Names that differ by normal form alone (Unicode Standard Annex 15).
-ghost use Rattle.std.specs.Prelude.{◌≡◌, ◌↔◌, ℕ, List, Contains, IfOk, IsTrue, OnOk, string_bytes};
+ghost use Rattle.std.specs.Prelude.{◌≡◌, ◌↔◌, ℕ, All, List, Contains, IfOk, IsTrue, OnOk, string_bytes};
 ghost use Rattle.std.specs.List.Sorted.{IsStrictlySortedBy};
 ghost use Rattle.std.specs.Option.{option_map};
 ghost use Rattle.std.specs.Str.{IsAscii};
@@ -33,15 +33,9 @@ pub(crate) fn clash_faults(alloc: Global, facts: &Facts) -> Result<Vec<Fault>, A
 
 /// Whether all names are ASCII, so that each is its own NFC form.
 fn are_ascii(names: &[&str]) -> bool
-    ensures { IsTrue result
-        ↔ ((name : List ℕ) → Contains (texts_of names.now) name → IsAscii name) }
+    ensures { IsTrue result ↔ All (λ name. IsAscii name.now) names.now }
 {
-    for name in names {
-        if !name.is_ascii() {
-            return false;
-        }
-    }
-    true
+    names.iter().all(|name| name.is_ascii())
 }
 
 /// The faults of ascending names: the first of a form is the least of its class.

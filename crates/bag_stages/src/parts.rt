@@ -1,6 +1,6 @@
 //! Stage 2: the parts of a bag.
 ghost use Rattle.std.specs.Prelude.{◌≡◌, ◌≢◌, ◌∷◌, ◌++◌, ◌↔◌, ℕ, List, [], IsTrue, IfOk};
-ghost use Rattle.std.specs.Prelude.{MatchOption, if◌then◌else◌};
+ghost use Rattle.std.specs.Prelude.{MatchOption, Some, false, if◌then◌else◌};
 ghost use Rattle.std.specs.List.Sorted.{IsStrictlySortedBy};
 ghost use Rattle.bag_text.specs.Order.{IsListOf, IsOnly};
 ghost use Rattle.bag_text.specs.Text.{text_cmp};
@@ -9,6 +9,7 @@ ghost use Rattle.bag_read.specs.ManifestName.{is_alg_text, manifest_name};
 ghost use Rattle.bag_read.specs.declared.kind.Kind.{Kind};
 ghost use Rattle.bag_tree.specs.Bag.{Bag};
 ghost use Rattle.bag_facts.specs.FaultOrder.{fault_cmp};
+ghost use Rattle.bag_facts.specs.TagFacts.{name_of, text_test};
 ghost use Rattle.bag_facts.specs.Wanted.{paths_of};
 ghost use Rattle.bag_stages.specs.FileFaults.{AreTagsOf, ListsPayloadManifest, HasTextless};
 ghost use Rattle.bag_stages.specs.FileFaults.{IsUnsupported, IsFileFault, IsFaultAmong};
@@ -125,12 +126,14 @@ fn is_textless(tags: &[TagFacts], name: TagName) -> bool
     ensures found { IsTrue result → HasTextless tags.now name }
     ensures none { HasTextless tags.now name → IsTrue result }
 {
-    for tag in tags {
-        if tag.name() == name && tag.is_text() == Some(false) {
-            return true;
-        }
-    }
-    false
+    tags.iter().any(|tag| lacks_text(tag, name))
+}
+
+/// Whether this was read of a tag file, and isn't UTF-8.
+fn lacks_text(tag: &TagFacts, name: TagName) -> bool
+    ensures { IsTrue result ↔ ((name_of tag.now ≡ name) × (text_test tag.now ≡ Some false)) }
+{
+    tag.name() == name && tag.is_text() == Some(false)
 }
 
 /// The text of the algorithm in the name of a manifest, where the algorithm isn't supported.
