@@ -11,5 +11,8 @@ returns-in-Ok g c =
     )
 
 pub returns-in-Err : goal.returns-in-Err
-returns-in-Err g
-    c = ([], sym (append-nil (visits_of c.args.visits.now)), inl (refl, refl, refl, λ none. c.in-Err.ensures.some (c.as_slice.ensures ∙ none)))
+returns-in-Err g c = (
+  [],
+  sym (append-nil (visits_of c.args.visits.now)),
+  inl (refl, refl, refl, λ none. c.in-Err.ensures.some (c.as_slice.ensures ∙ none)),
+)
