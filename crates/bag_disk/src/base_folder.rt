@@ -1,5 +1,5 @@
 //! The system's calls below a base folder.
-ghost use Rattle.std.specs.Prelude.{◌≡◌, [], IfOk, IsErrOf};
+ghost use Rattle.std.specs.Prelude.{◌≡◌, ◌++◌, ◌∷◌, [], IfOk, IsErrOf, OnErr, OnOk};
 ghost use Rattle.std.specs.Fs.{IsDir, IsFile, file_type, metadata_len};
 ghost use Rattle.bag_disk.specs.Location.{location_below};
 ghost use Rattle.bag_disk.specs.declared.disk.DiskFault.TheVariants.{NotFound};
@@ -9,6 +9,7 @@ use crate::disk::{DiskFault, Entry};
 use crate::location::{is_location, location_below};
 use crate::system_fault::answer_of;
 use bag_text::Text;
+use bag_tree::Heard;
 use std::alloc::{AllocError, Global};
 use std::fs;
 use std::fs::{DirEntry, Metadata, OpenFile, OpenOptions, ReadDir};
@@ -20,6 +21,32 @@ use std::rt::Files;
 pub(crate) struct BaseFolder {
     alloc: Global,
     path: Text,
+}
+
+/// The folders that the system said it synced, one after another, each with a byte of zero after
+/// it. Only clauses read them: it takes no memory.
+#[derive(Drop)]
+pub(crate) struct Synced {
+    heard: Heard,
+}
+
+impl Synced {
+    /// None was synced yet.
+    pub(crate) fn none() -> Synced
+        ensures { result.heard.bytes ≡ [] }
+    {
+        Synced {
+            heard: Heard::new(),
+        }
+    }
+
+    /// One more was synced.
+    fn note(&mut self, folder: &str)
+        ensures { self.new.heard.bytes ≡ self.old.heard.bytes ++ folder.now ++ 0 ∷ [] }
+    {
+        self.heard.note(folder.as_bytes());
+        self.heard.note(&[0]);
+    }
 }
 
 impl BaseFolder {
@@ -104,9 +131,20 @@ impl BaseFolder {
     }
 
     /// Syncs a folder, so that the names in it are durable.
-    pub(crate) fn sync<R: Files>(&self, rt: &R, folder: &str) -> Result<(), DiskFault> {
-        let folder = self.open(rt, folder)?;
-        answer_of(folder.sync_all())
+    pub(crate) fn sync<R: Files>(
+        &self,
+        rt: &R,
+        folder: &str,
+        synced: &mut Synced,
+    ) -> Result<(), DiskFault>
+        ensures noted { OnOk result
+            (synced.new.heard.bytes ≡ synced.old.heard.bytes ++ folder.now ++ 0 ∷ []) }
+        ensures refused { OnErr result (synced.new.heard.bytes ≡ synced.old.heard.bytes) }
+    {
+        let opened = self.open(rt, folder)?;
+        answer_of(opened.sync_all())?;
+        synced.note(folder);
+        Ok(())
     }
 
     /// Where a path stands. Below an empty base folder nothing does.

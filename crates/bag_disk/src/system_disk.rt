@@ -2,11 +2,12 @@
 ghost use Rattle.std.specs.Prelude.{◌≡◌, ◌<◌, ◌++◌, ◌∷◌, [], IfOk, IsTrue, None, Ok, OnErr, OnOk};
 ghost use Rattle.std.specs.Prelude.{is_some, false, length};
 ghost use Rattle.std.specs.Fs.{dir_entry_name};
-ghost use Rattle.bag_disk.specs.SystemDisk.{base_of, system_state, written_state};
-ghost use Rattle.bag_disk.specs.Disk.{empty_disk};
-ghost use Rattle.bag_disk.specs.Failures.{failures_counted};
+ghost use Rattle.bag_disk.specs.SystemDisk.{base_of, state_of_system, synced_by, system_state};
+ghost use Rattle.bag_disk.specs.SystemDisk.{written_state};
+ghost use Rattle.bag_disk.specs.Disk.{OnlyLooks, OnlySyncs, empty_disk};
+ghost use Rattle.bag_disk.specs.Refusal.{CountsAs, at_known};
 
-use crate::base_folder::BaseFolder;
+use crate::base_folder::{BaseFolder, Synced};
 use crate::disk::{Disk, DiskFault, Entry};
 use crate::failures::Failures;
 use crate::refusal::Subject;
@@ -28,6 +29,7 @@ pub struct SystemDisk<R: Files> {
     openings: Items<Text>,
     opened: Option<R::File>,
     written: Option<R::File>,
+    synced: Synced,
     entered: Option<ReadDir<R, Global>>,
     /// What was named last.
     named: Option<DirEntry<R, Global>>,
@@ -85,8 +87,7 @@ impl<R: Files> SystemDisk<R> {
 }
 
 impl<R: Files + AllocGlobal + Clone + Drop> Disk for SystemDisk<R> {
-    ghost state = { λ disk.
-        system_state disk.openings (is_some disk.opened) (failures_counted disk.failures) };
+    ghost state = { state_of_system };
 
     fn entry_at(&mut self, path: &str) -> Result<Entry, DiskFault> {
         let found = self.base.entry(&self.rt, path);
@@ -203,8 +204,18 @@ impl<R: Files + AllocGlobal + Clone + Drop> WritableDisk for SystemDisk<R> {
         Ok(())
     }
 
-    fn sync_folder(&mut self, folder: &str) -> Result<(), DiskFault> {
-        let synced = self.base.sync(&self.rt, folder);
+    /// Where it is answered, the system was asked, and said that it synced the folder.
+    fn sync_folder(&mut self, folder: &str) -> Result<(), DiskFault>
+        ensures asked { OnOk result
+            (synced_by self.new ≡ synced_by self.old ++ folder.now ++ 0 ∷ []) }
+        ensures syncs { OnlySyncs (state_of_system self.old) (state_of_system self.new) }
+        ensures same { OnErr result
+            (OnlyLooks (state_of_system self.old) (state_of_system self.new)) }
+        ensures same_file { is_some self.new.written ≡ is_some self.old.written }
+        ensures failures { CountsAs
+            at_known result (state_of_system self.old) (state_of_system self.new) }
+    {
+        let synced = self.base.sync(&self.rt, folder, &mut self.synced);
         self.failures.counted(Subject::Known, synced)
     }
 }
@@ -223,6 +234,7 @@ impl<R: Files + AllocGlobal + Clone + Drop> SystemDisk<R> {
             openings: Items::new(alloc),
             opened: None,
             written: None,
+            synced: Synced::none(),
             entered: None,
             named: None,
             failures: Failures::none(),
