@@ -54,8 +54,8 @@ impl Bytes {
     }
 
     /// Adds what a value shows itself as, and a text after it.
-    pub fn show<T: Display>(&mut self, value: &T, behind: &str) {
-        if write!(self.held, "{value}{behind}").is_err() {
+    pub fn show<T: Display>(&mut self, value: &T, after: &str) {
+        if write!(self.held, "{value}{after}").is_err() {
             self.fail(Mistake::Memory);
         }
     }

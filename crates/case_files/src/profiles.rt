@@ -16,10 +16,10 @@ const LISTS: &[(&str, ListRule)] = &[
 ];
 
 /// Values, each after a mark and before another one.
-fn put_values(mark: &str, values: &[Text], behind: &str, out: &mut Bytes) {
+fn put_values(mark: &str, values: &[Text], after: &str, out: &mut Bytes) {
     for value in values {
         out.put(mark);
-        out.show(value, behind);
+        out.show(value, after);
     }
 }
 

@@ -47,7 +47,7 @@ impl Texts {
     }
 
     /// Adds what `$` begins, where `{NAME}` stands after it a text with a name; gives the rest.
-    fn add_behind_dollar<'a>(&self, text: &'a str, bytes: &mut Bytes) -> &'a str {
+    fn add_after_dollar<'a>(&self, text: &'a str, bytes: &mut Bytes) -> &'a str {
         let Some(name) = text.strip_prefix('{') else {
             bytes.put("$");
             return text;
@@ -64,16 +64,16 @@ impl Texts {
     fn add(&self, text: &str, bytes: &mut Bytes) -> bool {
         let mut rest = text;
         for _ in 0..text.len() {
-            let Some((plain, behind)) = rest.split_once(['\\', '$']) else {
+            let Some((plain, after)) = rest.split_once(['\\', '$']) else {
                 break;
             };
             bytes.put(plain);
             if rest.as_bytes().get(plain.len()) == Some(&b'$') {
-                rest = self.add_behind_dollar(behind, bytes);
-            } else if behind.is_empty() {
+                rest = self.add_after_dollar(after, bytes);
+            } else if after.is_empty() {
                 return false;
             } else {
-                rest = add_escaped(behind, bytes);
+                rest = add_escaped(after, bytes);
             }
         }
         bytes.put(rest);

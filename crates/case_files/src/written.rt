@@ -23,10 +23,10 @@ pub(crate) fn pairs_of(alloc: Global, text: &str, mistakes: &mut Bytes) -> Vec<(
     let mut pairs = Vec::new(alloc);
     let mut rest = text;
     for _ in 0..text.len() {
-        let Some((front, behind)) = rest.split_once('|') else {
+        let Some((front, after)) = rest.split_once('|') else {
             break;
         };
-        let (back, after) = behind.split_once('|').unwrap_or((behind, ""));
+        let (back, after) = after.split_once('|').unwrap_or((after, ""));
         let pair = (kept(alloc, front, mistakes), kept(alloc, back, mistakes));
         if pairs.push(pair).is_err() {
             mistakes.fail(Mistake::Memory);

@@ -356,7 +356,7 @@ fn finds_what_a_plain_check_finds(rt: HostRuntime) {
 }
 
 #[test]
-fn goes_on_behind_each_fault(rt: HostRuntime) {
+fn goes_on_after_each_fault(rt: HostRuntime) {
     for bag in 0..150 {
         for (depth, clashes) in CHECKS {
             let options = Options { depth, clashes };

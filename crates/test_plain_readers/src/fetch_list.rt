@@ -53,10 +53,10 @@ fn is_length(text: &str) -> bool {
 
 /// The URL, the length and the spelling of the path.
 fn parts_of(line: &str) -> Option<(&str, &str, &str)> {
-    let (url, behind) = longest(line, false);
-    let (gap, behind) = longest(behind, true);
-    let (length, behind) = longest(behind, false);
-    let (second_gap, spelling) = longest(behind, true);
+    let (url, after) = longest(line, false);
+    let (gap, after) = longest(after, true);
+    let (length, after) = longest(after, false);
+    let (second_gap, spelling) = longest(after, true);
     if url.is_empty()
         || gap.is_empty()
         || !is_length(length)
@@ -85,14 +85,14 @@ fn write_path(stop: &impl Abort, rules: Rules, spelling: &str, path: &mut String
     path.push_str(pieces.next().unwrap_or(""))
         .expect(stop, "succeeds");
     for piece in pieces {
-        let (character, behind) = match escaped(rules, piece.get(..2).unwrap_or("")) {
+        let (character, after) = match escaped(rules, piece.get(..2).unwrap_or("")) {
             Some(character) => (character, piece.get(2..).unwrap_or("")),
             None => ("%", piece),
         };
-        if rules == Rules::V10 && behind == piece {
+        if rules == Rules::V10 && after == piece {
             return false;
         }
-        write!(path, "{character}{behind}").expect(stop, "succeeds");
+        write!(path, "{character}{after}").expect(stop, "succeeds");
     }
     true
 }
@@ -148,8 +148,8 @@ fn read_plainly(stop: &impl Abort, alloc: Global, rules: Rules, text: &str) -> S
     let mut entries = String::new(alloc);
     let mut faults = String::new(alloc);
     for (place, line) in text.lines().enumerate() {
-        let (_, behind) = longest(line, true);
-        if !behind.is_empty() {
+        let (_, after) = longest(line, true);
+        if !after.is_empty() {
             let number = place.saturating_add(1);
             judge(
                 stop,

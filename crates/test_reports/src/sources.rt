@@ -82,8 +82,8 @@ fn is_joined(
     let first = Merge::new(fixed(stop, alloc, a), fixed(stop, alloc, b));
     let mut joined = Then::new(first, fixed(stop, alloc, c));
     let mut wanted = plain(stop, alloc, &[a, b]);
-    let behind = plain(stop, alloc, &[c]);
-    wanted.push_str(behind.as_str()).expect(stop, "succeeds");
+    let after = plain(stop, alloc, &[c]);
+    wanted.push_str(after.as_str()).expect(stop, "succeeds");
     drain(stop, alloc, tree, &mut joined) == wanted
 }
 
@@ -102,7 +102,7 @@ fn merged_sources_give_each_fault_once(rt: HostRuntime) {
 }
 
 #[test]
-fn one_source_comes_behind_another(rt: HostRuntime) {
+fn one_source_comes_after_another(rt: HostRuntime) {
     let mut tree = tree_of(&rt, rt.alloc(), &[]);
     for number in 0..216usize {
         let places = [number % 6, number / 6 % 6, number / 36 % 6];

@@ -153,7 +153,7 @@ fn try_steps(stop: &impl Abort, alloc: Global, row: &Row, count: usize) {
 }
 
 #[test]
-fn steps_open_no_file_behind_their_fault(rt: HostRuntime) {
+fn steps_open_no_file_after_their_fault(rt: HostRuntime) {
     for row in ROWS {
         for count in 0..=row.steps.len() {
             try_steps(&rt, rt.alloc(), row, count);
