@@ -26,7 +26,7 @@ pub(crate) fn put_closing<W: Out>(
             if request.quiet {
                 Ok(())
             } else {
-                put_verdict(name, verdict(request.options.depth), out)
+                put_line(name, &[verdict(request.options.depth), "\n"], out)
             }
         }
         Outcome::Faults(count) => put_count(name, said::HAS_FAULTS, *count, out),
@@ -49,12 +49,6 @@ fn verdict(depth: Depth) -> &'static str
     }
 }
 
-fn put_verdict<W: Out>(name: &str, verdict: &str, out: &mut W) -> Result<(), Refused>
-    ensures { Writes (W.state out.old) (W.state out.new) (spec.about name.now verdict.now) result }
-{
-    put_line(name, &[verdict, "\n"], out)
-}
-
 fn put_count<W: Out>(name: &str, text: &str, count: u64, out: &mut W) -> Result<(), Refused>
     ensures { Writes (W.state out.old) (W.state out.new)
         (spec.about_count name.now text.now count) result }
@@ -68,12 +62,6 @@ fn put_unread<W: Out>(name: &str, stop: &Stop, count: u64, out: &mut W) -> Resul
         (spec.unread_line name.now stop.now count) result }
 {
     put_line(name, &[said::UNREAD], out)?;
-    put_cause(stop, count, out)
-}
-
-fn put_cause<W: Out>(stop: &Stop, count: u64, out: &mut W) -> Result<(), Refused>
-    ensures { Writes (W.state out.old) (W.state out.new) (spec.stopped_at stop.now count) result }
-{
     let mut digits = Buffer::new();
     put_line(
         stop.path.as_str(),

@@ -6,7 +6,6 @@ ghost use Rattle.bag_facts.specs.FaultOrder.{fault_cmp};
 ghost use Rattle.bag_facts.specs.Facts.{OfBag};
 ghost use Rattle.bag_facts.specs.Options.{reaches};
 ghost use Rattle.bag_stages.specs.CompletenessFaults.{IsIncomplete, IsWrong};
-ghost use Rattle.bag_stages.specs.CompletenessStage.{IsSoughtInStageSix};
 ghost use Rattle.bag_walk.specs.Completeness.{AreAbove, AreSought};
 ghost use Rattle.bag_walk.specs.Completeness.{AreOfStageSix, IsOfAlg, IsOfSomeAlg};
 ghost use Rattle.bag_walk.specs.Source.{first_of};
@@ -41,34 +40,24 @@ impl Completeness {
         ensures none { IfOk result (λ source.
             reaches facts.now.options.depth 6 ≡ false → source.list.faults ≡ []) }
     {
-        let faults = asked(alloc, facts, after)?;
+        let faults = sought(alloc, facts, after)?;
         Ok(Completeness {
             list: Fixed::of(faults),
         })
     }
 }
 
-/// The faults of completeness and of names above a cursor that are asked for.
-fn asked(alloc: Global, facts: &Facts, after: Option<&Fault>) -> Result<Vec<Fault>, AllocError>
+/// The faults of completeness above a cursor, and where the options ask for them the clashes of
+/// names. There are none where the depth doesn't have the stage.
+fn sought(alloc: Global, facts: &Facts, after: Option<&Fault>) -> Result<Vec<Fault>, AllocError>
     ensures sought { IfOk result (λ faults.
         AreSought facts.now (option_copied after.entry) faults.items) }
     ensures none { IfOk result (λ faults.
         reaches facts.now.options.depth 6 ≡ false → faults.items ≡ []) }
 {
-    if facts.options.depth.has_stage(6) {
-        sought(alloc, facts, after)
-    } else {
-        Ok(Vec::new(alloc))
+    if !facts.options.depth.has_stage(6) {
+        return Ok(Vec::new(alloc));
     }
-}
-
-/// The faults of completeness above a cursor, of facts read for more than the declaration, and
-/// where the options ask for them the clashes of names.
-fn sought(alloc: Global, facts: &Facts, after: Option<&Fault>) -> Result<Vec<Fault>, AllocError>
-    ensures { IfOk result (λ faults. OfBag facts.now (λ bag.
-        AreAbove (option_copied after.entry)
-        (IsSoughtInStageSix facts.now.options.clashes bag) faults.items)) }
-{
     let of_files = of_files(alloc, facts, after)?;
     let of_names = above(clashes_if_set(alloc, facts)?, after);
     merged(alloc, of_files, of_names)

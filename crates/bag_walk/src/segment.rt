@@ -158,14 +158,17 @@ impl Lines {
         }
     }
 
-    /// Puts a fault's line into the buffer.
+    /// Puts a fault's line with its end, an LF, in place of what the buffer held. It takes memory
+    /// only where the line is longer than the buffer.
     pub(crate) fn fill(&mut self, fault: &Fault) -> Result<(), AllocError>
         ensures last { string_bytes self.new.last ≡ string_bytes self.old.last }
         ensures next { OnOk result (string_bytes self.new.next ≡ written_line fault.now) }
         ensures fault { IsFault fault.now }
     {
         every_fault_is_one(fault);
-        fill_line(&mut self.next, fault)
+        self.next.clear();
+        fault.append_line(&mut self.next)?;
+        self.next.push_str("\n")
     }
 
     /// Makes the line in the buffer the last.
@@ -188,16 +191,6 @@ impl Lines {
             Err(_) => Err(AllocError),
         }
     }
-}
-
-/// Puts a fault's line with its end, an LF, in place of what the buffer held. It takes memory only
-/// where the line is longer than the buffer.
-pub(crate) fn fill_line(line: &mut String, fault: &Fault) -> Result<(), AllocError>
-    ensures { OnOk result (string_bytes line.new ≡ written_line fault.now) }
-{
-    line.clear();
-    fault.append_line(line)?;
-    line.push_str("\n")
 }
 
 /// How a run ends that has shown all faults above a cursor, and has written `written` of them.

@@ -1,20 +1,18 @@
 //! A file whose digests are to be compared.
-ghost use Rattle.std.specs.Prelude.{ℕ, ◌≡◌, List, Contains, length, Some, IsTrue};
-ghost use Rattle.std.specs.Prelude.{IfOk, IfErr, OnOk, OnErr};
+ghost use Rattle.std.specs.Prelude.{◌≡◌, Contains, length, IsTrue, IfOk, IfErr, OnOk, OnErr};
 ghost use Rattle.std.specs.Option.{option_copied};
 ghost use Rattle.bag_tree.specs.NothingFailed.{NothingFailed};
 ghost use Rattle.bag_tree.specs.Tree.{Keeps, OpensAtMost};
-ghost use Rattle.bag_stages.specs.SumFaults.{AreSumsBy};
 ghost use Rattle.bag_stages.specs.declared.expected.Expected.{Expected as Given};
 ghost use Rattle.bag_report.specs.Report.{above};
-ghost use Rattle.bag_walk.specs.ToSum.{faults_at, faults_in, MayStopAtIt, MayStopAtItAnyway};
+ghost use Rattle.bag_walk.specs.ToSum.{faults_in, MayStopAtIt, MayStopAtItAnyway};
 ghost use Rattle.bag_walk.specs.ToSum.{OpensIt, StopsAtIt};
 
 use crate::fixed::above;
 use bag_facts::{Fault, refusal_of};
 use bag_stages::{Packed, faults_by};
 use bag_text::AlgSet;
-use bag_tree::{FileEntry, Stop, Sums, Tree, TreeFault, digest_file};
+use bag_tree::{FileEntry, Stop, Tree, TreeFault, digest_file};
 use std::alloc::{AllocError, Global};
 
 /// A listed file, and what manifests give for it, in the order of their algorithms.
@@ -55,8 +53,8 @@ pub(crate) fn faults_of_file<T: Tree>(
         Ok(sums) => sums,
         Err(cause) => return Err(refusal_of(alloc, cause, path)),
     };
-    match faults_above(alloc, to_sum, &sums, after) {
-        Ok(faults) => Ok(faults),
+    match faults_by(alloc, &to_sum.file.path, &to_sum.expected, &sums) {
+        Ok(faults) => Ok(above(faults, after)),
         Err(AllocError) => Err(Stop::without_path(alloc, TreeFault::Memory)),
     }
 }
@@ -70,19 +68,4 @@ fn algs_of(expected: &Packed) -> AlgSet
         algs = algs.with(one.alg);
     }
     algs
-}
-
-/// The faults of a file whose digests are these, above a cursor.
-fn faults_above(
-    alloc: Global,
-    to_sum: &ToSum,
-    sums: &Sums,
-    after: Option<&Fault>,
-) -> Result<Vec<Fault>, AllocError>
-    ensures { IfOk result (λ faults. (content : List ℕ)
-        → AreSumsBy to_sum.now.expected content sums.now → faults.items
-        ≡ above (option_copied after.entry) (faults_at to_sum.now (Some content))) }
-{
-    let faults = faults_by(alloc, &to_sum.file.path, &to_sum.expected, sums)?;
-    Ok(above(faults, after))
 }

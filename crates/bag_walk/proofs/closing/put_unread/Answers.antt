@@ -12,5 +12,6 @@ returns-in_err-put_line g c =
 
 pub returns : goal.returns
 returns g c =
-    writes_third (g.W.Out.state c.args.out.now) (g.W.Out.state c.put_line.new.out) (g.W.Out.state c.put_cause.new.out)
-    (field c.args.name.now) (codes " unread ") _ _ c.put_cause.ensures c.in_ok-put_line.ensures
+    writes_third (g.W.Out.state c.args.out.now) (g.W.Out.state c.put_line.new.out) (g.W.Out.state c.put_line-2.new.out)
+    (field c.args.name.now) (codes " unread ") _ _
+    (rw (c.as_str.ensures, c.word.ensures, c.format.ensures.text) at c.put_line-2.ensures) c.in_ok-put_line.ensures

@@ -1,14 +1,14 @@
-use Rattle.bag_walk.proofs.Common.{◌∙◌, inr, sym, ap, subst, option_copied, nothing_asked, above, faults_at, Contains}
+use Rattle.bag_walk.proofs.Common.{◌∙◌, inr, sym, ap, option_copied, nothing_asked, above, faults_at}
 use Rattle.bag_walk.proofs.Refusing.{anyway_of_memory, anyway_of_refusal, filling_of_memory, filling_of_refusal}
 use Rattle.bag_walk.proofs.Summing.{named_at}
 use Rattle.bag_walk.proofs.to_sum.faults_of_file.Goals as goal
 
-pub returns-in-Ok-faults_above-clause-faults : goal.returns-in-Ok-faults_above-clause-faults
-returns-in-Ok-faults_above-clause-faults g c = λ honest.
+pub returns-in-Ok-faults_by-clause-faults : goal.returns-in-Ok-faults_by-clause-faults
+returns-in-Ok-faults_by-clause-faults g c = λ honest.
     let sums = c.in-Ok-digest_file.ensures.sums in
-    c.in-Ok-faults_above.ensures sums.content
-    (λ one d. sums.sums_of.each one.alg
-    (c.algs_of-algs.ensures one d))
+    c.above.ensures
+    ∙ ap (above (option_copied c.args.after))
+    (c.in-Ok-faults_by.ensures sums.content (λ one d. sums.sums_of.each one.alg (c.algs_of-algs.ensures one d)))
     ∙ ap (λ o. above (option_copied c.args.after) (faults_at c.args.to_sum.now o)) (sym (sums.honest honest))
 
 pub returns-in-Err-clause-refused : goal.returns-in-Err-clause-refused
