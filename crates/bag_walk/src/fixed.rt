@@ -246,10 +246,7 @@ impl<T: Tree, A: Source<T>, B: Source<T>> Source<T> for Then<A, B> {
         if !self.in_first {
             return self.second.fill(tree);
         }
-        match self.first.fill(tree) {
-            Ok(()) => {}
-            Err(stop) => return Err(stop),
-        }
+        self.first.fill(tree)?;
         if self.first.peek().is_some() {
             return Ok(());
         }

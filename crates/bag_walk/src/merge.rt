@@ -91,13 +91,9 @@ impl<T: Tree, A: Source<T>, B: Source<T>> Source<T> for Merge<A, B> {
                 return Err(stop);
             }
         }
-        match self.second.fill(tree) {
-            Ok(()) => {
-                self.filled = Filled::Both;
-                Ok(())
-            }
-            Err(stop) => Err(stop),
-        }
+        self.second.fill(tree)?;
+        self.filled = Filled::Both;
+        Ok(())
     }
 
     fn peek(&self) -> Option<&Fault> {

@@ -34,9 +34,7 @@ impl<T: Tree, S: InOrder<T>> Steps<T, S> {
         ensures went { went result ≡ gone }
         ensures given { IfOk result (λ given. option_copied given ≡ shown S.Source self.now) }
     {
-        match gone {
-            Ok(()) => Ok(self.shown()),
-            Err(stop) => Err(stop),
-        }
+        gone?;
+        Ok(self.shown())
     }
 }

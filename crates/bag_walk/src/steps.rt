@@ -60,13 +60,9 @@ impl<T: Tree, S: InOrder<T>> Steps<T, S> {
         ensures anyway { IfErr result (MayStopOverAny T.Tree S.Source self.old self.new) }
     {
         self.leave();
-        match self.source.fill(&mut self.tree) {
-            Ok(()) => {
-                self.is_shown = true;
-                Ok(())
-            }
-            Err(stop) => Err(stop),
-        }
+        self.source.fill(&mut self.tree)?;
+        self.is_shown = true;
+        Ok(())
     }
 
     /// Takes away the fault that was given.

@@ -1,5 +1,5 @@
 use Rattle.bag_walk.proofs.Common.{◌≡◌, ◌++◌, ◌∙◌, [], inl, inr, sym, subst, on_ok_weaker, on_err_weaker, IfErr-weaker}
-use Rattle.bag_walk.proofs.Common.{Bag, keeps_on, nothing_then, Opens, Sees, none_is}
+use Rattle.bag_walk.proofs.Common.{Bag, keeps_on, nothing_then, Opens, Sees, none_is, err_from_is_err_and}
 use Rattle.bag_walk.proofs.Filling.{again_on, again_within, anyway_front, anyway_later, behind_first, behind_on}
 use Rattle.bag_walk.proofs.Filling.{first_front, front_same, none_shown, once, opened_by, opens_front, opens_on}
 use Rattle.bag_walk.proofs.Filling.{reached_front, reached_on, sees_later, sees_parts, some_shown, stop_front}
@@ -19,8 +19,8 @@ returns-then-not-self-clause-waits g c = rw c.if-not-self.true
     (IfErr-weaker c.fill.result _ _ (λ stop waits ordered bag h sees. waits ordered.1 bag h.1 sees)
     c.fill.ensures.waits)
 
-pub returns-in-Err-clause-same : goal.returns-in-Err-clause-same
-returns-in-Err-clause-same g c = rw c.if-not-self.false (λ bag h sees.
+pub returns-in_err-fill-clause-same : goal.returns-in_err-fill-clause-same
+returns-in_err-fill-clause-same g c = rw c.if-not-self.false (λ bag h sees.
     let first = c.args.self.now.first in
     let second = c.args.self.now.second in
     let seen =
@@ -28,46 +28,53 @@ returns-in-Err-clause-same g c = rw c.if-not-self.false (λ bag h sees.
     front_same (g.A.Source.remaining bag first) (g.B.Source.remaining bag second) _ (g.A.Source.todo first)
     (g.A.Source.todo c.fill-2.new.self) _ _ _
     (c.fill-2.ensures.same bag h.0.0 seen) h.0.1 h.0.2 h.1 (λ ordered.
-    let again = c.in-Err.ensures.again ordered in (again.passed, again.left)))
+    let again = c.in_err-fill.ensures.again ordered in (again.passed, again.left)))
 
-pub returns-in-Err-clause-none_early : goal.returns-in-Err-clause-none_early
-returns-in-Err-clause-none_early g c = rw c.if-not-self.false (λ ordered bag h sees.
+pub returns-in_err-fill-clause-none_early : goal.returns-in_err-fill-clause-none_early
+returns-in_err-fill-clause-none_early g c = rw c.if-not-self.false (λ ordered bag h sees.
     let state = g.T.Tree.state in
     let xs = g.A.Source.todo c.args.self.now.first in
     let seen = (sees_parts (state c.args.tree.now) xs (g.B.Source.todo c.args.self.now.second) bag sees).0 in
     behind_first _ _ (state c.args.tree.now) (state c.fill-2.new.tree) xs (h.0.2 ordered.0)
-    (c.in-Err.ensures.again ordered.0)
+    (c.in_err-fill.ensures.again ordered.0)
     (c.fill-2.ensures.none_early ordered.0 bag h.0.0 seen))
 
-pub returns-in-Err-clause-stop : goal.returns-in-Err-clause-stop
-returns-in-Err-clause-stop g c =
-    rw c.if-not-self.false (λ of.
-    stop_front (g.B.Source.todo c.args.self.now.second) (c.in-Err.ensures.stop (λ honest. (of honest).0.0)))
+pub returns-in_err-fill-clause-stop : goal.returns-in_err-fill-clause-stop
+returns-in_err-fill-clause-stop g c =
+    let p = err_from_is_err_and c.from_residual.result c.from_residual.ensures.1 in
+    rw (p.1, p.2, c.if-not-self.false) (λ of.
+    stop_front (g.B.Source.todo c.args.self.now.second) (c.in_err-fill.ensures.stop (λ honest. (of honest).0.0)))
 
-pub returns-in-Err-clause-anyway : goal.returns-in-Err-clause-anyway
-returns-in-Err-clause-anyway g c = rw c.if-not-self.false
-    (anyway_front (g.B.Source.todo c.args.self.now.second) c.in-Err.ensures.anyway)
+pub returns-in_err-fill-clause-anyway : goal.returns-in_err-fill-clause-anyway
+returns-in_err-fill-clause-anyway g c =
+    let p = err_from_is_err_and c.from_residual.result c.from_residual.ensures.1 in
+    rw (p.1, p.2, c.if-not-self.false)
+    (anyway_front (g.B.Source.todo c.args.self.now.second) c.in_err-fill.ensures.anyway)
 
-pub returns-in-Err-clause-reached : goal.returns-in-Err-clause-reached
-returns-in-Err-clause-reached g c = rw c.if-not-self.false (λ ordered.
+pub returns-in_err-fill-clause-reached : goal.returns-in_err-fill-clause-reached
+returns-in_err-fill-clause-reached g c =
+    let p = err_from_is_err_and c.from_residual.result c.from_residual.ensures.1 in
+    rw (p.1, p.2, c.if-not-self.false) (λ ordered.
     let state = g.T.Tree.state in
     let self = c.args.self.now in
-    elim (c.in-Err.ensures.reached ordered.0) [
+    elim (c.in_err-fill.ensures.reached ordered.0) [
       | inl memory ↦ inl memory
       | inr reached ↦ inr
           (reached_front (state c.args.tree.now) (state c.fill-2.new.tree) (g.A.Source.todo self.first)
           (g.B.Source.todo self.second)
-          c.in-Err.stop.path reached)
+          c.in_err-fill.field-0.0.path reached)
     ])
 
-pub returns-in-Err-clause-waits : goal.returns-in-Err-clause-waits
-returns-in-Err-clause-waits g c = rw c.if-not-self.false (λ ordered bag h sees.
+pub returns-in_err-fill-clause-waits : goal.returns-in_err-fill-clause-waits
+returns-in_err-fill-clause-waits g c =
+    let p = err_from_is_err_and c.from_residual.result c.from_residual.ensures.1 in
+    rw (p.1, p.2, c.if-not-self.false) (λ ordered bag h sees.
     let state = g.T.Tree.state in
     let xs = g.A.Source.todo c.args.self.now.first in
     let seen = (sees_parts (state c.args.tree.now) xs (g.B.Source.todo c.args.self.now.second) bag sees).0 in
-    waits_first _ _ (state c.args.tree.now) (state c.fill-2.new.tree) xs (h.0.2 ordered.0) c.in-Err.stop
-    (c.in-Err.ensures.reached ordered.0)
-    (c.in-Err.ensures.waits ordered.0 bag h.0.0 seen))
+    waits_first _ _ (state c.args.tree.now) (state c.fill-2.new.tree) xs (h.0.2 ordered.0) c.in_err-fill.field-0.0
+    (c.in_err-fill.ensures.reached ordered.0)
+    (c.in_err-fill.ensures.waits ordered.0 bag h.0.0 seen))
 
 pub returns-then-is_some-clause-same : goal.returns-then-is_some-clause-same
 returns-then-is_some-clause-same g c = rw c.if-not-self.false (λ bag h sees.
@@ -78,7 +85,7 @@ returns-then-is_some-clause-same g c = rw c.if-not-self.false (λ bag h sees.
     front_same (g.A.Source.remaining bag first) (g.B.Source.remaining bag second) _ (g.A.Source.todo first)
     (g.A.Source.todo c.fill-2.new.self) _ _ _
     (c.fill-2.ensures.same bag h.0.0 seen) h.0.1 h.0.2 h.1 (λ ordered.
-    let opens = c.in-Ok.ensures.opens ordered in (opens.opened, opens.left)))
+    let opens = c.in_ok-fill.ensures.opens ordered in (opens.opened, opens.left)))
 
 pub returns-then-is_some-clause-first : goal.returns-then-is_some-clause-first
 returns-then-is_some-clause-first g c = rw c.if-not-self.false (λ bag h sees.
@@ -88,7 +95,7 @@ returns-then-is_some-clause-first g c = rw c.if-not-self.false (λ bag h sees.
     first_front (g.A.Source.found c.fill-2.new.self) (g.A.Source.remaining bag c.fill-2.new.self)
     (g.B.Source.remaining bag c.args.self.now.second)
     (some_shown c.peek.result c.peek.ensures c.is_some.ensures c.if-is_some.true)
-    (c.in-Ok.ensures.first bag h.0.0 seen))
+    (c.in_ok-fill.ensures.first bag h.0.0 seen))
 
 pub returns-then-is_some-clause-none_early : goal.returns-then-is_some-clause-none_early
 returns-then-is_some-clause-none_early g c = rw c.if-not-self.false (λ ordered bag h sees.
@@ -96,7 +103,7 @@ returns-then-is_some-clause-none_early g c = rw c.if-not-self.false (λ ordered 
     let xs = g.A.Source.todo c.args.self.now.first in
     let seen = (sees_parts (state c.args.tree.now) xs (g.B.Source.todo c.args.self.now.second) bag sees).0 in
     behind_first _ _ (state c.args.tree.now) (state c.fill-2.new.tree) xs (h.0.2 ordered.0)
-    (once (c.in-Ok.ensures.opens ordered.0))
+    (once (c.in_ok-fill.ensures.opens ordered.0))
     (c.fill-2.ensures.none_early ordered.0 bag h.0.0 seen))
 
 pub returns : goal.returns
@@ -110,7 +117,7 @@ returns g c = rw c.if-not-self.false (
     let ys = g.B.Source.todo second in
     let result = c.fill-3.result in
     let keeps = c.fill-2.ensures.keeps in
-    let one = c.in-Ok.ensures in
+    let one = c.in_ok-fill.ensures in
     let other = c.fill-3.ensures in
     let none = none_shown c.peek.result c.peek.ensures c.is_some.ensures c.if-is_some.false in
     let opens : g.A.Source.in_order → Opens xs [] old mid = λ ordered.
