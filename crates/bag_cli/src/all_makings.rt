@@ -15,7 +15,7 @@ use bag_tree::{Out, Refused};
 use std::alloc::{AllocError, Global};
 
 /// Makes the folders of a plan bags in place, one after the other.
-pub(crate) fn make_all<D, O, E>(
+pub(crate) fn make_all<D: Disks, O: Out, E: Out>(
     alloc: Global,
     folders: &Folders<'_, D>,
     plan: &Plan,
@@ -23,10 +23,6 @@ pub(crate) fn make_all<D, O, E>(
     out: &mut O,
     err: &mut E,
 ) -> u8
-where
-    D: Disks,
-    O: Out,
-    E: Out,
     ensures { Does O.Out visits.old visits.new out.old out.new result
         (AreMade (D.below (disks_of folders.now)) plan.now) }
 {

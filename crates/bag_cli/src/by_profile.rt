@@ -15,7 +15,7 @@ use bag_tree::{Out, Refused};
 use std::alloc::Global;
 
 /// Checks the bags in the folders of a plan, by its profile where it has one, which is read first.
-pub(crate) fn check_by_profile<D, O, E>(
+pub(crate) fn check_by_profile<D: Disks, O: Out, E: Out>(
     alloc: Global,
     folders: &Folders<'_, D>,
     plan: &Plan,
@@ -23,10 +23,6 @@ pub(crate) fn check_by_profile<D, O, E>(
     out: &mut O,
     err: &mut E,
 ) -> u8
-where
-    D: Disks,
-    O: Out,
-    E: Out,
     ensures { Does O.Out visits.old visits.new out.old out.new result
         (IsChecked (D.below (disks_of folders.now)) (D.file (disks_of folders.now))
         plan.now plan.now.profile) }
@@ -46,7 +42,7 @@ where
 }
 
 /// Says which keys of a profile aren't checked, and checks the bags in the folders of a plan by it.
-fn check_by<D, O, E>(
+fn check_by<D: Disks, O: Out, E: Out>(
     alloc: Global,
     folders: &Folders<'_, D>,
     plan: &Plan,
@@ -55,10 +51,6 @@ fn check_by<D, O, E>(
     out: &mut O,
     err: &mut E,
 ) -> u8
-where
-    D: Disks,
-    O: Out,
-    E: Out,
     ensures { Does O.Out visits.old visits.new out.old out.new result
         (AreCheckedBy (D.below (disks_of folders.now)) plan.now profile.now) }
 {

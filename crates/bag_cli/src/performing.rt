@@ -31,7 +31,7 @@ pub(crate) const REFUSED: u8 = 3;
 /// at most, in order, and no other; the profile's file is read once, and no other. Whatever a
 /// folder's status, the next one is asked for; where memory runs out for one, it stops, and that
 /// one was asked for.
-pub fn perform<D, O, E>(
+pub fn perform<D: Disks, O: Out, E: Out>(
     alloc: Global,
     folders: &Folders<'_, D>,
     plan: &Plan,
@@ -39,10 +39,6 @@ pub fn perform<D, O, E>(
     out: &mut O,
     err: &mut E,
 ) -> u8
-where
-    D: Disks,
-    O: Out,
-    E: Out,
     ensures status { result ≤ 3 }
     ensures performed { Does O.Out visits.old visits.new out.old out.new result
         (IsPerformed (D.below (disks_of folders.now)) (D.file (disks_of folders.now)) plan.now) }

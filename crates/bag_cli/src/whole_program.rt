@@ -16,7 +16,7 @@ use std::alloc::Global;
 ///
 /// The status of refused words is 2, and of words for which memory ran out 3, and then nothing is
 /// written to `out`; what `perform` says is that of all others.
-pub fn program<D, O, E>(
+pub fn program<D: Disks, O: Out, E: Out>(
     alloc: Global,
     folders: &Folders<'_, D>,
     words: &[&str],
@@ -24,10 +24,6 @@ pub fn program<D, O, E>(
     out: &mut O,
     err: &mut E,
 ) -> u8
-where
-    D: Disks,
-    O: Out,
-    E: Out,
     ensures { Does O.Out visits.old visits.new out.old out.new result
         (IsProgram (D.below (disks_of folders.now)) (D.file (disks_of folders.now))
         (texts_of_words words.now)) }
@@ -42,18 +38,13 @@ where
 /// gives the exit status.
 ///
 /// A word that isn't UTF-8 is refused.
-pub fn run_program<R, D, O, E>(
+pub fn run_program<R: Words + AllocGlobal, D: Disks, O: Out, E: Out>(
     rt: &R,
     folders: &Folders<'_, D>,
     visits: &mut Visits<D>,
     out: &mut O,
     err: &mut E,
 ) -> u8
-where
-    R: Words + AllocGlobal,
-    D: Disks,
-    O: Out,
-    E: Out,
     ensures { Does O.Out visits.old visits.new out.old out.new result
         (IsWholeProgram (R.answers rt.now)
         (D.below (disks_of folders.now)) (D.file (disks_of folders.now))) }
@@ -65,7 +56,7 @@ where
 }
 
 /// Does what words ask for.
-fn run_words<R, D, O, E>(
+fn run_words<R: AllocGlobal, D: Disks, O: Out, E: Out>(
     rt: &R,
     folders: &Folders<'_, D>,
     words: &[String],
@@ -73,11 +64,6 @@ fn run_words<R, D, O, E>(
     out: &mut O,
     err: &mut E,
 ) -> u8
-where
-    R: AllocGlobal,
-    D: Disks,
-    O: Out,
-    E: Out,
     ensures { Does O.Out visits.old visits.new out.old out.new result
         (IsProgramOrNone (D.below (disks_of folders.now)) (D.file (disks_of folders.now))
         (map string_bytes words.now)) }
