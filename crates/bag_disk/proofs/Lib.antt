@@ -6,6 +6,7 @@ pub mod DiskSteps
 pub mod FilesAndFolders
 pub mod FoundPaths
 pub mod Looked
+pub mod Mapped
 pub mod Moving
 pub mod PathOrder
 pub mod Plain

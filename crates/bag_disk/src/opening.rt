@@ -35,10 +35,7 @@ pub fn open_at<D: Disk>(disk: &mut D, path: &str) -> Result<(), Refusal>
         Ok(Entry::Other) => return Err(Refusal::Special),
         Err(fault) => return Err(Refusal::of_path(fault)),
     }
-    match disk.open(path) {
-        Ok(()) => Ok(()),
-        Err(fault) => Err(Refusal::of_path(fault)),
-    }
+    disk.open(path).map_err(Refusal::of_path)
 }
 
 /// Refuses a path that doesn't lead through folders alone.

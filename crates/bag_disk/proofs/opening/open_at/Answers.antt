@@ -1,11 +1,13 @@
-use Rattle.bag_disk.proofs.Common.{IsTrue, None, node, ◌≡◌, err_from_is_err_and, arith, ◌∙◌, ap, Err, bytes_of}
+use Rattle.bag_disk.proofs.Common.{IsTrue, None, node, ◌≡◌, err_from_is_err_and, arith, ◌∙◌, ap, Err, bytes_of, refl}
 use Rattle.bag_disk.proofs.Common.{file_of_disk}
 use Rattle.bag_disk.proofs.DiskSteps.{file_there, folder_there, looks_on}
 use Rattle.bag_disk.proofs.DiskPaths.{no_path}
 use Rattle.bag_disk.proofs.Looked.{had_before}
+use Rattle.bag_disk.proofs.Mapped.{if_err_mapped, on_ok_mapped}
 use Rattle.bag_disk.proofs.Plain.{other_seen}
 use Rattle.bag_disk.proofs.Refusals.{due_for, due_of_path}
-use Rattle.bag_disk.specs.Refusal.{MeetsSpecial}
+use Rattle.bag_disk.specs.Opening.{MayRefuseOpening}
+use Rattle.bag_disk.specs.Refusal.{MeetsSpecial, refusal_at_path}
 use Rattle.bag_disk.proofs.opening.open_at.Goals as goal
 
 pub returns-then-not-is_path-clause-refused : goal.returns-then-not-is_path-clause-refused
@@ -36,8 +38,13 @@ returns-in-Err-clause-refused g c =
       c.in-Err.ensures.absent (ap Err is),
     ))
 
-pub returns-in-Ok-clause-honest : goal.returns-in-Ok-clause-honest
-returns-in-Ok-clause-honest g c = λ honest. grind (arith, file_of_disk, file_there, looks_on)
+pub returns-clause-honest : goal.returns-clause-honest
+returns-clause-honest g c =
+    on_ok_mapped c.open.result c.map_err.result _ _ c.map_err.ensures.variant
+    (λ opened honest. grind (arith, file_of_disk, file_there, looks_on)) c.open.ensures.honest
 
-pub returns-in-Err-open-clause-refused : goal.returns-in-Err-open-clause-refused
-returns-in-Err-open-clause-refused g c = grind (arith, looks_on, due_of_path, had_before)
+pub returns-clause-refused : goal.returns-clause-refused
+returns-clause-refused g c =
+    if_err_mapped c.open.result c.map_err.result refusal_at_path
+    (MayRefuseOpening (g.D.Disk.state c.args.disk.now) c.args.path.now) c.map_err.ensures.cases
+    (λ fault is. due_of_path _ _ _ _ fault _ refl (λ none honest. grind (arith, looks_on, had_before, file_of_disk)))
