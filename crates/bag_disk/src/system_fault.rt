@@ -11,10 +11,7 @@ use std::io::ErrorKind;
 pub(crate) fn answer_of<T>(answer: io::Result<T>) -> Result<T, DiskFault>
     ensures { IfOk result (λ given. answer ≡ Ok given) }
 {
-    match answer {
-        Ok(given) => Ok(given),
-        Err(error) => Err(DiskFault::of(&error)),
-    }
+    answer.map_err(|error| DiskFault::of(&error))
 }
 
 impl From<AllocError> for DiskFault {
