@@ -48,10 +48,8 @@ pub(crate) fn sync_with_base<D: WritableDisk>(disk: &mut D, folder: &str) -> Res
     ensures refused { IfErr result (IsDueInStep ⊥ ⊥ ⊥) }
     ensures failures { IsCounted result (D.state disk.old) (D.state disk.new) }
 {
-    match sync_names(disk, folder) {
-        Ok(()) => sync_names(disk, BASE),
-        Err(refusal) => Err(refusal),
-    }
+    sync_names(disk, folder)?;
+    sync_names(disk, BASE)
 }
 
 /// Syncs the base folder, but where the names that folders were given in it are known to be
