@@ -118,25 +118,15 @@ fn move_below<D: WritableDisk>(
         (HasFolderInTheWay (D.state disk.old) top.now folder.now)) }
     ensures failures { IsCounted result (D.state disk.old) (D.state disk.new) }
 {
-    match check_is_folder(disk, folder) {
-        Ok(()) => {}
-        Err(refusal) => return Err(refusal),
-    }
-    match check_taken(disk, top) {
-        Ok(()) => {}
-        Err(refusal) => return Err(refusal),
-    }
+    check_is_folder(disk, folder)?;
+    check_taken(disk, top)?;
     let target = path_in(alloc, folder, top)?;
-    match standing_at(disk, target.as_str()) {
-        Ok(None) => {}
-        Ok(Some(Standing::File)) => return Err(Refusal::Exists),
-        Ok(Some(Standing::Folder)) => return Err(folder_in_the_way(disk, alloc, target.as_str())),
-        Err(refusal) => return Err(refusal),
+    match standing_at(disk, target.as_str())? {
+        None => {}
+        Some(Standing::File) => return Err(Refusal::Exists),
+        Some(Standing::Folder) => return Err(folder_in_the_way(disk, alloc, target.as_str())),
     }
-    match disk.rename(top, target.as_str()) {
-        Ok(()) => Ok(()),
-        Err(fault) => Err(Refusal::at_known(fault)),
-    }
+    disk.rename(top, target.as_str()).map_err(Refusal::at_known)
 }
 
 /// Gives a folder of the base folder another name, where nothing has it. Before that both folders
@@ -161,8 +151,5 @@ pub(crate) fn rename_folder<D: WritableDisk>(
     check_is_folder(disk, from)?;
     sync_with_base(disk, from)?;
     check_free(disk, to)?;
-    match disk.rename(from, to) {
-        Ok(()) => Ok(()),
-        Err(fault) => Err(Refusal::at_known(fault)),
-    }
+    disk.rename(from, to).map_err(Refusal::at_known)
 }
