@@ -25,7 +25,7 @@ ANSWERS = {  # what a reader looks for: the page, and what stands there
     "how to check with a profile, by the program": ("README.md", r"^    \$ bagit --validate .*--profile profile\.json letters$"),
     "which keys of a profile are checked": ("docs/PROFILES.md", r"^    bagit --validate --profile .*^## The keys$"),
     "how to check with a profile, from a program": ("docs/LIBRARY.md", r"^## A check$.*\bProfile::read\(.*\bSome\(&profile\)"),
-    "what stands under 'exactly those faults'": ("docs/THEOREM.md", r"(?i)\bexactly th[eo]se faults\b.*specs/Is\.antt`"),
+    "what stands under 'exactly those faults'": ("docs/THEOREM.md", r"(?i)\bexactly th[eo]se faults\b.*specs/Report\.antt`"),
     "where a new fault code goes": ("docs/MAP.md", r"^\*\*A fault code\*\*$\s+1\. "),
     "how to prove one function": ("CONTRIBUTING.md", r"^## One function$.*^    rt check --only "),
 }
@@ -139,7 +139,7 @@ def compare_crates(page, text):
 
 def fault_codes():
     """Each code as `NUMBER WORD`, by the definitions."""
-    text = text_of(crates / "bag_text" / "specs" / "Code.antt")
+    text = text_of(crates / "bag_text/specs/Code.antt") + text_of(crates / "bag_text/specs/CodeWord.antt")
     words = dict(re.findall(r'^word (\w+) = codes "([a-z0-9-]+)"$', text, re.M))
     return {f"{number} {words[name]}" for name, number in re.findall(r"^number (\w+) = (\d+)$", text, re.M)}
 

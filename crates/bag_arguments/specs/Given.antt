@@ -1,10 +1,9 @@
 -- What is given on the command line, by the matches of the words.
-use Rattle.std.specs.Prelude.{ℕ, ◌≡◌, ◌<◌, ◌≤◌, ◌^◌, Bool, ◌&&◌, ◌||◌, List, [], ◌∷◌, ◌++◌}
-use Rattle.std.specs.Prelude.{Option, Some, None, option_map, is_some, unwrap_or, if◌then◌else◌}
-use Rattle.std.specs.Prelude.{bytes_eq, codes, filter, filter_map, find, length, nat_lt}
-use Rattle.std.specs.Str.Parse.{IsNumeral, digits_value, without_leading_plus}
-use Rattle.clap.specs.Words.{Row, Text, all_of, first_of, found_of, one_of, rows_of}
-use Rattle.clap.specs.declared.parser.matches.ArgMatches.{ArgMatches}
+use Rattle.std.specs.Prelude.{ℕ, ◌≡◌, ◌≤◌, Bool, ◌&&◌, ◌||◌, List, [], ◌∷◌, Option, Some, None}
+use Rattle.std.specs.Prelude.{option_map, is_some, unwrap_or, if◌then◌else◌, bytes_eq, codes}
+use Rattle.std.specs.Prelude.{filter, filter_map, find, length, nat_lt}
+use Rattle.std.specs.Str.Parse.{digits_value, without_leading_plus}
+use Rattle.clap.specs.Words.{Row, Text, all_of, first_of, one_of}
 use Rattle.bag_text.specs.Text.{trim}
 use Rattle.bag_text.specs.Alg.{algs, name}
 use Rattle.bag_text.specs.declared.alg.Alg.{Alg}
@@ -16,10 +15,6 @@ use Rattle.bag_arguments.specs.declared.label.Label.{Label}
 use Rattle.bag_arguments.specs.declared.plan.InfoItem.{InfoItem}
 use Rattle.bag_arguments.specs.declared.check_option.CheckOption.{CheckOption}
 use Rattle.bag_arguments.specs.declared.check_option.CheckOption.TheVariants as check
-
--- what the matches hold: each argument that is given, with its values
-abbrev pub rows_in : ArgMatches → List Row
-rows_in found = rows_of (found_of found)
 
 -- whether an option without a value is given
 abbrev pub is_given : List Row → Text → Bool
@@ -57,10 +52,6 @@ check_id check.After = codes "after"
 check_id check.MaxFaults = codes "max-faults"
 check_id check.Clashes = codes "clashes"
 
--- as it is written
-abbrev pub check_name : CheckOption → Text
-check_name option = codes "--" ++ check_id option
-
 abbrev pub has_check_option : List Row → CheckOption → Bool
 has_check_option rows check.Profile = is_some (value rows (codes "profile"))
 has_check_option rows check.After = is_some (value rows (codes "after"))
@@ -91,17 +82,6 @@ depth rows =
 abbrev pub has_after_several : List Row → Bool
 has_after_several rows =
     is_some (value rows (codes "after")) && nat_lt 1 (length (directories rows))
-
--- a number from 1 to the greatest of 64 bits, in decimal
-abbrev pub IsLimitText : Text → Type 0
-IsLimitText text =
-    IsNumeral 10 (without_leading_plus text)
-    × (digits_value 10 (without_leading_plus text) < 2 ^ 64)
-    × (1 ≤ digits_value 10 (without_leading_plus text))
-
--- a limit that is given is such a number
-abbrev pub HasLimit : List Row → Type 0
-HasLimit rows = (text : Text) → value rows (codes "max-faults") ≡ Some text → IsLimitText text
 
 -- the limit of a text is its number, 1 or more
 abbrev pub IsLimit : Option Text → Option ℕ → Type 0

@@ -3,16 +3,14 @@ use Rattle.std.specs.Prelude.{List, [], ◌∷◌, codes}
 use Rattle.std.specs.Str.{str_to_ascii_lowercase}
 use Rattle.clap.specs.Words.{Text}
 use Rattle.bag_arguments.specs.declared.label.Label.{Label}
-use Rattle.bag_arguments.specs.declared.label.Label.TheVariants.{SourceOrganization}
-use Rattle.bag_arguments.specs.declared.label.Label.TheVariants.{OrganizationAddress, ContactName}
-use Rattle.bag_arguments.specs.declared.label.Label.TheVariants.{ContactPhone, ContactEmail}
-use Rattle.bag_arguments.specs.declared.label.Label.TheVariants.{ExternalDescription}
-use Rattle.bag_arguments.specs.declared.label.Label.TheVariants.{ExternalIdentifier, BagSize}
-use Rattle.bag_arguments.specs.declared.label.Label.TheVariants.{BagGroupIdentifier, BagCount}
-use Rattle.bag_arguments.specs.declared.label.Label.TheVariants.{InternalSenderIdentifier}
-use Rattle.bag_arguments.specs.declared.label.Label.TheVariants.{InternalSenderDescription}
+use Rattle.bag_arguments.specs.declared.label.Label.TheVariants.{BagSize, InternalSenderDescription}
+use Rattle.bag_arguments.specs.declared.label.Label.TheVariants.{BagCount, InternalSenderIdentifier}
 use Rattle.bag_arguments.specs.declared.label.Label.TheVariants.{BagItProfileIdentifier}
-use Rattle.bag_arguments.specs.declared.label.Label.TheVariants.{BaggingDate}
+use Rattle.bag_arguments.specs.declared.label.Label.TheVariants.{OrganizationAddress, ContactPhone}
+use Rattle.bag_arguments.specs.declared.label.Label.TheVariants.{ContactEmail, ExternalDescription}
+use Rattle.bag_arguments.specs.declared.label.Label.TheVariants.{SourceOrganization, ContactName}
+use Rattle.bag_arguments.specs.declared.label.Label.TheVariants.{ExternalIdentifier, BaggingDate}
+use Rattle.bag_arguments.specs.declared.label.Label.TheVariants.{BagGroupIdentifier}
 
 -- in the order in which their elements are written
 abbrev pub all_labels : List Label

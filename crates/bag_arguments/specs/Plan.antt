@@ -4,7 +4,7 @@ use Rattle.std.specs.Prelude.{Option, Some, None, Result, Ok, Err, option_map, i
 use Rattle.clap.specs.Words.{Kinds, Row, Text}
 use Rattle.clap.specs.declared.error.kind.ErrorKind.{ErrorKind}
 use Rattle.clap.specs.declared.error.kind.ErrorKind.TheVariants.{DisplayHelp}
-use Rattle.bag_facts.specs.FaultLine.{IsLineOf}
+use Rattle.bag_facts.specs.LineOf.{IsLineOf}
 use Rattle.bag_facts.specs.declared.fault.Fault.{Fault}
 use Rattle.bag_facts.specs.declared.options.Depth.TheVariants.{Declaration}
 use Rattle.bag_arguments.specs.Given.{validates, directories, depth, is_given, value, IsLimit}

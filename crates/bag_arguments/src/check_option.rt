@@ -1,6 +1,7 @@
 //! The options that need `--validate`.
 ghost use Rattle.std.specs.Prelude.{◌≡◌, Some};
 ghost use Rattle.bag_arguments.specs.Given as spec;
+ghost use Rattle.bag_arguments.specs.GivenRows as rows;
 
 use std::fmt;
 
@@ -30,7 +31,7 @@ pub(crate) const CHECK_OPTIONS: [CheckOption; 7] = [
 impl CheckOption {
     /// The option as it is written, with its hyphens.
     pub fn name(self) -> &'static str
-        ensures { result.now ≡ spec.check_name self }
+        ensures { result.now ≡ rows.check_name self }
     {
         match self {
             CheckOption::DeclarationOnly => "--declaration-only",
@@ -60,7 +61,7 @@ impl CheckOption {
 }
 
 impl fmt::Display for CheckOption {
-    ghost output = { λ option. Some (spec.check_name option) };
+    ghost output = { λ option. Some (rows.check_name option) };
 
     fn fmt<W: fmt::Write>(&self, f: &mut fmt::Formatter<W>) -> fmt::Result {
         f.write_str(self.name())

@@ -3,6 +3,7 @@ ghost use Rattle.std.specs.Prelude.{◌≡◌, ◌++◌, map, filter_map, find, 
 ghost use Rattle.std.specs.Prelude.{IfOk, OnOk, Some, None, if◌then◌else◌};
 ghost use Rattle.std.specs.Option.{option_to_list};
 ghost use Rattle.bag_arguments.specs.Given as spec;
+ghost use Rattle.bag_arguments.specs.GivenRows as rows;
 ghost use Rattle.bag_text.specs.Alg.{name};
 ghost use Rattle.bag_text.specs.AlgList.{with_member};
 
@@ -15,14 +16,14 @@ use std::alloc::{AllocError, Global};
 
 /// Whether an option without a value is given.
 pub(crate) fn is_given(matches: &ArgMatches<'_>, id: &str) -> bool
-    ensures { result ≡ spec.is_given (spec.rows_in matches.now) id.now }
+    ensures { result ≡ spec.is_given (rows.rows_in matches.now) id.now }
 {
     matches.get_one::<bool>(id).unwrap_or(false)
 }
 
 /// The value of an option.
 pub(crate) fn value<'a>(matches: &ArgMatches<'a>, id: &str) -> Option<&'a str>
-    ensures { option_map (λ text. text.now) result ≡ spec.value (spec.rows_in matches.now) id.now }
+    ensures { option_map (λ text. text.now) result ≡ spec.value (rows.rows_in matches.now) id.now }
 {
     matches.get_str(id)
 }
@@ -33,7 +34,7 @@ pub(crate) fn text_value(
     matches: &ArgMatches<'_>,
     id: &str,
 ) -> Result<Option<Text>, AllocError>
-    ensures { IfOk result (λ text. text ≡ spec.value (spec.rows_in matches.now) id.now) }
+    ensures { IfOk result (λ text. text ≡ spec.value (rows.rows_in matches.now) id.now) }
 {
     match value(matches, id) {
         None => Ok(None),
@@ -46,7 +47,7 @@ pub(crate) fn directories(
     alloc: Global,
     matches: &ArgMatches<'_>,
 ) -> Result<Items<Text>, AllocError>
-    ensures { IfOk result (λ items. items ≡ spec.directories (spec.rows_in matches.now)) }
+    ensures { IfOk result (λ items. items ≡ spec.directories (rows.rows_in matches.now)) }
 {
     match matches.get_strs("directory") {
         None => Ok(Items::new(alloc)),
@@ -56,7 +57,7 @@ pub(crate) fn directories(
 
 /// How many folders are given.
 fn directory_count(matches: &ArgMatches<'_>) -> usize
-    ensures { result ≡ length (spec.directories (spec.rows_in matches.now)) }
+    ensures { result ≡ length (spec.directories (rows.rows_in matches.now)) }
 {
     match matches.get_strs("directory") {
         None => 0,
@@ -77,7 +78,7 @@ pub(crate) fn texts(alloc: Global, words: &[&str]) -> Result<Items<Text>, AllocE
 
 /// Whether an option that needs `--validate` is given.
 fn has_check_option(matches: &ArgMatches<'_>, option: CheckOption) -> bool
-    ensures { result ≡ spec.has_check_option (spec.rows_in matches.now) option }
+    ensures { result ≡ spec.has_check_option (rows.rows_in matches.now) option }
 {
     match option {
         CheckOption::Profile | CheckOption::After | CheckOption::MaxFaults => {
@@ -89,7 +90,7 @@ fn has_check_option(matches: &ArgMatches<'_>, option: CheckOption) -> bool
 
 /// The first of these options that is given.
 fn first_check_option(matches: &ArgMatches<'_>, options: &[CheckOption]) -> Option<CheckOption>
-    ensures { result ≡ find (spec.has_check_option (spec.rows_in matches.now)) options.now }
+    ensures { result ≡ find (spec.has_check_option (rows.rows_in matches.now)) options.now }
 {
     options
         .iter()
@@ -99,7 +100,7 @@ fn first_check_option(matches: &ArgMatches<'_>, options: &[CheckOption]) -> Opti
 
 /// The first option that stands without the `--validate` that it needs.
 pub(crate) fn out_of_place(matches: &ArgMatches<'_>) -> Option<CheckOption>
-    ensures { result ≡ spec.out_of_place (spec.rows_in matches.now) }
+    ensures { result ≡ spec.out_of_place (rows.rows_in matches.now) }
 {
     if is_given(matches, "validate") {
         None
@@ -110,7 +111,7 @@ pub(crate) fn out_of_place(matches: &ArgMatches<'_>) -> Option<CheckOption>
 
 /// Whether more than one depth is given.
 pub(crate) fn has_two_depths(matches: &ArgMatches<'_>) -> bool
-    ensures { result ≡ spec.has_two_depths (spec.rows_in matches.now) }
+    ensures { result ≡ spec.has_two_depths (rows.rows_in matches.now) }
 {
     let declaration = is_given(matches, "declaration-only");
     let fast = is_given(matches, "fast");
@@ -120,7 +121,7 @@ pub(crate) fn has_two_depths(matches: &ArgMatches<'_>) -> bool
 
 /// The depth.
 pub(crate) fn depth(matches: &ArgMatches<'_>) -> Depth
-    ensures { result ≡ spec.depth (spec.rows_in matches.now) }
+    ensures { result ≡ spec.depth (rows.rows_in matches.now) }
 {
     if is_given(matches, "declaration-only") {
         Depth::Declaration
@@ -135,15 +136,15 @@ pub(crate) fn depth(matches: &ArgMatches<'_>) -> Depth
 
 /// Whether a cursor is given for several folders.
 pub(crate) fn has_after_several(matches: &ArgMatches<'_>) -> bool
-    ensures { result ≡ spec.has_after_several (spec.rows_in matches.now) }
+    ensures { result ≡ spec.has_after_several (rows.rows_in matches.now) }
 {
     value(matches, "after").is_some() && directory_count(matches) > 1
 }
 
 /// The limit, 1 or more.
 pub(crate) fn limit(matches: &ArgMatches<'_>) -> Option<u64>
-    requires { spec.HasLimit (spec.rows_in matches.now) }
-    ensures { spec.IsLimit (spec.value (spec.rows_in matches.now) (codes "max-faults")) result }
+    requires { rows.HasLimit (rows.rows_in matches.now) }
+    ensures { spec.IsLimit (spec.value (rows.rows_in matches.now) (codes "max-faults")) result }
 {
     value(matches, "max-faults")?.parse::<u64>().ok()
 }
@@ -151,7 +152,7 @@ pub(crate) fn limit(matches: &ArgMatches<'_>) -> Option<u64>
 /// The set with an algorithm more where its option is given.
 fn with_named(set: AlgSet, matches: &ArgMatches<'_>, alg: Alg) -> AlgSet
     ensures { result ≡
-        (if spec.is_given (spec.rows_in matches.now) (name alg) then with_member set alg else set) }
+        (if spec.is_given (rows.rows_in matches.now) (name alg) then with_member set alg else set) }
 {
     if is_given(matches, alg.name()) {
         set.with(alg)
@@ -162,7 +163,7 @@ fn with_named(set: AlgSet, matches: &ArgMatches<'_>, alg: Alg) -> AlgSet
 
 /// The algorithms that are named.
 fn named_algs(matches: &ArgMatches<'_>) -> AlgSet
-    ensures { result ≡ spec.named_algs (spec.rows_in matches.now) }
+    ensures { result ≡ spec.named_algs (rows.rows_in matches.now) }
 {
     let mut set = AlgSet::empty();
     for alg in Alg::ALL {
@@ -173,7 +174,7 @@ fn named_algs(matches: &ArgMatches<'_>) -> AlgSet
 
 /// The algorithms that are named, or SHA-256 and SHA-512 where none is.
 pub(crate) fn algs(matches: &ArgMatches<'_>) -> AlgSet
-    ensures { result ≡ spec.or_default (spec.named_algs (spec.rows_in matches.now)) }
+    ensures { result ≡ spec.or_default (spec.named_algs (rows.rows_in matches.now)) }
 {
     let named = named_algs(matches);
     if named.is_empty() {
@@ -189,7 +190,7 @@ fn element(
     matches: &ArgMatches<'_>,
     label: Label,
 ) -> Result<Option<InfoItem>, AllocError>
-    ensures { IfOk result (λ item. item ≡ spec.element (spec.rows_in matches.now) label) }
+    ensures { IfOk result (λ item. item ≡ spec.element (rows.rows_in matches.now) label) }
 {
     match value(matches, label.option()) {
         None => Ok(None),
@@ -217,7 +218,7 @@ pub(crate) fn info(
     labels: &[Label],
 ) -> Result<Items<InfoItem>, AllocError>
     ensures { IfOk result (λ items.
-        items ≡ filter_map (spec.element (spec.rows_in matches.now)) labels.now) }
+        items ≡ filter_map (spec.element (rows.rows_in matches.now)) labels.now) }
 {
     let mut items = Items::new(alloc);
     for label in labels {

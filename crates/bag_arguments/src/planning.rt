@@ -1,7 +1,8 @@
 //! The plan of the words.
 ghost use Rattle.std.specs.Prelude.{◌≡◌, IfErr, IfOk, MatchResult, Some, None, codes, true};
 ghost use Rattle.clap.specs.Words.{FailsBy, kind_of};
-ghost use Rattle.bag_arguments.specs.Given.{HasLimit, rows_in, value as value_of};
+ghost use Rattle.bag_arguments.specs.Given.{value as value_of};
+ghost use Rattle.bag_arguments.specs.GivenRows.{HasLimit, rows_in};
 ghost use Rattle.bag_arguments.specs.Plan as spec;
 ghost use Rattle.bag_arguments.specs.Plan.{IsNotRefused};
 ghost use Rattle.bag_arguments.specs.Words.{clap_takes, matches_of_words, refusals};

@@ -20,13 +20,13 @@ pub use Rattle.bag_profile.specs.Profile.{Profile}
 pub use Rattle.bag_store.specs.DiskBag.{bag_of}
 pub use Rattle.bag_store.specs.FileTree.{file_state_after, tree_state}
 pub use Rattle.bag_tags.specs.Element.{NewElement}
-pub use Rattle.bag_tree.specs.Cause.{cause_word}
 pub use Rattle.bag_tree.specs.Out.{OutState}
-pub use Rattle.bag_tree.specs.Tree.{TreeState}
+pub use Rattle.bag_tree.specs.Tree.{TreeState, cause_word}
 pub use Rattle.bag_tree.specs.declared.out.Refused.{Refused}
 pub use Rattle.bag_walk.proofs.Writing.{IsCut-append, append-IsCut, cut_third, writes_after, writes_third}
-pub use Rattle.bag_walk.specs.Closing.{status}
-pub use Rattle.bag_walk.specs.Write.{IsCut, Writes}
+pub use Rattle.bag_walk.specs.ExitStatus.{status}
+pub use Rattle.bag_walk.specs.Write.{IsCut}
+pub use Rattle.bag_walk.specs.Pieces.{Writes}
 pub use Rattle.bag_walk.specs.declared.outcome.Outcome.{Outcome}
 pub use Rattle.bag_walk.specs.declared.outcome.Outcome.TheVariants.{Clean, Unread, Unwritten}
 pub use Rattle.bag_walk.specs.declared.outcome.Request.{Request}
@@ -49,7 +49,8 @@ pub use types.Kit.{ !, by, done, feq_i, fjoin, fjoin3, frame, fsplit, fsplit3, j
 pub use types.Kit.{suffices, use1, ‵, ◌$◌, ◌∵◌, ◌⊛◌}
 pub use types.Logic.{Logic}
 pub use types.Run.{and_then, enter, no_more, of_opd, returns, unit_lit}
-pub use Rattle.bag_cli.specs.Checked.{HaveNoFailure, AreChecksOf, HasRunOut, IsCheckOf, IsCheckOfSample, IsLastCheck}
+pub use Rattle.bag_cli.specs.Checked.{HaveNoFailure, AreChecksOf, HasRunOut, IsCheckOf, IsLastCheck}
+pub use Rattle.bag_cli.specs.Checking.{IsCheckOfSample}
 pub use Rattle.bag_cli.specs.Checked.{IsVisitToCheck, IsWholeCheck, request_of, visit_of}
 pub use Rattle.bag_cli.specs.Folders.{disks_of, visits_of}
 pub use Rattle.bag_cli.specs.Honest.{HonestFoldersAreReported, IsReportedMade, IsReportedNotMade}

@@ -1,13 +1,12 @@
 -- What checks write, and the exit status after them.
-use Rattle.std.specs.Prelude.{ℕ, ◌≡◌, ◌⊎◌, ⊤, Bool, true, false, List, [], ◌∷◌, codes}
-use Rattle.std.specs.Prelude.{Option, None, Result, MatchResult}
+use Rattle.std.specs.Prelude.{ℕ, ◌≡◌, ◌⊎◌, ⊤, Bool, true, false, List, [], ◌∷◌, codes, Option, None}
 use Rattle.bag_tree.specs.Out.{OutState}
 use Rattle.bag_tree.specs.Tree.{TreeState}
 use Rattle.bag_cli.specs.Visits.{Event, Entered, NotGiven, Left, Read}
-use Rattle.bag_walk.specs.Closing.{status}
+use Rattle.bag_walk.specs.ExitStatus.{status}
 use Rattle.bag_walk.specs.declared.outcome.Outcome.{Outcome}
-use Rattle.bag_walk.specs.declared.outcome.Outcome.TheVariants.{Clean, Faults, Stopped}
-use Rattle.bag_walk.specs.declared.outcome.Outcome.TheVariants.{Rest, Unread, Unwritten}
+use Rattle.bag_walk.specs.declared.outcome.Outcome.TheVariants.{Clean, Faults, Stopped, Rest}
+use Rattle.bag_walk.specs.declared.outcome.Outcome.TheVariants.{Unread, Unwritten}
 use Rattle.bag_walk.specs.declared.outcome.Request.{Request}
 use Rattle.bag_profile.specs.Profile.{Profile}
 use Rattle.bag_walk.specs.WholeRun.{IsRunOver}
@@ -30,14 +29,6 @@ abbrev pub IsCheckOf : Plan → Option Profile → TreeState → TreeState → L
     → OutState → OutState → Outcome → Type 0
 IsCheckOf plan profile tree new name before after outcome =
     IsRunOver tree new profile (request_of plan name) before after outcome
-
--- the tree was checked under this name; or memory for what is asked for ran out, and nothing was
--- done
-abbrev pub ChecksTree : {E : Type 0} → Plan → Option Profile → TreeState → TreeState → List ℕ
-    → OutState → OutState → Result Outcome E → Type 0
-ChecksTree plan profile tree new name before after checked = MatchResult checked
-    (λ outcome. IsCheckOf plan profile tree new name before after outcome)
-    (λ _. (after ≡ before) × (new ≡ tree))
 
 -- the folder was looked into once, and its tree was left as this
 abbrev pub visit_of : List ℕ → TreeState → List Event
@@ -73,13 +64,6 @@ abbrev pub HasRunOut : TreeState → List ℕ → OutState → OutState → List
 HasRunOut tree name before after visits =
     (after ≡ before) × ((visits ≡ NotGiven name ∷ []) ⊎ (visits ≡ visit_of name tree))
 
--- the folder was looked into and its bag checked, or memory ran out for it
-abbrev pub ChecksFolder : {E : Type 0} → Plan → Option Profile → TreeState → List ℕ
-    → OutState → OutState → List Event → Result Outcome E → Type 0
-ChecksFolder plan profile tree name before after visits checked = MatchResult checked
-    (λ outcome. IsVisitToCheck plan profile tree name before after visits outcome)
-    (λ _. HasRunOut tree name before after visits)
-
 -- a check that is the last: the output refused, or memory ran out for the folder, which was asked
 -- for
 abbrev pub IsLastCheck : Plan → Option Profile → TreeState → List ℕ
@@ -96,12 +80,6 @@ AreChecksOf plan profile tree_of names before after visits n =
     AreInTurn (λ name. IsLastCheck plan profile (tree_of name) name)
     (λ name. IsWholeCheck plan profile (tree_of name) name)
     names before after visits n
-
--- a check of the sample, whose device never fails
-abbrev pub IsCheckOfSample : Plan → OutState → OutState → Outcome → Type 0
-IsCheckOfSample plan before after outcome =
-    (new : TreeState) × (new.failures ≡ 0)
-    × IsCheckOf plan None sample_state new (codes "sample") before after outcome
 
 -- no device had failed when its tree was left
 abbrev pub HaveNoFailure : List Event → Type 0

@@ -1,4 +1,5 @@
 pub mod Checked
+pub mod Checking
 pub mod Folders
 pub mod Honest
 pub mod InTurn
@@ -9,11 +10,12 @@ pub mod Performed
 pub mod ProfileFile
 pub mod ProfileRefusal
 pub mod Program
+pub mod RefusalLine
+pub mod Reported
 pub mod Sample
 pub mod Saying
 pub mod Status
 pub mod SystemFile
-pub mod Reported
 pub mod UncheckedKeys
 pub mod Visits
 pub mod Words

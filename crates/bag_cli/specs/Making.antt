@@ -9,7 +9,7 @@ use Rattle.bag_tree.specs.Tree.{TreeState}
 use Rattle.bag_tree.specs.declared.out.Refused.{Refused}
 use Rattle.bag_tags.specs.Element.{NewElement}
 use Rattle.bag_walk.specs.Write.{IsCut}
-use Rattle.bag_make.specs.Valid.{is_refused}
+use Rattle.bag_make.specs.Request.{is_refused}
 use Rattle.bag_make.specs.Make.{HasKnownSize, HasMade, HasNoFault, Leaves, MayRefuseMaking}
 use Rattle.bag_make.specs.PowerCut.{LastsForGood, OutlastsCuts}
 use Rattle.bag_make.specs.Reading.{OpensFolder}

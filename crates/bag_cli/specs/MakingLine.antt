@@ -1,7 +1,7 @@
 -- The line that says how making a bag went, and the exit status.
 use Rattle.std.specs.Prelude.{ℕ, Bool, List, [], ◌++◌, Result, codes, decimal, if◌then◌else◌}
 use Rattle.std.specs.declared.result.Result.TheVariants.{Ok, Err}
-use Rattle.bag_tree.specs.Cause.{cause_word}
+use Rattle.bag_tree.specs.Tree.{cause_word}
 use Rattle.bag_tree.specs.declared.tree_fault.Stop.{Stop}
 use Rattle.bag_tree.specs.declared.tree_fault.TreeFault.{TreeFault}
 use Rattle.bag_facts.specs.FaultLine.{field}

@@ -10,7 +10,7 @@ use Rattle.bag_cli.specs.Visits.{Event}
 use Rattle.bag_store.specs.DiskBag.{bag_of}
 use Rattle.bag_store.specs.FileTree.{tree_state}
 use Rattle.bag_facts.specs.declared.fault.Fault.{Fault}
-use Rattle.bag_walk.specs.Closing.{status}
+use Rattle.bag_walk.specs.ExitStatus.{status}
 use Rattle.bag_walk.specs.Ending.{ideal, limit_of, lines_of_run}
 use Rattle.bag_walk.specs.declared.outcome.Request.{Request}
 use Rattle.bag_profile.specs.Profile.{Profile}

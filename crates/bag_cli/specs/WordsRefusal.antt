@@ -1,7 +1,7 @@
 -- What the program says where the words are refused.
 use Rattle.std.specs.Prelude.{ℕ, ◌==◌, ◌++◌, List, codes, if◌then◌else◌}
 use Rattle.std.specs.List.{ends_with}
-use Rattle.bag_arguments.specs.Given.{check_name}
+use Rattle.bag_arguments.specs.GivenRows.{check_name}
 use Rattle.bag_arguments.specs.declared.usage.Usage.{Usage}
 use Rattle.bag_arguments.specs.declared.usage.Usage.TheVariants.{Refused, NeedsValidate, TwoDepths}
 use Rattle.bag_arguments.specs.declared.usage.Usage.TheVariants.{AfterSeveral, AfterNotALine}

@@ -2,7 +2,7 @@
 ghost use Rattle.bag_cli.specs.Folders.{disks_of};
 ghost use Rattle.bag_cli.specs.InTurn.{Does};
 ghost use Rattle.bag_cli.specs.Performed.{AreCheckedBy, IsChecked, lines_before};
-ghost use Rattle.bag_walk.specs.Write.{Writes};
+ghost use Rattle.bag_walk.specs.Pieces.{Writes};
 
 use crate::all_checks::Checks;
 use crate::in_turn::do_in_turn;

@@ -2,7 +2,8 @@
 ghost use Rattle.std.specs.Prelude.{◌≡◌, IfOk, MatchResult};
 ghost use Rattle.std.specs.Option.{option_copied};
 ghost use Rattle.bag_cli.specs.Folders.{tree_in, visits_of};
-ghost use Rattle.bag_cli.specs.Checked.{request_of, ChecksFolder, ChecksTree, IsCheckOfSample};
+ghost use Rattle.bag_cli.specs.Checked.{request_of};
+ghost use Rattle.bag_cli.specs.Checking.{ChecksFolder, ChecksTree, IsCheckOfSample};
 ghost use Rattle.bag_cli.specs.InTurn.{HasVisited};
 
 use crate::sample::sample_tree;

@@ -1,7 +1,7 @@
 //! The folders that a program looks into.
 ghost use Rattle.std.specs.Prelude.{◌≡◌, ◌≤◌, [], Some, IfOk, IsErrOf, OnOk, OnErr, vec_len};
 ghost use Rattle.std.specs.Result.{result_map_both};
-ghost use Rattle.bag_store.specs.FileTree.{disk_of};
+ghost use Rattle.bag_store.specs.FileTreeCalls.{disk_of};
 ghost use Rattle.bag_cli.specs.SystemFile.{MayBeUnread};
 ghost use Rattle.bag_cli.specs.Folders.{disks_of, tree_in, visits_of, AddsEvent};
 ghost use Rattle.bag_cli.specs.Visits.{Entered, NotGiven, Left, Read};

@@ -1,7 +1,7 @@
 //! The line that says how making a bag went. Writing it takes no memory.
 ghost use Rattle.std.specs.Prelude.{◌++◌, codes};
 ghost use Rattle.bag_cli.specs.MakingLine as spec;
-ghost use Rattle.bag_walk.specs.Write.{Writes};
+ghost use Rattle.bag_walk.specs.Pieces.{Writes};
 
 use bag_make::MakeFault;
 use bag_text::said;

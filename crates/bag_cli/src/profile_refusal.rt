@@ -1,8 +1,9 @@
 //! Why there is no profile.
 ghost use Rattle.std.specs.Prelude.{◌≡◌};
 ghost use Rattle.bag_profile.specs.declared.fault.ProfileFault.TheVariants.{Memory};
-ghost use Rattle.bag_walk.specs.Write.{Writes};
+ghost use Rattle.bag_walk.specs.Pieces.{Writes};
 ghost use Rattle.bag_cli.specs.ProfileRefusal as spec;
+ghost use Rattle.bag_cli.specs.RefusalLine as refusals;
 ghost use Rattle.bag_cli.specs.Saying.{Says};
 ghost use Rattle.bag_cli.specs.declared.profile_refusal.ProfileRefusal.TheVariants as why;
 
@@ -39,7 +40,7 @@ impl ProfileRefusal {
 /// Says on `err` why there is no profile, in a line, and gives the exit status. It takes no memory.
 pub fn refuse_profile<E: Out>(refusal: ProfileRefusal, err: &mut E) -> u8
     ensures status { result ≡ spec.refusal_status refusal }
-    ensures said { Says (E.state err.old) (E.state err.new) (spec.refusal_line refusal) }
+    ensures said { Says (E.state err.old) (E.state err.new) (refusals.refusal_line refusal) }
 {
     say_refusal(refusal, err);
     refusal.status()
@@ -47,7 +48,7 @@ pub fn refuse_profile<E: Out>(refusal: ProfileRefusal, err: &mut E) -> u8
 
 /// Says on `err` why there is no profile.
 fn say_refusal<E: Out>(refusal: ProfileRefusal, err: &mut E)
-    ensures { Says (E.state err.old) (E.state err.new) (spec.refusal_line refusal) }
+    ensures { Says (E.state err.old) (E.state err.new) (refusals.refusal_line refusal) }
 {
     match refusal {
         ProfileRefusal::Unread => say_on(err, &[said::PROGRAM, said::PROFILE_UNREAD, "\n"]),
@@ -57,7 +58,7 @@ fn say_refusal<E: Out>(refusal: ProfileRefusal, err: &mut E)
 
 /// Says on `err` why a profile is refused.
 fn say_fault<E: Out>(fault: ProfileFault, err: &mut E)
-    ensures { Says (E.state err.old) (E.state err.new) (spec.refusal_line (why.Refused fault)) }
+    ensures { Says (E.state err.old) (E.state err.new) (refusals.refusal_line (why.Refused fault)) }
 {
     match fault {
         ProfileFault::NotJson => say_reason(said::NOT_JSON, err),
@@ -71,14 +72,14 @@ fn say_fault<E: Out>(fault: ProfileFault, err: &mut E)
 
 /// Says on `err` that a profile is refused for this reason.
 fn say_reason<E: Out>(reason: &str, err: &mut E)
-    ensures { Says (E.state err.old) (E.state err.new) (spec.refused_profile reason.now) }
+    ensures { Says (E.state err.old) (E.state err.new) (refusals.refused_profile reason.now) }
 {
     say_on(err, &[said::PROGRAM, said::PROFILE, reason, "\n"]);
 }
 
 /// Hands the line about the key of a profile whose value has a wrong shape to an output.
 fn put_wrong_shape<E: Out>(key: &str, err: &mut E) -> Result<(), Refused>
-    ensures { Writes (E.state err.old) (E.state err.new) (spec.wrong_shape_line key.now) result }
+    ensures { Writes (E.state err.old) (E.state err.new) (refusals.wrong_shape_line key.now) result }
 {
     put_pieces(err, &[said::PROGRAM, said::PROFILE, said::WRONG_SHAPE])?;
     put_line(key, &["\n"], err)

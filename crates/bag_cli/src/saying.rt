@@ -1,6 +1,6 @@
 //! What is said on `err`, beside the output. It takes no memory, and where `err` refuses, that is
 //! reported no further.
-ghost use Rattle.bag_walk.specs.Write.{joined_pieces};
+ghost use Rattle.bag_walk.specs.Pieces.{joined_pieces};
 ghost use Rattle.bag_cli.specs.Saying.{Says, output_refused, out_of_memory};
 
 use bag_text::said;

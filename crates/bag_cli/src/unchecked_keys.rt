@@ -1,5 +1,5 @@
 //! Writes which keys of a profile aren't checked.
-ghost use Rattle.bag_walk.specs.Write.{Writes};
+ghost use Rattle.bag_walk.specs.Pieces.{Writes};
 ghost use Rattle.bag_cli.specs.UncheckedKeys as spec;
 
 use bag_profile::Profile;

@@ -26,7 +26,8 @@ pub use Rattle.std.specs.Result.{is_ok}
 pub use Rattle.std.specs.Str.{bytes_eq, str_to_ascii_lowercase}
 pub use Rattle.bag_facts.proofs.ByPath.{found}
 pub use Rattle.bag_facts.proofs.Mapped.{contains_mapped, kept, mapped_contains, passed, take_one_more, taken_cases}
-pub use Rattle.bag_facts.specs.Facts.{IsFactsOf, rules_in}
+pub use Rattle.bag_facts.specs.Facts.{rules_in}
+pub use Rattle.bag_facts.specs.FactsOfBag.{IsFactsOf}
 pub use Rattle.bag_facts.specs.FaultAt.{of_path}
 pub use Rattle.bag_facts.specs.TagReader.{AreFilesOfBag}
 pub use Rattle.bag_facts.specs.declared.fault.Fault.{Fault}
@@ -41,8 +42,7 @@ pub use Rattle.bag_read.proofs.InfoElements.{elements_of}
 pub use Rattle.bag_read.proofs.PickedOut.{any_from, from_any}
 pub use Rattle.bag_read.specs.Declaration.{declared_version}
 pub use Rattle.bag_read.specs.Info.{IsElement}
-pub use Rattle.bag_read.specs.ManifestName.{is_alg_text, is_manifest_name, manifest_name}
-pub use Rattle.bag_read.specs.TagName.{tag_path}
+pub use Rattle.bag_read.specs.ManifestName.{is_alg_text, is_manifest_name, manifest_name, tag_path}
 pub use Rattle.bag_read.specs.declared.info.Element.{Element}
 pub use Rattle.bag_read.specs.declared.kind.Kind.{Kind}
 pub use Rattle.bag_read.specs.declared.kind.Kind.TheVariants.{Payload, Tag}
@@ -52,10 +52,10 @@ pub use Rattle.bag_stages.proofs.HasLists.{Decided, both_decided, either, false_
 pub use Rattle.bag_stages.proofs.HasLists.{only, same_set, true_or_not}
 pub use Rattle.bag_stages.proofs.ManifestsList.{missing_or_not}
 pub use Rattle.bag_stages.proofs.OxumFaults.{by_line}
-pub use Rattle.bag_stages.specs.FaultFields.{At, of_bag}
+pub use Rattle.bag_stages.specs.FaultFields.{At}
+pub use Rattle.bag_stages.specs.FaultPlaces.{of_bag}
 pub use Rattle.bag_stages.specs.HasList.{HasList}
-pub use Rattle.bag_stages.specs.Metadata.{HasElement, HasLater, bag_info_txt}
-pub use Rattle.bag_stages.specs.MetadataStage.{pair}
+pub use Rattle.bag_stages.specs.MetadataStage.{pair, HasElement, HasLater, bag_info_txt}
 pub use Rattle.bag_stages.specs.TagFiles.{HasManifest, bagit_txt, lines_in, lines_or_none}
 pub use Rattle.bag_text.proofs.ListOf.{contains_behind, contains_cases, contains_first, contains_front}
 pub use Rattle.bag_text.proofs.ListOf.{contains_nothing, member_has}
@@ -72,7 +72,8 @@ pub use Rattle.bag_tree.specs.Bag.{Bag, HasFile, file, has_file}
 pub use Rattle.bag_tree.specs.declared.listing.FileEntry.{FileEntry}
 pub use Rattle.bag_conformance.specs.ConformanceFaults.{AreAll, IsOfElements, IsOfKind, IsOfTagFiles, IsOfWhole}
 pub use Rattle.bag_conformance.specs.ConformanceFaults.{other_code, required_code}
-pub use Rattle.bag_conformance.specs.ConformanceStage.{ConformanceFaultsAreListed, ConformanceFaultsAreOfStageEight}
+pub use Rattle.bag_conformance.specs.Laws.{ConformanceFaultsAreListed}
+pub use Rattle.bag_conformance.specs.Laws.{ConformanceFaultsAreOfStageEight}
 pub use Rattle.bag_conformance.specs.ConformanceStage.{HasFetchFile, HasOtherManifest, HasOtherTagFile, HasOtherValue}
 pub use Rattle.bag_conformance.specs.ConformanceStage.{HasOtherVersion, IsOfProfile, IsToBeSerialized, LacksIdentifier}
 pub use Rattle.bag_conformance.specs.ConformanceStage.{LacksLabel, LacksManifest, LacksTagFile, RepeatsLabel}

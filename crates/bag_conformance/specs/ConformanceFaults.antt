@@ -12,7 +12,7 @@ use Rattle.bag_text.specs.declared.code.Code.TheVariants.{VersionNotAccepted, Se
 use Rattle.bag_read.specs.declared.kind.Kind.{Kind}
 use Rattle.bag_read.specs.declared.kind.Kind.TheVariants.{Payload, Tag}
 use Rattle.bag_tree.specs.Bag.{Bag}
-use Rattle.bag_facts.specs.Facts.{OfBag}
+use Rattle.bag_facts.specs.FactsOfBag.{OfBag}
 use Rattle.bag_facts.specs.declared.facts.Facts.{Facts}
 use Rattle.bag_facts.specs.declared.fault.Fault.{Fault}
 use Rattle.bag_profile.specs.Profile.{Profile}

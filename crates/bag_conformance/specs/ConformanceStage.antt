@@ -2,7 +2,6 @@
 -- Details).
 use Rattle.std.specs.Prelude.{ℕ, ◌≡◌, ◌≢◌, true, false, List, [], Option, None, Some, Contains}
 use Rattle.std.specs.Prelude.{codes}
-use Rattle.bag_text.specs.Code.{stage}
 use Rattle.bag_text.specs.declared.code.Code.{Code}
 use Rattle.bag_text.specs.declared.code.Code.TheVariants.{ProfileIdentifier, LabelRequired}
 use Rattle.bag_text.specs.declared.code.Code.TheVariants.{LabelRepeated, ValueNotAllowed}
@@ -21,17 +20,14 @@ use Rattle.bag_facts.specs.declared.fault.Fault.{Fault}
 use Rattle.bag_profile.specs.Profile.{Profile}
 use Rattle.bag_profile.specs.declared.label.LabelRule.{LabelRule}
 use Rattle.bag_profile.specs.declared.rule.ListRule.{ListRule}
-use Rattle.bag_profile.specs.declared.rule.ListRule.TheVariants.{ManifestsRequired}
-use Rattle.bag_profile.specs.declared.rule.ListRule.TheVariants.{ManifestsAllowed}
 use Rattle.bag_profile.specs.declared.rule.ListRule.TheVariants.{TagManifestsRequired}
 use Rattle.bag_profile.specs.declared.rule.ListRule.TheVariants.{TagManifestsAllowed}
-use Rattle.bag_profile.specs.declared.rule.ListRule.TheVariants.{TagFilesRequired, TagFilesAllowed}
 use Rattle.bag_profile.specs.declared.rule.ListRule.TheVariants.{AcceptBagItVersion}
+use Rattle.bag_profile.specs.declared.rule.ListRule.TheVariants.{ManifestsRequired, TagFilesAllowed}
+use Rattle.bag_profile.specs.declared.rule.ListRule.TheVariants.{ManifestsAllowed, TagFilesRequired}
 use Rattle.bag_profile.specs.declared.terms.Serialization.TheVariants.{Required}
 use Rattle.bag_stages.specs.FaultFields.{At}
-use Rattle.bag_stages.specs.HasList.{HasList}
-use Rattle.bag_stages.specs.Metadata.{bag_info_txt, HasElement, HasLater}
-use Rattle.bag_stages.specs.MetadataStage.{pair}
+use Rattle.bag_stages.specs.MetadataStage.{bag_info_txt, HasElement, HasLater, pair}
 use Rattle.bag_stages.specs.TagFiles.{bagit_txt, HasManifest}
 use Rattle.bag_conformance.specs.ProfileRules.{Lists, Excludes, MatchesNone, IsFreeTagFile}
 use Rattle.bag_stages.specs.FetchStage.{fetch_txt}
@@ -145,14 +141,3 @@ IsOfProfile bag profile f = ConformanceHolds bag profile f f.code
 abbrev pub IsOfConformance : Bag → Option Profile → Fault → Type 0
 IsOfConformance bag None f = ⊥
 IsOfConformance bag (Some profile) f = IsOfProfile bag profile f
-
--- the law: these faults are of the eighth stage
-abbrev pub ConformanceFaultsAreOfStageEight : Type 0
-ConformanceFaultsAreOfStageEight =
-    (bag : Bag) (profile : Option Profile) (f : Fault) → IsOfConformance bag profile f
-    → stage f.code ≡ 8
-
--- the law: every bag and every profile have a list of these faults
-abbrev pub ConformanceFaultsAreListed : Type 0
-ConformanceFaultsAreListed = (bag : Bag) (profile : Option Profile)
-    → HasList (IsOfConformance bag profile)

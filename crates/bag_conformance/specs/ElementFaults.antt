@@ -12,8 +12,7 @@ use Rattle.bag_read.specs.declared.info.Element.{Element}
 use Rattle.bag_facts.specs.FaultAt.{of_line}
 use Rattle.bag_facts.specs.declared.fault.Fault.{Fault}
 use Rattle.bag_profile.specs.declared.label.LabelRule.{LabelRule}
-use Rattle.bag_stages.specs.Metadata.{bag_info_txt}
-use Rattle.bag_stages.specs.MetadataStage.{pair}
+use Rattle.bag_stages.specs.MetadataStage.{pair, bag_info_txt}
 use Rattle.bag_conformance.specs.ConformanceStage.{identifier_label}
 
 -- elements that are lent

@@ -2,8 +2,7 @@
 -- Specification).
 use Rattle.std.specs.Prelude.{ℕ, ◌≡◌, ◌≢◌, true, false, List, Some, Contains}
 use Rattle.bag_text.specs.Path.{is_payload_path}
-use Rattle.bag_read.specs.ManifestName.{manifest_name, is_alg_text}
-use Rattle.bag_read.specs.TagName.{tag_path}
+use Rattle.bag_read.specs.ManifestName.{manifest_name, is_alg_text, tag_path}
 use Rattle.bag_read.specs.declared.kind.Kind.{Kind}
 use Rattle.bag_read.specs.declared.tag_name.TagName.TheVariants.{Declaration, Info, Fetch}
 use Rattle.bag_profile.specs.Pattern.{matches}

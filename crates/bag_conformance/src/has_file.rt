@@ -1,7 +1,7 @@
 //! Whether a bag has a file.
 ghost use Rattle.std.specs.Prelude.{◌↔◌, IsTrue};
 ghost use Rattle.bag_tree.specs.Bag.{Bag, HasFile};
-ghost use Rattle.bag_facts.specs.Facts.{IsFactsOf};
+ghost use Rattle.bag_facts.specs.FactsOfBag.{IsFactsOf};
 
 use bag_facts::Facts;
 

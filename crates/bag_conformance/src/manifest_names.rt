@@ -2,7 +2,7 @@
 ghost use Rattle.std.specs.Prelude.{◌≡◌, ◌↔◌, ℕ, List, IsTrue, IfOk};
 ghost use Rattle.bag_read.specs.ManifestName.{manifest_name};
 ghost use Rattle.bag_tree.specs.Bag.{Bag};
-ghost use Rattle.bag_facts.specs.Facts.{IsFactsOf};
+ghost use Rattle.bag_facts.specs.FactsOfBag.{IsFactsOf};
 ghost use Rattle.bag_stages.specs.TagFiles.{HasManifest};
 ghost use Rattle.bag_conformance.specs.ConformanceFaults as kinds;
 ghost use Rattle.bag_conformance.specs.ConformanceFaults.{AreAll, IsOfKind, AreAllOf};

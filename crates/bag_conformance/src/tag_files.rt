@@ -3,7 +3,7 @@ ghost use Rattle.std.specs.Prelude.{◌≡◌, ◌↔◌, IsTrue, IfOk};
 ghost use Rattle.bag_text.specs.declared.code.Code.TheVariants.{TagFileRequired, TagFileNotAllowed};
 ghost use Rattle.bag_text.specs.declared.code.Code.TheVariants.{FetchNotAllowed};
 ghost use Rattle.bag_tree.specs.Bag.{Bag};
-ghost use Rattle.bag_facts.specs.Facts.{IsFactsOf};
+ghost use Rattle.bag_facts.specs.FactsOfBag.{IsFactsOf};
 ghost use Rattle.bag_conformance.specs.ConformanceFaults.{AreAll, IsOfTagFiles, AreAllOf};
 ghost use Rattle.bag_conformance.specs.ConformanceStage.{LacksTagFile, HasOtherTagFile};
 ghost use Rattle.bag_conformance.specs.ConformanceStage.{HasFetchFile};

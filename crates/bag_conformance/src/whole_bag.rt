@@ -5,8 +5,8 @@ ghost use Rattle.bag_text.specs.declared.code.Code.TheVariants.{VersionNotAccept
 ghost use Rattle.bag_text.specs.declared.code.Code.TheVariants.{SerializationRequired};
 ghost use Rattle.bag_read.specs.Declaration as declared;
 ghost use Rattle.bag_tree.specs.Bag.{Bag, file};
-ghost use Rattle.bag_facts.specs.Facts.{IsFactsOf};
-ghost use Rattle.bag_stages.specs.FaultFields.{of_bag};
+ghost use Rattle.bag_facts.specs.FactsOfBag.{IsFactsOf};
+ghost use Rattle.bag_stages.specs.FaultPlaces.{of_bag};
 ghost use Rattle.bag_stages.specs.TagFiles.{bagit_txt};
 ghost use Rattle.bag_conformance.specs.ConformanceFaults.{AreAll, IsOfWhole, AreAllOf};
 ghost use Rattle.bag_conformance.specs.ConformanceStage.{HasOtherVersion};

@@ -13,10 +13,12 @@ use Rattle.bag_text.specs.Path.{is_base_name, under}
 use Rattle.bag_tree.proofs.SameText.{one_text}
 use Rattle.bag_tree.specs.Bag.{IsBag, file, has_folder}
 use Rattle.bag_tree.proofs.PathEntries.{none_below, t_true}
-use Rattle.bag_disk.specs.Disk.{Nodes, Node, node, IsDisk, bytes_of, is_folder_node}
+use Rattle.bag_disk.specs.Disk.{Nodes, Node, bytes_of, is_folder_node}
+use Rattle.bag_disk.specs.DiskNodes.{node, IsDisk}
 use Rattle.bag_disk.specs.Disk.Node.{File, Folder, Other}
-pub use Rattle.bag_disk.specs.Disk.{empty_disk}
-use Rattle.bag_disk.specs.DiskBag.{bag_of, as_file, as_base_folder, BagIsWhatStands}
+pub use Rattle.bag_disk.specs.DiskNodes.{empty_disk}
+use Rattle.bag_disk.specs.DiskBag.{bag_of, as_file, as_base_folder}
+use Rattle.bag_disk.specs.Laws.{BagIsWhatStands}
 
 skipped : (k q : List ℕ) (es : List (List ℕ × Node)) (n : Node) → bytes_of (Some n) ≡ None
     → is_sorted text_cmp ((k, n) ∷ es) ≡ true

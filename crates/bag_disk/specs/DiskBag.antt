@@ -1,10 +1,10 @@
 -- The bag below the base folder of a disk.
-use Rattle.std.specs.Prelude.{◌≡◌, ℕ, List, Option, Some, None, IsTrue, filter_map, if◌then◌else◌}
+use Rattle.std.specs.Prelude.{ℕ, List, Option, Some, None, filter_map, if◌then◌else◌}
 use Rattle.std.specs.FinMap as map
 use Rattle.std.specs.FinSet as set
 use Rattle.bag_text.specs.Path.{is_base_name}
-use Rattle.bag_tree.specs.Bag.{Bag, file, has_folder}
-use Rattle.bag_disk.specs.Disk.{Nodes, Node, node}
+use Rattle.bag_tree.specs.Bag.{Bag}
+use Rattle.bag_disk.specs.Disk.{Nodes, Node}
 pub use Rattle.bag_disk.specs.Disk.{bytes_of, is_folder_node}
 use Rattle.bag_disk.specs.Disk.Node.{File, Folder, Other}
 
@@ -24,11 +24,3 @@ bag_of nodes = record {
   files = map.from_entries (filter_map as_file (map.entries nodes));
   folders = set.from_list (filter_map as_base_folder (map.entries nodes));
 }
-
--- the law: the bag's file at a path is the regular file that stands there, and its folder of a name
--- is the folder there
-pub record BagIsWhatStands : Type 0 where
-  pub files : (nodes : Nodes) (path : List ℕ)
-      → file (bag_of nodes) path ≡ bytes_of (node nodes path)
-  pub folders : (nodes : Nodes) (name : List ℕ) → IsTrue (is_base_name name)
-      → has_folder (bag_of nodes) name ≡ is_folder_node (node nodes name)

@@ -5,8 +5,9 @@ use Rattle.std.specs.List.Sorted.{IsPermutation, IsSortedByKey, IsStrictlySorted
 use Rattle.bag_text.specs.Text.{text_cmp}
 use Rattle.bag_text.specs.Path.{is_path, under}
 use Rattle.bag_disk.specs.Location.{path_in}
-use Rattle.bag_disk.specs.Disk.{DiskState, Nodes, node, Has, HasSpecial, HasUnnamedPath, IsFolder}
-use Rattle.bag_disk.specs.Disk.{entry_count, is_plain_found}
+use Rattle.bag_disk.specs.Disk.{DiskState, Nodes, entry_count}
+use Rattle.bag_disk.specs.DiskNodes.{node, Has, HasSpecial, HasUnnamedPath, IsFolder}
+use Rattle.bag_disk.specs.DiskNodes.{is_plain_found}
 use Rattle.bag_disk.specs.Refusal.{IsDue, IsDueInListing, MeetsSpecial, MeetsUnnamed}
 use Rattle.bag_disk.specs.declared.folder_walk.FolderWalk.{FolderWalk}
 use Rattle.bag_disk.specs.declared.refusal.Refusal.{Refusal}

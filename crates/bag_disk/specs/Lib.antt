@@ -1,8 +1,10 @@
 pub mod BagBelow
 pub mod Disk
 pub mod DiskBag
+pub mod DiskNodes
 pub mod Failures
 pub mod FolderWalk
+pub mod Laws
 pub mod Location
 pub mod Opening
 pub mod Refusal

@@ -1,8 +1,9 @@
 -- What opening a file of a disk answers.
 use Rattle.std.specs.Prelude.{ℕ, ◌≡◌, IsTrue, List, None, Some}
 use Rattle.bag_tree.specs.Bag.{file}
-use Rattle.bag_tree.specs.Tree.{IsOpen}
-use Rattle.bag_disk.specs.Disk.{DiskState, HasSpecial, WhereReached, node}
+use Rattle.bag_tree.specs.FileReads.{IsOpen}
+use Rattle.bag_disk.specs.Disk.{DiskState}
+use Rattle.bag_disk.specs.DiskNodes.{HasSpecial, WhereReached, node}
 use Rattle.bag_disk.specs.Disk.Node.{Folder}
 use Rattle.bag_disk.specs.DiskBag.{bag_of}
 use Rattle.bag_disk.specs.Refusal.{IsDue, MeetsSpecial}

@@ -1,13 +1,13 @@
 -- When a disk may refuse, what a fault of it means, and which refusals it counts.
 use Rattle.std.specs.Prelude.{◌≡◌, ℕ, ◌+◌, Bool, true, false, IsTrue, Result, MatchResult}
-use Rattle.bag_disk.specs.Disk.{DiskState, HasSpecial, HasUnnamedPath}
+use Rattle.bag_disk.specs.Disk.{DiskState}
+use Rattle.bag_disk.specs.DiskNodes.{HasSpecial, HasUnnamedPath}
 use Rattle.bag_disk.specs.declared.disk.DiskFault.{DiskFault}
 use Rattle.bag_disk.specs.declared.disk.DiskFault.TheVariants as disk
 use Rattle.bag_disk.specs.declared.refusal.Refusal.{Refusal}
 use Rattle.bag_disk.specs.declared.refusal.Refusal.TheVariants.{Device, Special, Name, NotFound}
-use Rattle.bag_disk.specs.declared.refusal.Refusal.TheVariants.{TooMany}
-use Rattle.bag_disk.specs.declared.refusal.Refusal.TheVariants.{Memory, Exists, Contradicts}
-use Rattle.bag_disk.specs.declared.refusal.Refusal.TheVariants.{InTheWay}
+use Rattle.bag_disk.specs.declared.refusal.Refusal.TheVariants.{TooMany, Memory, Exists}
+use Rattle.bag_disk.specs.declared.refusal.Refusal.TheVariants.{Contradicts, InTheWay}
 
 -- where the disk is honest, something stands there that is no file and no folder
 abbrev pub MeetsSpecial : DiskState → Type 0

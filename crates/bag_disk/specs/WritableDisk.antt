@@ -3,9 +3,11 @@ use Rattle.std.specs.Prelude.{ℕ, ◌≡◌, IsTrue, List, [], ◌∷◌, ◌++
 use Rattle.std.specs.Prelude.{true}
 use Rattle.std.specs.FinMap as map
 use Rattle.bag_tree.specs.declared.event.DeviceEvent.{DeviceEvent}
-use Rattle.bag_tree.specs.Moved.{KeepsOthers, MovesAll, moved}
-use Rattle.bag_disk.specs.Disk.{DiskState, Nodes, node, Has, IsDisk, IsFileWith, IsFolder}
-use Rattle.bag_disk.specs.Disk.{IsReachedByFolders, WhereReached, bytes_of}
+use Rattle.bag_tree.specs.Moved.{moved}
+use Rattle.bag_tree.specs.MovesAll.{KeepsOthers, MovesAll}
+use Rattle.bag_disk.specs.Disk.{DiskState, Nodes, bytes_of}
+use Rattle.bag_disk.specs.DiskNodes.{node, Has, IsDisk, IsFileWith, IsFolder, IsReachedByFolders}
+use Rattle.bag_disk.specs.DiskNodes.{WhereReached}
 use Rattle.bag_disk.specs.Disk.Node.{File, Folder}
 
 -- what stands there, with a folder at the path

@@ -2,9 +2,10 @@
 ghost use Rattle.std.specs.Prelude.{◌≡◌, ◌<◌, ◌≤◌, ◌++◌, ◌∷◌, [], IfOk, OnOk, OnErr, IsErrOf};
 ghost use Rattle.std.specs.Prelude.{IsTrue, MatchOption, None, length, is_some, ⊤};
 ghost use Rattle.bag_text.specs.Path.{is_path};
-ghost use Rattle.bag_disk.specs.Disk.{DiskState, SameDisk, OnlyLooks, IsDisk, HasEntryAt};
-ghost use Rattle.bag_disk.specs.Disk.{HasNothingAt, HasEntered, TakesName, HasUnnamed, HasOpened};
-ghost use Rattle.bag_disk.specs.Disk.{HasReadNext};
+ghost use Rattle.bag_disk.specs.Disk.{DiskState};
+ghost use Rattle.bag_disk.specs.DiskNodes.{SameDisk, OnlyLooks, IsDisk, HasEntryAt, HasNothingAt};
+ghost use Rattle.bag_disk.specs.DiskNodes.{HasEntered, TakesName, HasUnnamed, HasOpened};
+ghost use Rattle.bag_disk.specs.DiskNodes.{HasReadNext};
 ghost use Rattle.bag_disk.specs.Refusal.{CountsAs, at_known, of_name, refusal_at_path};
 ghost use Rattle.bag_disk.specs.declared.disk.DiskFault.TheVariants.{Name, NotFound};
 

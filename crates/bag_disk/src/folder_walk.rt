@@ -1,7 +1,7 @@
 //! A walk over the folders of a disk.
 ghost use Rattle.std.specs.Prelude.{◌≡◌, ◌<◌, ◌≤◌, ◌+◌, ◌∷◌, [], IfOk, IfErr, OnOk, IsTrue};
 ghost use Rattle.std.specs.Prelude.{vec_len};
-ghost use Rattle.bag_disk.specs.Disk.{OnlyLooks};
+ghost use Rattle.bag_disk.specs.DiskNodes.{OnlyLooks};
 ghost use Rattle.bag_disk.specs.FolderWalk.{FindsPath, HasPaths, IsFolderPath, ListsFolder};
 ghost use Rattle.bag_disk.specs.FolderWalk.{ListsNames, MayRefuseFolder, MayRefuseNames};
 ghost use Rattle.bag_disk.specs.FolderWalk.{MayRefusePath, files_with, folders_with, turns_left};

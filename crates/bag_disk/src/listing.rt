@@ -2,7 +2,8 @@
 ghost use Rattle.std.specs.Prelude.{◌≡◌, [], IfOk, IfErr, OnOk, Any, ◌↔◌, codes, IsTrue};
 ghost use Rattle.std.specs.List.Sorted.{IsPermutation};
 ghost use Rattle.bag_tree.specs.Listing.{IsOrdered, IsListingOf};
-ghost use Rattle.bag_disk.specs.Disk.{OnlyLooks, is_plain};
+ghost use Rattle.bag_disk.specs.Disk.{is_plain};
+ghost use Rattle.bag_disk.specs.DiskNodes.{OnlyLooks};
 ghost use Rattle.bag_disk.specs.DiskBag.{bag_of};
 ghost use Rattle.bag_disk.specs.FolderWalk.{ArePaths, IsUnlistable, MayRefuseWholeListing};
 ghost use Rattle.bag_disk.specs.FolderWalk.{MayRefuseWalk, Walked};

@@ -1,7 +1,7 @@
 //! Opening a file of a disk.
 ghost use Rattle.std.specs.Prelude.{◌≡◌, ◌++◌, ◌∷◌, [], None, OnOk, OnErr, IfErr, IsTrue, is_some};
 ghost use Rattle.bag_text.specs.Path.{is_path};
-ghost use Rattle.bag_disk.specs.Disk.{OnlyLooks, SameDisk, IsReachedByFolders};
+ghost use Rattle.bag_disk.specs.DiskNodes.{OnlyLooks, SameDisk, IsReachedByFolders};
 ghost use Rattle.bag_disk.specs.Opening.{HasFolderAt, MayRefuseAsFolder, MayRefuseOpening};
 ghost use Rattle.bag_disk.specs.Opening.{MayRefuseWay, OpensFileOfBag};
 ghost use Rattle.bag_disk.specs.Refusal.{IsCounted};

@@ -4,7 +4,7 @@ ghost use Rattle.std.specs.Prelude.{is_some, false, length};
 ghost use Rattle.std.specs.Fs.{dir_entry_name};
 ghost use Rattle.bag_disk.specs.SystemDisk.{base_of, state_of_system, synced_by, system_state};
 ghost use Rattle.bag_disk.specs.SystemDisk.{written_state};
-ghost use Rattle.bag_disk.specs.Disk.{OnlyLooks, OnlySyncs, empty_disk};
+ghost use Rattle.bag_disk.specs.DiskNodes.{OnlyLooks, OnlySyncs, empty_disk};
 ghost use Rattle.bag_disk.specs.Refusal.{CountsAs, at_known};
 
 use crate::base_folder::{BaseFolder, Synced};

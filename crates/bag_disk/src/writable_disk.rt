@@ -2,7 +2,7 @@
 ghost use Rattle.std.specs.Prelude.{◌≡◌, ◌<◌, ◌≤◌, List, ℕ, IfOk, OnOk, OnErr, IsErrOf, IsTrue};
 ghost use Rattle.std.specs.Prelude.{Option, None, Some, is_some, length, take};
 ghost use Rattle.bag_text.specs.Path.{is_path};
-ghost use Rattle.bag_disk.specs.Disk.{HasSomethingAt, IsUnreached, OnlyLooks, OnlySyncs};
+ghost use Rattle.bag_disk.specs.DiskNodes.{HasSomethingAt, IsUnreached, OnlyLooks, OnlySyncs};
 ghost use Rattle.bag_disk.specs.Refusal.{CountsAs, at_known, of_making};
 ghost use Rattle.bag_disk.specs.WritableDisk.{AddsFile, AddsFolder, AppendsTo, ClosesOpenFile};
 ghost use Rattle.bag_disk.specs.WritableDisk.{HasNoFolder};

@@ -36,7 +36,7 @@ pub use Rattle.bag_read.proofs.TagPaths.{in_base, paths_differ}
 pub use Rattle.bag_read.specs.Declaration.{declared_version}
 pub use Rattle.bag_read.specs.LineFault.{AreFaults, line_fault}
 pub use Rattle.bag_read.specs.Manifest.{IsEntry, IsManifestFault, ManifestFault}
-pub use Rattle.bag_read.specs.TagName.{tag_path}
+pub use Rattle.bag_read.specs.ManifestName.{tag_path}
 pub use Rattle.bag_read.specs.declared.line_fault.LineFault.{LineFault}
 pub use Rattle.bag_read.specs.declared.tag_name.TagName.{TagName}
 pub use Rattle.bag_read.specs.declared.tag_name.TagName.TheVariants.{Declaration, Fetch, Info, Manifest}
@@ -44,7 +44,9 @@ pub use Rattle.bag_text.proofs.AlgSets.{each_is_listed, name_is_read_again, name
 pub use Rattle.bag_text.proofs.ListOf.{contains_back, contains_behind, contains_cases, contains_either, contains_first}
 pub use Rattle.bag_text.proofs.ListOf.{contains_front, contains_nothing, each_from_members, member_has, same_members}
 pub use Rattle.bag_text.specs.Alg.{alg_named, algs, name, rank, rank_or_zero}
-pub use Rattle.bag_text.specs.Code.{all_codes, number, stage, word}
+pub use Rattle.bag_text.specs.Code.{number, stage}
+pub use Rattle.bag_text.specs.CodeList.{all_codes}
+pub use Rattle.bag_text.specs.CodeWord.{word}
 pub use Rattle.bag_text.specs.Order.{IsListOf}
 pub use Rattle.bag_text.specs.Path.{first_component, is_base_name, is_path, is_payload_path, under}
 pub use Rattle.bag_text.specs.Rules.{rules_of}
@@ -58,10 +60,11 @@ pub use Rattle.bag_tree.proofs.Calm.{memory_refused, memory_then, memory_unliste
 pub use Rattle.bag_tree.proofs.Calm.{nothing_then}
 pub use Rattle.bag_tree.proofs.SameText.{one_text, same_test, text_itself}
 pub use Rattle.bag_tree.specs.Bag.{Bag, HasFile, IsBag, file}
-pub use Rattle.bag_tree.specs.NothingFailed.{MayReportMemory, NothingFailed}
 pub use Rattle.bag_tree.specs.Listing.{IsListingOf, IsOrdered, entry_at, size_at}
-pub use Rattle.bag_tree.specs.Tree.{CameFromFile, FailsOver, IsEntryOf, Keeps, MayRefuse, OpensAtMost, TreeState}
-pub use Rattle.bag_tree.specs.Whole.{IsRefusedAt, MayRefuseWhole}
+pub use Rattle.bag_tree.specs.Tree.{CameFromFile, FailsOver, Keeps, MayRefuse, TreeState}
+pub use Rattle.bag_tree.specs.Tree.{MayReportMemory, NothingFailed, IsRefusedAt}
+pub use Rattle.bag_tree.specs.FileReads.{IsEntryOf, OpensAtMost}
+pub use Rattle.bag_tree.specs.Whole.{MayRefuseWhole}
 pub use Rattle.bag_tree.specs.declared.answer.Answer.TheVariants.{Refused, Unlisted}
 pub use Rattle.bag_tree.specs.declared.listing.FileEntry.{FileEntry}
 pub use Rattle.bag_tree.specs.declared.listing.Listing.{Listing}
@@ -73,16 +76,20 @@ pub use Rattle.percent_encoding.proofs.PercentLemmas.{All-percent_encode, IsByte
 pub use Rattle.percent_encoding.specs.AsciiSet.{contains}
 unfoldable pub use Rattle.percent_encoding.specs.AsciiSet.{should_percent_encode}
 unfoldable pub use Rattle.percent_encoding.specs.Percent.{percent_decode, percent_encode, percent_encode_byte}
-pub use Rattle.bag_facts.specs.Facts.{AreJudged, AreParsed, AreRulesOf, HasItsFolder, IsFactsOf, rules_in}
-pub use Rattle.bag_facts.specs.FaultLine.{LinesTellFaultsApart, alg_field, encoded, field, is_encoded, line_field}
-pub use Rattle.bag_facts.specs.FaultOrder.{EqualFaultsAreOne, OneOfThree, fault_cmp}
-pub use Rattle.bag_facts.specs.Stops.{IsOutOfMemory, IsRefusalOf, MayRefuseFacts, MayStopReading}
+pub use Rattle.bag_facts.specs.Facts.{rules_in}
+pub use Rattle.bag_facts.specs.FactsOfBag.{AreJudged, AreParsed, AreRulesOf, HasItsFolder}
+pub use Rattle.bag_facts.specs.FactsOfBag.{IsFactsOf}
+pub use Rattle.bag_facts.specs.FaultLine.{alg_field, encoded, field, is_encoded, line_field}
+pub use Rattle.bag_facts.specs.Laws.{LinesTellFaultsApart, EqualFaultsAreOne, OneOfThree}
+pub use Rattle.bag_facts.specs.FaultOrder.{fault_cmp}
+pub use Rattle.bag_facts.specs.Stops.{IsOutOfMemory, MayRefuseFacts}
 pub use Rattle.bag_facts.specs.TagFacts.{AreByPath, AreEntriesOf, IsDeclarationOf, IsManifestNamed, IsManifestOf}
 pub use Rattle.bag_facts.specs.TagFacts.{IsParsed, IsReadOf, IsTagFileNamed, SaysOfTagFile, entry_paths, name_of}
 pub use Rattle.bag_facts.specs.TagFacts.{path_of}
 pub use Rattle.bag_facts.specs.TagReader.{AreBytes, AreFilesOfBag, PathsAreTexts, IsWhole, ReadsWanted, StopsReading}
-pub use Rattle.bag_facts.specs.TagReader.{read_path}
-pub use Rattle.bag_facts.specs.Wanted.{AreWanted, ForListing, IsWanted, OpensAll, OpensFirst, OpensUpTo, OpensWanted}
+pub use Rattle.bag_facts.specs.TagReader.{read_path, IsRefusalOf, MayStopReading, OpensAll}
+pub use Rattle.bag_facts.specs.TagReader.{OpensFirst}
+pub use Rattle.bag_facts.specs.Wanted.{AreWanted, ForListing, IsWanted, OpensUpTo, OpensWanted}
 pub use Rattle.bag_facts.specs.Wanted.{Wants, paths_of}
 pub use Rattle.bag_facts.specs.declared.facts.Facts.{Facts}
 pub use Rattle.bag_facts.specs.declared.fault.TheConstants.{ESCAPED, ESCAPED_HYPHEN}

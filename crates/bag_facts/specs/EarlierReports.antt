@@ -5,12 +5,14 @@ use Rattle.std.specs.Str.{byte}
 use Rattle.std.specs.declared.cmp.Ordering.{Ordering}
 use Rattle.std.specs.Ordering.{nat_cmp, on, then_cmp}
 use Rattle.bag_text.specs.Text.{text_cmp}
-use Rattle.bag_text.specs.Code.{number, word, stage}
+use Rattle.bag_text.specs.Code.{number, stage}
+use Rattle.bag_text.specs.CodeWord.{word}
 use Rattle.bag_text.specs.declared.alg.Alg.{Alg}
 use Rattle.bag_text.specs.declared.alg.Alg.TheVariants.{Md5, Sha1, Sha256, Sha512}
 use Rattle.bag_facts.specs.declared.fault.Fault.{Fault}
-use Rattle.bag_facts.specs.FaultLine.{field, line_field, IsLineOf}
-use Rattle.bag_facts.specs.FaultOrder.{fault_cmp, IsFault}
+use Rattle.bag_facts.specs.FaultLine.{field, line_field}
+use Rattle.bag_facts.specs.LineOf.{IsLineOf, IsFault}
+use Rattle.bag_facts.specs.FaultOrder.{fault_cmp}
 
 -- the place of an algorithm in the order of those reports, from 1, and 0 for one that they can't
 -- have

@@ -1,14 +1,14 @@
 -- A fault as a line of text.
-use Rattle.std.specs.Prelude.{ℕ, ◌≡◌, ◌==◌, ◌||◌, Bool, List, [], ◌∷◌, Option, Some, None, bytes_eq}
+use Rattle.std.specs.Prelude.{ℕ, ◌==◌, ◌||◌, Bool, List, [], ◌∷◌, Option, Some, None, bytes_eq}
 use Rattle.std.specs.Prelude.{codes, decimal, if◌then◌else◌, flat_map, nat_le}
 use Rattle.std.specs.List.{join_with_byte}
 use Rattle.std.specs.Str.{byte}
 use Rattle.percent_encoding.specs.Percent.{percent_encode_byte}
 use Rattle.bag_text.specs.Alg.{name}
-use Rattle.bag_text.specs.Code.{number, word}
+use Rattle.bag_text.specs.Code.{number}
+use Rattle.bag_text.specs.CodeWord.{word}
 use Rattle.bag_text.specs.declared.alg.Alg.{Alg}
 use Rattle.bag_facts.specs.declared.fault.Fault.{Fault}
-use Rattle.bag_facts.specs.FaultOrder.{IsFault}
 
 -- the bytes 0 to 32, 37 (%), and 127 to 255
 abbrev pub is_encoded : ℕ → Bool
@@ -40,12 +40,3 @@ fault_line f =
     join_with_byte (byte " ")
     (decimal (number f.code) ∷ word f.code ∷ field f.path ∷ alg_field f.alg ∷ line_field f.line
     ∷ field f.detail ∷ [])
-
--- the law: different faults have different lines
-abbrev pub LinesTellFaultsApart : Type 0
-LinesTellFaultsApart = (f g : Fault) → IsFault f → IsFault g → fault_line f ≡ fault_line g → f ≡ g
-
--- the text is the line of this fault
-pub record IsLineOf (line : List ℕ) (f : Fault) : Type 0 where
-  pub fault : IsFault f
-  pub text : fault_line f ≡ line

@@ -1,9 +1,12 @@
 pub mod EarlierReports
 pub mod Facts
+pub mod FactsOfBag
 pub mod FaultAt
 pub mod FaultLine
 pub mod FaultOrder
+pub mod Laws
 pub mod LineFields
+pub mod LineOf
 pub mod Options
 pub mod Stops
 pub mod TagFacts

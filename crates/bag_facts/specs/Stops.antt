@@ -1,7 +1,5 @@
 -- Why listing a tree and reading its tag files may stop.
-use Rattle.std.specs.Prelude.{◌≡◌, ◌≢◌, ◌⊎◌, ◌<◌, ℕ, List, [], IsTrue}
-use Rattle.bag_tree.specs.Bag.{HasFile}
-use Rattle.bag_tree.specs.NothingFailed.{MayReportMemory}
+use Rattle.std.specs.Prelude.{◌≡◌, ◌≢◌, ◌⊎◌, ◌<◌, [], IsTrue}
 use Rattle.bag_tree.specs.Tree.{TreeState, MayRefuseListing, FailsOver, CameFromFile, most_entries}
 use Rattle.bag_tree.specs.declared.answer.Answer.TheVariants.{Unlisted}
 use Rattle.bag_tree.specs.declared.tree_fault.Stop.{Stop}
@@ -9,18 +7,10 @@ use Rattle.bag_tree.specs.declared.tree_fault.TreeFault.{TreeFault}
 use Rattle.bag_tree.specs.declared.tree_fault.TreeFault.TheVariants.{Device, Special, Name}
 use Rattle.bag_tree.specs.declared.tree_fault.TreeFault.TheVariants.{NotFound, TooMany, Changed}
 use Rattle.bag_tree.specs.declared.tree_fault.TreeFault.TheVariants.{NoneOpen, Memory, Exists}
-use Rattle.bag_facts.specs.Wanted.{IsWanted}
-use Rattle.bag_facts.specs.declared.options.Options.{Options}
 
 -- there was no memory, and no file is named
 abbrev pub IsOutOfMemory : Stop → Type 0
 IsOutOfMemory stop = (stop.cause ≡ Memory) × (stop.path ≡ [])
-
--- The refusal of the file is reported so: with its path, or without one where it was when out of
--- memory.
-abbrev pub IsRefusalOf : TreeFault → List ℕ → Stop → Type 0
-IsRefusalOf cause path stop = ((cause ≢ Memory) × (stop.cause ≡ cause) × (stop.path ≡ path))
-    ⊎ ((cause ≡ Memory) × IsOutOfMemory stop)
 
 -- Why listing a tree and reading its tag files may be refused. Over an honest tree the cause is the
 -- device, something in the tree that is no file and no folder or has a name that isn't UTF-8, the
@@ -43,24 +33,9 @@ IsOfListing old new stop =
     (stop.path ≡ []) × (new.openings ≡ old.openings) × (new.rest ≡ old.rest)
     × (new.last ≡ Unlisted stop.cause) × MayRefuseListing old new stop.cause
 
--- a file was refused: one that is wanted, and of an honest tree's bag
-abbrev pub IsRefusedFile : Options → TreeState → Stop → Type 0
-IsRefusedFile options old stop =
-    IsWanted options stop.path × (IsTrue old.honest → HasFile old.bag stop.path)
-
 -- A stop says what the tree answered last: where it names no file that the listing was refused,
 -- and where it names one that a file was. Out of memory may be the caller's own, and names none.
 abbrev pub ReportsAnswer : TreeState → Stop → Type 0
 ReportsAnswer new stop =
     IsOutOfMemory stop ⊎ ((stop.path ≡ []) × (new.last ≡ Unlisted stop.cause))
     ⊎ ((stop.path ≢ []) × CameFromFile new stop.cause)
-
--- A stop names the cause, which is the tree's own answer but for out of memory, and the file that
--- was refused. It names none when out of memory, and where it was the listing that was refused. Out
--- of memory is reported only where the tree reported it or refused nothing.
-pub record MayStopReading (options : Options) (old new : TreeState) (stop : Stop) : Type 0 where
-  pub cause : MayRefuseFacts old new stop.cause
-  pub answered : ReportsAnswer new stop
-  pub path : IsOutOfMemory stop ⊎ IsOfListing old new stop ⊎ IsRefusedFile options old stop
-  pub memory : stop.cause ≡ Memory → stop.path ≡ []
-  pub out_of_memory : stop.cause ≡ Memory → MayReportMemory old new

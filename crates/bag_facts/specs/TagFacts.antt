@@ -13,7 +13,7 @@ use Rattle.bag_read.specs.Fetch.{IsFetch, IsFetchFault}
 use Rattle.bag_read.specs.Info.{IsElement, IsInfoFault}
 use Rattle.bag_read.specs.LineFault.{AreFaults}
 use Rattle.bag_read.specs.Manifest.{IsEntry, IsManifestFault}
-use Rattle.bag_read.specs.TagName.{tag_path}
+use Rattle.bag_read.specs.ManifestName.{tag_path}
 use Rattle.bag_read.specs.declared.declaration.Declaration.{Declaration}
 use Rattle.bag_read.specs.declared.kind.Kind.{Kind}
 use Rattle.bag_read.specs.declared.manifest.ManifestEntry.{ManifestEntry}

@@ -1,19 +1,19 @@
 -- Reading the tag files of a listing.
 use Rattle.std.specs.Prelude.{◌≡◌, ◌⊎◌, ◌++◌, ◌∷◌, ◌<◌, ℕ, List, [], length, All, Contains, Option}
-use Rattle.std.specs.Prelude.{None, Some, IsTrue, IsUtf8}
+use Rattle.std.specs.Prelude.{None, Some, IsTrue, IsUtf8, ◌≢◌}
 use Rattle.std.specs.Option.{option_map}
-use Rattle.bag_read.specs.TagName.{tag_path}
+use Rattle.bag_read.specs.ManifestName.{tag_path}
 use Rattle.bag_tree.specs.Bag as bag
-use Rattle.bag_tree.specs.NothingFailed.{MayReportMemory}
+use Rattle.bag_tree.specs.Tree.{MayReportMemory, TreeState, CameFromFile}
 use Rattle.bag_tree.specs.Listing.{size_at}
-use Rattle.bag_tree.specs.Tree.{TreeState, CameFromFile}
 use Rattle.bag_tree.specs.declared.listing.FileEntry.{FileEntry}
 use Rattle.bag_tree.specs.declared.tree_fault.Stop.{Stop}
 use Rattle.bag_tree.specs.declared.tree_fault.TreeFault.TheVariants.{Memory}
-use Rattle.bag_facts.specs.Stops.{IsOutOfMemory, IsRefusedFile, MayRefuseFacts}
-use Rattle.bag_facts.specs.Wanted.{Wants, IsWanted}
+use Rattle.bag_facts.specs.Stops.{IsOutOfMemory, MayRefuseFacts, IsOfListing, ReportsAnswer}
+use Rattle.bag_facts.specs.Wanted.{IsRefusedFile, Wants, IsWanted, AreWanted}
 use Rattle.bag_facts.specs.declared.options.Options.{Options}
 use Rattle.bag_facts.specs.declared.tag_reader.TagBytes.{TagBytes}
+use Rattle.bag_tree.specs.declared.tree_fault.TreeFault.{TreeFault}
 
 -- where the file stands
 abbrev pub read_path : TagBytes → List ℕ
@@ -60,3 +60,31 @@ pub record StopsReading (options : Options) (old new : TreeState) (stop : Stop) 
   pub path : IsOutOfMemory stop ⊎ IsRefusedFile options old stop
   pub memory : stop.cause ≡ Memory → stop.path ≡ []
   pub out_of_memory : stop.cause ≡ Memory → MayReportMemory old new
+
+-- the first of the wanted tag files among these files were opened, each once and in path order, and
+-- no other file
+abbrev pub OpensFirst : Options → List FileEntry → TreeState → TreeState → Type 0
+OpensFirst options files old new =
+    (paths : List (List ℕ)) × (more : List (List ℕ)) × AreWanted options files (paths ++ more)
+    × (new.openings ≡ old.openings ++ paths)
+
+-- each wanted tag file among these files was opened once, in path order, and no other file
+abbrev pub OpensAll : Options → List FileEntry → TreeState → TreeState → Type 0
+OpensAll options files old new =
+    (paths : List (List ℕ)) × AreWanted options files paths × (new.openings ≡ old.openings ++ paths)
+
+-- A stop names the cause, which is the tree's own answer but for out of memory, and the file that
+-- was refused. It names none when out of memory, and where it was the listing that was refused. Out
+-- of memory is reported only where the tree reported it or refused nothing.
+pub record MayStopReading (options : Options) (old new : TreeState) (stop : Stop) : Type 0 where
+  pub cause : MayRefuseFacts old new stop.cause
+  pub answered : ReportsAnswer new stop
+  pub path : IsOutOfMemory stop ⊎ IsOfListing old new stop ⊎ IsRefusedFile options old stop
+  pub memory : stop.cause ≡ Memory → stop.path ≡ []
+  pub out_of_memory : stop.cause ≡ Memory → MayReportMemory old new
+
+-- The refusal of the file is reported so: with its path, or without one where it was when out of
+-- memory.
+abbrev pub IsRefusalOf : TreeFault → List ℕ → Stop → Type 0
+IsRefusalOf cause path stop = ((cause ≢ Memory) × (stop.cause ≡ cause) × (stop.path ≡ path))
+    ⊎ ((cause ≡ Memory) × IsOutOfMemory stop)

@@ -3,16 +3,17 @@ use Rattle.std.specs.Prelude.{◌≡◌, ◌≢◌, ◌++◌, ◌⊎◌, ◌∷�
 use Rattle.std.specs.List.Sorted.{IsStrictlySortedBy}
 use Rattle.bag_text.specs.Text.{text_cmp}
 use Rattle.bag_text.specs.Order.{IsListOf}
-use Rattle.bag_read.specs.TagName.{tag_path}
+use Rattle.bag_read.specs.ManifestName.{tag_path}
 use Rattle.bag_read.specs.declared.tag_name.TagName.{TagName}
 use Rattle.bag_read.specs.declared.tag_name.TagName.TheVariants.{Declaration}
 use Rattle.bag_tree.specs.Listing.{IsOrdered, IsListingOf}
-use Rattle.bag_tree.specs.Tree.{TreeState}
-use Rattle.bag_tree.specs.Whole.{IsRefusedAt}
+use Rattle.bag_tree.specs.Tree.{TreeState, IsRefusedAt}
 use Rattle.bag_tree.specs.declared.listing.FileEntry.{FileEntry}
 use Rattle.bag_tree.specs.declared.listing.Listing.{Listing}
 use Rattle.bag_facts.specs.declared.options.Depth.TheVariants as depth_of
 use Rattle.bag_facts.specs.declared.options.Options.{Options}
+use Rattle.bag_tree.specs.Bag.{HasFile}
+use Rattle.bag_tree.specs.declared.tree_fault.Stop.{Stop}
 
 -- the options ask for a tag file: always for the declaration, and above the depth of the
 -- declaration for each
@@ -31,18 +32,6 @@ paths_of files = map (λ entry. entry.path) files
 abbrev pub AreWanted : Options → List FileEntry → List (List ℕ) → Type 0
 AreWanted options files paths =
     IsListOf text_cmp (λ path. IsWanted options path × Contains (paths_of files) path) paths
-
--- each wanted tag file among these files was opened once, in path order, and no other file
-abbrev pub OpensAll : Options → List FileEntry → TreeState → TreeState → Type 0
-OpensAll options files old new =
-    (paths : List (List ℕ)) × AreWanted options files paths × (new.openings ≡ old.openings ++ paths)
-
--- the first of the wanted tag files among these files were opened, each once and in path order, and
--- no other file
-abbrev pub OpensFirst : Options → List FileEntry → TreeState → TreeState → Type 0
-OpensFirst options files old new =
-    (paths : List (List ℕ)) × (more : List (List ℕ)) × AreWanted options files (paths ++ more)
-    × (new.openings ≡ old.openings ++ paths)
 
 -- files that are wanted were opened, each once at most and in path order, and no others
 abbrev pub OpensWanted : Options → TreeState → TreeState → Type 0
@@ -63,3 +52,8 @@ abbrev pub ForListing : TreeState → (List FileEntry → Type 0) → Type 0
 ForListing old IsSo =
     (listing : Listing) × IsOrdered listing.files
     × (IsTrue old.honest → IsListingOf old.bag listing) × IsSo listing.files
+
+-- a file was refused: one that is wanted, and of an honest tree's bag
+abbrev pub IsRefusedFile : Options → TreeState → Stop → Type 0
+IsRefusedFile options old stop =
+    IsWanted options stop.path × (IsTrue old.honest → HasFile old.bag stop.path)

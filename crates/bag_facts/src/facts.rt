@@ -5,19 +5,19 @@ ghost use Rattle.std.specs.Option.{option_copied};
 ghost use Rattle.bag_text.specs.declared.alg.Alg.{Alg as AlgValue};
 ghost use Rattle.bag_text.specs.Path.{is_payload_path};
 ghost use Rattle.bag_text.specs.Rules.{rules_of};
-ghost use Rattle.bag_read.specs.TagName.{tag_path};
+ghost use Rattle.bag_read.specs.ManifestName.{tag_path};
 ghost use Rattle.bag_read.specs.declared.tag_name.TagName.TheVariants as file_of;
 ghost use Rattle.bag_tree.specs.Bag.{Bag, IsBag, HasFile, file};
-ghost use Rattle.bag_tree.specs.NothingFailed.{NothingFailed};
-ghost use Rattle.bag_tree.specs.Tree.{Keeps};
-ghost use Rattle.bag_facts.specs.Facts.{rules_in, AreJudged, AreParsed, AreRulesOf, HasItsFolder};
+ghost use Rattle.bag_tree.specs.Tree.{Keeps, NothingFailed};
+ghost use Rattle.bag_facts.specs.Facts.{rules_in};
+ghost use Rattle.bag_facts.specs.FactsOfBag.{AreJudged, AreParsed, AreRulesOf, HasItsFolder};
 ghost use Rattle.bag_facts.specs.TagFacts.{name_of, AreEntriesOf, IsReadOf, IsDeclarationOf};
 ghost use Rattle.bag_facts.specs.TagFacts.{IsMetadataOf, IsFetchListOf, IsManifestNamed};
 ghost use Rattle.bag_facts.specs.TagFacts.{IsTagFileNamed};
-ghost use Rattle.bag_facts.specs.Wanted.{ForListing, OpensAll, OpensFirst, OpensUpTo, OpensWanted};
+ghost use Rattle.bag_facts.specs.Wanted.{ForListing, OpensUpTo, OpensWanted};
+ghost use Rattle.bag_facts.specs.TagReader.{OpensAll, OpensFirst, MayStopReading};
 ghost use Rattle.bag_facts.specs.Wanted.{Wants};
 ghost use Rattle.bag_facts.specs.declared.options.Depth.TheVariants as depth_of;
-ghost use Rattle.bag_facts.specs.Stops.{MayStopReading};
 
 use crate::listed_manifest::has_manifest;
 use crate::pooling::pooled;
@@ -40,7 +40,7 @@ pub struct Facts {
 }
 
 impl Facts {
-    ghost use Rattle.bag_facts.specs.Facts.{IsFactsOf, OfBag};
+    ghost use Rattle.bag_facts.specs.FactsOfBag.{IsFactsOf, OfBag};
 
     /// Lists the tree, and reads its tag files whole, in path order and each once: at every depth
     /// `bagit.txt`, and at the depths above `Declaration` also `bag-info.txt`, `fetch.txt` and the

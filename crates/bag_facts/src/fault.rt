@@ -12,7 +12,7 @@ ghost use Rattle.percent_encoding.specs.Iter.{encoded_text};
 ghost use Rattle.bag_facts.specs.FaultLine.{field};
 ghost use Rattle.bag_text.specs.Code as of_code;
 ghost use Rattle.bag_facts.specs.FaultAt as made;
-ghost use Rattle.bag_facts.specs.FaultOrder.{IsFault};
+ghost use Rattle.bag_facts.specs.LineOf.{IsFault};
 ghost use Rattle.bag_facts.specs.FaultLine as spec;
 
 use bag_text::{Alg, Code, Text};

@@ -5,7 +5,8 @@ ghost use Rattle.bag_text.specs.Code.{number};
 ghost use Rattle.bag_text.specs.declared.alg.Alg.{Alg};
 ghost use Rattle.bag_text.specs.declared.code.Code.{Code};
 ghost use Rattle.bag_facts.specs.FaultLine as spec;
-ghost use Rattle.bag_facts.specs.FaultOrder.{IsFault};
+ghost use Rattle.bag_facts.specs.LineOf as line_of;
+ghost use Rattle.bag_facts.specs.LineOf.{IsFault};
 ghost use Rattle.bag_facts.specs.LineFields.{AreFields};
 ghost use Rattle.bag_facts.specs.declared.fault.Fault.{Fault};
 
@@ -41,9 +42,9 @@ impl Fault {
     /// one with an end, with an escape that isn't needed, with lower-case hex, or with a line 0.
     /// Takes time in proportion to the text.
     pub fn from_line(alloc: Global, line: &str) -> Result<Fault, CursorFault>
-        ensures ok { IfOk result (spec.IsLineOf line.now) }
+        ensures ok { IfOk result (line_of.IsLineOf line.now) }
         ensures refused { result ≡ Err CursorFault.NotALine → (fault : Fault)
-            → ¬ (spec.IsLineOf line.now fault) }
+            → ¬ (line_of.IsLineOf line.now fault) }
     {
         let fault = read(alloc, line)?;
         let written = fault.to_line(alloc)?;
@@ -58,7 +59,7 @@ impl Fault {
 /// The fault whose line this is, or some other where the text is no line.
 fn read(alloc: Global, line: &str) -> Result<Fault, CursorFault>
     ensures fault { IfOk result IsFault }
-    ensures reads { (fault : Fault) → spec.IsLineOf line.now fault
+    ensures reads { (fault : Fault) → line_of.IsLineOf line.now fault
         → MatchResult result (λ read. read ≡ fault) (λ e. e ≡ CursorFault.Memory) }
 {
     let Some(fields) = Fields::of(line) else {
@@ -91,7 +92,7 @@ struct Fields<'a> {
 impl<'a> Fields<'a> {
     /// The fields before the first five spaces, and what stands after these.
     fn of(text: &'a str) -> Option<Fields<'a>>
-        ensures { (fault : Fault) → spec.IsLineOf text.now fault
+        ensures { (fault : Fault) → line_of.IsLineOf text.now fault
             → MatchOption result ⊥ (AreFields fault) }
     {
         let Some((code, rest)) = text.split_once(' ') else {

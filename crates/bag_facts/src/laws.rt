@@ -1,9 +1,8 @@
 //! Laws of the definitions, each the contract of a function that gives nothing.
 ghost use Rattle.bag_facts.specs.EarlierReports.{EarlierFaultsKeepTheirOrder};
 ghost use Rattle.bag_facts.specs.EarlierReports.{EarlierLinesKeepTheirFaults};
-ghost use Rattle.bag_facts.specs.FaultLine.{LinesTellFaultsApart};
-ghost use Rattle.bag_facts.specs.FaultOrder.{FaultsAreOrdered, OneOfThreeHolds, EqualFaultsAreOne};
-ghost use Rattle.bag_facts.specs.FaultOrder.{AscendingFaultsAreOne};
+ghost use Rattle.bag_facts.specs.Laws.{LinesTellFaultsApart, FaultsAreOrdered, OneOfThreeHolds};
+ghost use Rattle.bag_facts.specs.Laws.{EqualFaultsAreOne, AscendingFaultsAreOne};
 
 pub use crate::fault::every_fault_is_one;
 

@@ -1,7 +1,7 @@
 //! Whether manifests are listed.
 ghost use Rattle.std.specs.Prelude.{◌≡◌, bytes_eq};
 ghost use Rattle.std.specs.List.{list_any};
-ghost use Rattle.bag_read.specs.TagName.{tag_path};
+ghost use Rattle.bag_read.specs.ManifestName.{tag_path};
 ghost use Rattle.bag_read.specs.declared.tag_name.TagName.TheVariants.{Manifest};
 
 use bag_read::{Kind, TagName};

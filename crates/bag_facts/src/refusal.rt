@@ -1,5 +1,5 @@
 //! Why a file couldn't be read.
-ghost use Rattle.bag_facts.specs.Stops.{IsRefusalOf};
+ghost use Rattle.bag_facts.specs.TagReader.{IsRefusalOf};
 
 use bag_text::Text;
 use bag_tree::{Stop, TreeFault};

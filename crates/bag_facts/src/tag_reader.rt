@@ -1,14 +1,13 @@
 //! Reads the tag files of a listing.
 ghost use Rattle.std.specs.Prelude.{◌≡◌, ◌≢◌, ◌++◌, [], IsTrue, IsUtf8, IfOk, IfErr, OnOk, OnErr};
 ghost use Rattle.std.specs.Prelude.{MatchOption, Contains, map};
-ghost use Rattle.bag_read.specs.TagName.{tag_path};
-ghost use Rattle.bag_tree.specs.NothingFailed.{NothingFailed};
+ghost use Rattle.bag_read.specs.ManifestName.{tag_path};
 ghost use Rattle.bag_tree.specs.Listing.{IsOrdered};
-ghost use Rattle.bag_tree.specs.Tree.{Keeps, IsEntryOf, OpensAtMost};
-ghost use Rattle.bag_tree.specs.Whole.{IsRefusedAt};
+ghost use Rattle.bag_tree.specs.Tree.{Keeps, NothingFailed, IsRefusedAt};
+ghost use Rattle.bag_tree.specs.FileReads.{IsEntryOf, OpensAtMost};
 ghost use Rattle.bag_facts.specs.TagReader.{AreBytes, AreFilesOfBag, PathsAreTexts, IsWhole};
-ghost use Rattle.bag_facts.specs.TagReader.{ReadsWanted, StopsReading, read_path};
-ghost use Rattle.bag_facts.specs.Wanted.{Wants, IsWanted, AreWanted, OpensFirst, OpensUpTo};
+ghost use Rattle.bag_facts.specs.TagReader.{ReadsWanted, StopsReading, read_path, OpensFirst};
+ghost use Rattle.bag_facts.specs.Wanted.{Wants, IsWanted, AreWanted, OpensUpTo};
 ghost use Rattle.bag_facts.specs.declared.tag_reader.TagBytes.{TagBytes};
 
 use crate::{Options, refusal_of};

@@ -35,15 +35,15 @@ pub use Rattle.bag_facts.proofs.Mapped.{contains_mapped, mapped_contains, take_o
 pub use Rattle.bag_facts.proofs.Reading.{keeps_itself, keeps_on, later_refusal, listing_refusal}
 pub use Rattle.bag_facts.proofs.Refusing.{came_from, path_some, refused_file, told_memory}
 pub use Rattle.bag_facts.specs.Facts.{rules_in}
-pub use Rattle.bag_facts.specs.Stops.{IsOutOfMemory, IsRefusalOf, MayRefuseFacts}
+pub use Rattle.bag_facts.specs.Stops.{IsOutOfMemory, MayRefuseFacts}
+pub use Rattle.bag_facts.specs.TagReader.{IsRefusalOf}
 pub use Rattle.bag_facts.specs.Wanted.{paths_of}
 pub use Rattle.bag_facts.specs.declared.fault.Fault.{Fault}
 pub use Rattle.bag_read.proofs.PickedOut.{any_from, both_true, from_any}
 pub use Rattle.bag_read.proofs.TagPaths.{in_base, name_is_text, name_named, paths_differ}
 pub use Rattle.bag_read.specs.Declaration.{IsDeclarationFault, declared_version}
 pub use Rattle.bag_read.specs.Manifest.{IsEntry, IsManifestFault, named}
-pub use Rattle.bag_read.specs.ManifestName.{manifest_name}
-pub use Rattle.bag_read.specs.TagName.{tag_path}
+pub use Rattle.bag_read.specs.ManifestName.{manifest_name, tag_path}
 pub use Rattle.bag_read.specs.declared.kind.Kind.{Kind}
 pub use Rattle.bag_read.specs.declared.kind.Kind.TheVariants.{Payload, Tag}
 pub use Rattle.bag_read.specs.declared.oxum.Oxum.{Oxum}
@@ -59,8 +59,10 @@ pub use Rattle.bag_tags.proofs.InfoReadAgain.{info_again}
 pub use Rattle.bag_tags.proofs.ManifestReadAgain.{manifest_again}
 pub use Rattle.bag_tags.specs.Distinct.{lent_texts}
 pub use Rattle.bag_tags.specs.Element.{NewElement, info_text, is_bad_element, is_bad_label, is_bad_value}
-pub use Rattle.bag_tags.specs.Entry.{CanWrite, NewEntry, begins_with_mark, is_bad_digest, is_bad_entry, is_bad_path}
-pub use Rattle.bag_tags.specs.Entry.{is_lower_hex_digit, manifest_text, may_name, paths}
+pub use Rattle.bag_tags.specs.Entry.{NewEntry}
+pub use Rattle.bag_tags.specs.Writable.{CanWrite, begins_with_mark, is_bad_digest, is_bad_entry}
+pub use Rattle.bag_tags.specs.Writable.{is_bad_path, is_lower_hex_digit, may_name, paths}
+pub use Rattle.bag_tags.specs.Entry.{manifest_text}
 pub use Rattle.bag_tags.specs.ReadAgain.{DeclarationIsReadAgain, InfoIsReadAgain, ManifestIsReadAgain}
 pub use Rattle.bag_text.proofs.ListOf.{contains_back, contains_behind, contains_cases, contains_either, contains_first}
 pub use Rattle.bag_text.proofs.ListOf.{contains_front, contains_nothing, each_from_members, nothing_listed, one_list}
@@ -84,13 +86,14 @@ pub use Rattle.bag_tree.proofs.Within.{within_cases}
 pub use Rattle.bag_tree.specs.Asked.{Adds, AreSyncs, Asking, AsksFile, AsksFolder, AsksMove, AsksPart}
 pub use Rattle.bag_tree.specs.Asked.{has_durable_folders, joined}
 pub use Rattle.bag_tree.specs.Bag.{Bag, HasFile, IsBag, file, files_of, has_file, has_folder}
-pub use Rattle.bag_tree.specs.NothingFailed.{NothingFailed}
 pub use Rattle.bag_tree.specs.Cut.{EachCut, LeavesOnly, MayLeave, is_durable, is_file_synced, is_synced}
 pub use Rattle.bag_tree.specs.Digest.{digest, hash}
 pub use Rattle.bag_tree.specs.Listing.{IsListingOf, IsOrdered}
 pub use Rattle.bag_tree.specs.Moved.{is_within, moved, renamed}
 pub use Rattle.bag_tree.specs.Steps.{Files, create, make_folder, move_in, rename_folder}
-pub use Rattle.bag_tree.specs.Tree.{CameFromFile, IsEntryOf, Keeps, MayRefuse, OpensAtMost, TreeState, refusal_of}
+pub use Rattle.bag_tree.specs.Tree.{CameFromFile, Keeps, MayRefuse, TreeState, refusal_of}
+pub use Rattle.bag_tree.specs.Tree.{NothingFailed}
+pub use Rattle.bag_tree.specs.FileReads.{IsEntryOf, OpensAtMost}
 pub use Rattle.bag_tree.specs.declared.answer.Answer.TheVariants.{Refused, Unlisted}
 pub use Rattle.bag_tree.specs.declared.listing.FileEntry.{FileEntry}
 pub use Rattle.bag_tree.specs.declared.listing.Listing.{Listing}
@@ -101,18 +104,22 @@ pub use Rattle.bag_make.specs.Contents.{MadeHasTheseFolders, ManifestsAscend}
 pub use Rattle.bag_make.specs.Made.{File, data_folder, declaration_file, entries_of, info_file, made, manifest}
 pub use Rattle.bag_make.specs.Made.{named_tag_files, new_elements, new_payload, new_tag_files, payload_manifests}
 pub use Rattle.bag_make.specs.Made.{tag_manifests}
-pub use Rattle.bag_make.specs.Make.{CanAsk, HasKnownSize, HasMade, HasNoFault, Leaves, MayRefuseMaking}
-pub use Rattle.bag_make.specs.Plan.{StepsMake, has_new, in_order, is_in_the_way, listed_tops, new_file, steps}
+pub use Rattle.bag_make.specs.Make.{CanAsk, HasKnownSize, HasMade, HasNoFault, Leaves}
+pub use Rattle.bag_make.specs.Make.{MayRefuseMaking, full}
+pub use Rattle.bag_make.specs.Plan.{in_order, is_in_the_way, new_file, steps}
+pub use Rattle.bag_make.specs.Laws.{StepsMake, RefusesOneFile, CanMake, MadeIsValid}
+pub use Rattle.bag_make.specs.ListedTops.{has_new, listed_tops}
 pub use Rattle.bag_make.specs.Plan.{steps_for, tops}
 pub use Rattle.bag_make.specs.PowerCut.{HasAllFiles, LastsForGood, OutlastsCuts}
-pub use Rattle.bag_make.specs.Request.{AreTexts}
-pub use Rattle.bag_make.specs.Steps.{AllAsk, CanTake, CanTakeAll, HasDone, HasLeft, HasTaken, IsStep, RefusedAsks}
+pub use Rattle.bag_make.specs.Request.{AreTexts, is_refused}
+pub use Rattle.bag_make.specs.Steps.{AllAsk, CanTake, CanTakeAll, HasLeft, HasTaken, RefusedAsks}
+pub use Rattle.bag_make.specs.StepsTaken.{HasDone, IsStep}
 pub use Rattle.bag_make.specs.Steps.{StepAsks, after_steps, change, new_folder}
-pub use Rattle.bag_make.specs.Stops.{IsAtFile, MayStopMaking, StopsSumming, RefusesOneFile}
-pub use Rattle.bag_make.specs.Summed.{AreSummed, AreSummedFiles, HasItsSums, IsSummedEntry, OpensFirstOf, entry_of_file}
-pub use Rattle.bag_make.specs.Summed.{summed_entry}
+pub use Rattle.bag_make.specs.Stops.{IsAtFile, MayStopMaking}
+pub use Rattle.bag_make.specs.Summing.{StopsSumming, AreSummedFiles, IsSummedEntry, OpensFirstOf}
+pub use Rattle.bag_make.specs.Summing.{summed_entry}
+pub use Rattle.bag_make.specs.Summed.{AreSummed, HasItsSums, entry_of_file}
 pub use Rattle.bag_make.specs.Texts.{info_of, manifests_of, named_of, size_of}
-pub use Rattle.bag_make.specs.Valid.{CanMake, MadeIsValid, full, is_refused}
 pub use Rattle.bag_make.specs.declared.fault.MakeFault.{MakeFault}
 pub use Rattle.bag_make.specs.declared.step.Step.{Step}
 pub use Rattle.bag_make.specs.declared.step.Step.TheVariants.{Create, MakeFolder, MoveIn, Rename}

@@ -12,8 +12,7 @@ use Rattle.std.specs.List.{slice_get}
 use Rattle.std.specs.Str.{is_utf8, chars}
 use Rattle.bag_read.specs.Info.{IsElement, IsInfoFault}
 use Rattle.bag_read.specs.declared.info.Element.{Element}
-use Rattle.bag_stages.specs.Metadata.{bag_info_txt, HasElement}
-use Rattle.bag_stages.specs.MetadataStage.{MetadataHolds, IsOfMetadata}
+use Rattle.bag_stages.specs.MetadataStage.{MetadataHolds, IsOfMetadata, bag_info_txt, HasElement}
 use Rattle.bag_make.proofs.Held.{tag_held, tag_there}
 use Rattle.bag_make.proofs.MadeRules.{made_rules}
 use Rattle.bag_make.proofs.OxumReads.{oxum_reads, oxum_is_text, oxum_is_good}

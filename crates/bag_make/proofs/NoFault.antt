@@ -3,8 +3,7 @@ use Rattle.bag_make.proofs.Common.{◌≡◌, inl, inr, true, List, None, Alg, n
 use Rattle.bag_make.proofs.Common.{DeclarationIsReadAgain, InfoIsReadAgain, ManifestIsReadAgain, made, CanMake}
 use Rattle.bag_make.proofs.Common.{MadeIsValid, full}
 use Rattle.bag_facts.specs.FaultOrder.{fault_cmp}
-use Rattle.bag_report.specs.Is.{Is}
-use Rattle.bag_report.specs.Report.{asks, IsReported}
+use Rattle.bag_report.specs.Report.{asks, IsReported, Is}
 use Rattle.bag_make.proofs.DeclarationReads.{no_declaration_fault}
 use Rattle.bag_make.proofs.FetchIsNotThere.{no_fetch_fault}
 use Rattle.bag_make.proofs.FilesAreNamed.{no_completeness_fault}

@@ -11,7 +11,8 @@ use Rattle.std.proofs.lemmas.Simd.{map-map}
 use Rattle.bag_facts.proofs.ListedFiles.{own_size}
 use Rattle.bag_make.proofs.Entries.{at_place}
 use Rattle.bag_make.proofs.Held.{held_at}
-use Rattle.bag_make.specs.Reading.{HasOnlyListed, HasRefusedNothing, IsRefusalOfStop, MayRefuseReading, OpensFolder}
+use Rattle.bag_make.specs.Reading.{HasOnlyListed, HasRefusedNothing, OpensFolder}
+use Rattle.bag_make.specs.Reads.{IsRefusalOfStop, MayRefuseReading}
 use Rattle.bag_make.specs.declared.fault.MakeFault.TheVariants as fault_of
 
 abbrev first_path : List FileEntry → List ℕ

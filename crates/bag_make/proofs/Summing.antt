@@ -8,7 +8,8 @@ use Rattle.bag_make.proofs.Common.{FileEntry, Stop, TreeFault, IsOutOfMemory, Is
 use Rattle.bag_make.proofs.Common.{take_one_more, keeps_itself, keeps_on, later_refusal, came_from, refused_file}
 use Rattle.bag_make.proofs.Common.{told_memory, File, data_folder, new_payload, StopsSumming, HasItsSums, AreSummed}
 use Rattle.bag_make.proofs.Common.{IsSummedEntry, AreSummedFiles, OpensFirstOf, entry_of_file, SummedFile}
-use Rattle.bag_tree.specs.Whole.{IsRefusedAt, MayRefuseWhole}
+use Rattle.bag_tree.specs.Whole.{MayRefuseWhole}
+use Rattle.bag_tree.specs.Tree.{IsRefusedAt}
 use Rattle.bag_tree.specs.declared.tree_fault.TreeFault.TheVariants.{Changed}
 use Rattle.bag_tree.proofs.Calm.{memory_then, nothing_asked, nothing_then}
 

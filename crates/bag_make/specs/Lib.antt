@@ -1,12 +1,16 @@
 pub mod Contents
+pub mod Laws
+pub mod ListedTops
 pub mod Made
 pub mod Make
 pub mod Plan
 pub mod PowerCut
 pub mod Reading
+pub mod Reads
 pub mod Request
 pub mod Steps
+pub mod StepsTaken
 pub mod Stops
 pub mod Summed
+pub mod Summing
 pub mod Texts
-pub mod Valid

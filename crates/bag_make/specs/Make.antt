@@ -12,10 +12,9 @@ use Rattle.bag_report.specs.Report.{IsReport}
 use Rattle.bag_tags.specs.Element.{NewElement}
 use Rattle.bag_tree.specs.Steps.{create}
 use Rattle.bag_make.specs.Made.{made}
-use Rattle.bag_make.specs.Valid.{full, is_refused}
+use Rattle.bag_make.specs.Request.{is_refused, AreTexts, IsRequestFault}
 use Rattle.bag_make.specs.Plan.{after, is_in_the_way, steps}
 use Rattle.bag_make.specs.Reading.{HasOnlyListed, LackedMemory}
-use Rattle.bag_make.specs.Request.{AreTexts, IsRequestFault}
 use Rattle.bag_make.specs.Steps.{HasStopped, new_folder}
 use Rattle.bag_make.specs.Stops.{MayStopMaking}
 use Rattle.bag_make.specs.declared.fault.MakeFault.{MakeFault}
@@ -23,6 +22,8 @@ use Rattle.bag_make.specs.declared.fault.MakeFault.TheVariants.{NoAlgorithm, InT
 use Rattle.bag_make.specs.declared.fault.MakeFault.TheVariants.{ReadStopped, Memory, StepRefused}
 use Rattle.bag_make.specs.declared.step.Step.{Step}
 use Rattle.bag_make.specs.declared.step.Step.TheVariants.{Create}
+use Rattle.bag_facts.specs.declared.options.Depth.TheVariants.{Full}
+use Rattle.bag_facts.specs.declared.options.Options.{Options}
 
 -- there is an algorithm, and all elements can be given
 abbrev pub CanAsk : List Alg → List NewElement → Type 0
@@ -88,6 +89,10 @@ Leaves algs info old new fault = new ≡ old
 pub record HasKnownSize (bag : Bag) : Type 0 where
   pub count : length (files_of bag) < 2 ^ 64
   pub size : sum_by (λ e. length e.1) (files_of bag) < 2 ^ 64
+
+-- everything is checked, but for names that clash
+abbrev pub full : Options
+full = record { depth = Full; clashes = false }
 
 -- checked in full, but for names that clash, the bag has no fault
 abbrev pub HasNoFault : Bag → Type 0

@@ -1,16 +1,13 @@
 -- The steps that make a bag (RFC 8493, 2.1).
-use Rattle.std.specs.Prelude.{ℕ, ◌≡◌, Bool, false, List, [], ◌∷◌, ◌++◌, map, take, if◌then◌else◌}
+use Rattle.std.specs.Prelude.{ℕ, Bool, List, [], ◌∷◌, ◌++◌, map, take, if◌then◌else◌}
 use Rattle.std.specs.FinMap as fin
-use Rattle.std.specs.List.{list_any}
 use Rattle.bag_text.specs.Path.{first_component}
 use Rattle.bag_text.specs.Text.{text_cmp}
 use Rattle.bag_text.specs.declared.alg.Alg.{Alg}
-use Rattle.bag_tree.specs.Bag.{Bag, IsBag, files_of, has_folder}
-use Rattle.bag_tree.specs.declared.listing.Listing.{Listing}
+use Rattle.bag_tree.specs.Bag.{Bag, files_of, has_folder}
 use Rattle.bag_tags.specs.Element.{NewElement}
 use Rattle.bag_tree.specs.Steps.{has_within}
-use Rattle.bag_tree.specs.Moved.{is_within}
-use Rattle.bag_make.specs.Made.{File, data_folder, new_tag_files, made}
+use Rattle.bag_make.specs.Made.{File, data_folder, new_tag_files}
 use Rattle.bag_make.specs.Steps.{new_folder, after_steps}
 use Rattle.bag_make.specs.declared.step.Step.{Step}
 use Rattle.bag_make.specs.declared.step.Step.TheVariants.{MakeFolder, MoveIn, Rename, Create}
@@ -25,16 +22,6 @@ in_order texts =
 abbrev pub tops : List File → Bool → List (List ℕ)
 tops files has_data =
     in_order (map (λ e. first_component e.0) files ++ (if has_data then data_folder ∷ [] else []))
-
--- what a listing says is moved
-abbrev pub listed_tops : Listing → List (List ℕ)
-listed_tops listing =
-    in_order (map (λ entry. first_component entry.path) listing.files
-    ++ (if listing.has_data then data_folder ∷ [] else []))
-
--- a listed file stands in the way of the folder that is made
-abbrev pub has_new : Listing → Bool
-has_new listing = list_any (λ entry. is_within new_folder entry.path) listing.files
 
 -- the step that makes a tag file
 abbrev pub new_file : File → Step
@@ -58,10 +45,3 @@ after k bag algs info = after_steps (take k (steps bag algs info)) bag
 -- a file stands in the way of the folder that is made
 abbrev pub is_in_the_way : Bag → Bool
 is_in_the_way bag = has_within bag new_folder
-
--- the law: all steps make the bag
-abbrev pub StepsMake : Type 0
-StepsMake =
-    (bag : Bag) (algs : List Alg) (info : List NewElement)
-    → IsBag bag → is_in_the_way bag ≡ false → has_folder bag new_folder ≡ false
-    → after_steps (steps bag algs info) bag ≡ made bag algs info

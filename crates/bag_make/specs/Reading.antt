@@ -1,14 +1,10 @@
 -- How the files of a folder are read before a bag is made of them.
-use Rattle.std.specs.Prelude.{ℕ, ◌≡◌, ◌⊎◌, ◌++◌, true, IsTrue, None, Some, map, take}
+use Rattle.std.specs.Prelude.{ℕ, ◌≡◌, ◌⊎◌, ◌++◌, IsTrue, None, Some, map, take}
 use Rattle.bag_tree.specs.Bag.{files_of}
 use Rattle.bag_tree.specs.Tree.{TreeState, Keeps, refusal_of}
 use Rattle.bag_tree.specs.declared.answer.Answer.TheVariants.{Given}
-use Rattle.bag_tree.specs.declared.tree_fault.Stop.{Stop}
 use Rattle.bag_tree.specs.declared.tree_fault.TreeFault.TheVariants as cause_of
-use Rattle.bag_make.specs.Plan.{is_in_the_way}
-use Rattle.bag_make.specs.Stops.{MayStopMaking}
-use Rattle.bag_make.specs.declared.fault.MakeFault.{MakeFault}
-use Rattle.bag_make.specs.declared.fault.MakeFault.TheVariants.{InTheWay, ReadStopped, Memory}
+use Rattle.bag_make.specs.declared.fault.MakeFault.TheVariants.{Memory}
 
 -- of an honest tree the first files of the bag were opened, in path order and each once, and no
 -- other
@@ -36,17 +32,3 @@ pub record HasRefusedNothing (old new : TreeState) : Type 0 where
 -- read
 abbrev pub LackedMemory : TreeState → TreeState → Type 0
 LackedMemory old new = (refusal_of new.last ≡ Some cause_of.Memory) ⊎ HasRefusedNothing old new
-
--- why nothing is planned
-abbrev pub MayRefuseReading : TreeState → TreeState → MakeFault → Type 0
-MayRefuseReading old new InTheWay =
-    HasOnlyListed old new × (IsTrue old.honest → is_in_the_way old.bag ≡ true)
-MayRefuseReading old new (ReadStopped stop) = MayStopMaking old new stop
-MayRefuseReading old new Memory = LackedMemory old new
-MayRefuseReading old new fault = ⊥
-
--- the refusal that a stop is
-abbrev pub IsRefusalOfStop : Stop → MakeFault → Type 0
-IsRefusalOfStop stop Memory = stop.cause ≡ cause_of.Memory
-IsRefusalOfStop stop (ReadStopped other) = (other ≡ stop) × ¬ (stop.cause ≡ cause_of.Memory)
-IsRefusalOfStop stop fault = ⊥

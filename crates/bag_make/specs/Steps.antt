@@ -1,7 +1,7 @@
 -- The steps in which a bag is made, and what they leave.
-use Rattle.std.specs.Prelude.{ℕ, ◌≡◌, ◌≢◌, ◌⊎◌, ◌≤◌, ◌-◌, ◌++◌, true, IsTrue, List, [], ◌∷◌, Some}
-use Rattle.std.specs.Prelude.{Result, MatchResult, codes, fold, take, slice_get}
-use Rattle.bag_text.specs.Path.{is_base_name, under}
+use Rattle.std.specs.Prelude.{ℕ, ◌≡◌, ◌⊎◌, ◌≤◌, ◌-◌, ◌++◌, true, IsTrue, List, [], ◌∷◌, Some, codes}
+use Rattle.std.specs.Prelude.{fold, take, slice_get}
+use Rattle.bag_text.specs.Path.{under}
 use Rattle.bag_tree.specs.Asked.{Adds, Asking, AsksFile, AsksFolder, AsksMove, AsksRename}
 use Rattle.bag_tree.specs.Asked.{AsksSyncs, MayBegin}
 use Rattle.bag_tree.specs.Bag.{Bag}
@@ -9,7 +9,7 @@ use Rattle.bag_tree.specs.Tree.{TreeState}
 use Rattle.bag_tree.specs.declared.event.DeviceEvent.{DeviceEvent}
 use Rattle.bag_tree.specs.declared.answer.Answer.TheVariants.{Refused}
 use Rattle.bag_tree.specs.declared.tree_fault.TreeFault.{TreeFault}
-use Rattle.bag_tree.specs.Changes.{AppliesStep, LeavesPartialFile, IsUnchanged, MayRefuseChange}
+use Rattle.bag_tree.specs.Changes.{LeavesPartialFile, IsUnchanged, MayRefuseChange}
 use Rattle.bag_tree.specs.Steps.{make_folder, move_in, rename_folder, create, is_taken, has_within}
 use Rattle.bag_tree.specs.Steps.{lacks_folder, lacks_source}
 use Rattle.bag_make.specs.Made.{data_folder}
@@ -32,13 +32,6 @@ change (Create name bytes) bag = create name bytes bag
 abbrev pub after_steps : List Step → Bag → Bag
 after_steps steps bag = fold (λ b step. change step b) bag steps
 
--- its names are names in the base folder, and the folder for the files isn't moved into itself
-abbrev pub IsStep : Step → Type 0
-IsStep MakeFolder = Unit {0}
-IsStep (MoveIn top) = IsTrue (is_base_name top) × (top ≢ new_folder)
-IsStep Rename = Unit {0}
-IsStep (Create name bytes) = IsTrue (is_base_name name)
-
 -- the step can be taken on a bag: what it moves is there, and nothing stands where it puts it
 abbrev pub CanTake : Step → Bag → Type 0
 CanTake MakeFolder bag = ¬ (is_taken bag new_folder ≡ true)
@@ -58,10 +51,6 @@ more MakeFolder = 1
 more (MoveIn top) = 0
 more Rename = 0
 more (Create name bytes) = 1
-
--- the step was taken
-abbrev pub HasDone : Step → TreeState → TreeState → Type 0
-HasDone step old new = AppliesStep (change step) (more step) old new
 
 -- a step that is refused changes nothing, but that a file may be begun
 abbrev pub HasLeft : Step → TreeState → TreeState → Type 0
@@ -86,13 +75,6 @@ AllAsk [] before events = events ≡ []
 AllAsk (step ∷ steps) before events =
     (now : List DeviceEvent) × (later : List DeviceEvent) × (events ≡ now ++ later)
     × StepAsks step before now × AllAsk steps (before ++ now) later
-
--- what a step asked of a device that notes what it does
-abbrev pub HasAsked : Step → TreeState → TreeState → Result (Unit {0}) TreeFault → Type 0
-HasAsked step old new result =
-    IsTrue old.noted → MatchResult result
-    (λ _. Adds (StepAsks step) old.trail new.trail)
-    (λ _. Adds (RefusedAsks step) old.trail new.trail)
 
 -- a step may answer this refusal: of an honest tree NotFound and Exists only where they are so
 abbrev pub MayRefuseStep : Step → TreeState → TreeState → TreeFault → Type 0

@@ -2,7 +2,7 @@
 use Rattle.std.specs.Prelude.{List, [], ◌∷◌, ◌++◌, length, map, sum_by}
 use Rattle.bag_text.specs.declared.alg.Alg.{Alg}
 use Rattle.bag_read.specs.declared.oxum.Oxum.{Oxum}
-use Rattle.bag_read.specs.TagName.{tag_path}
+use Rattle.bag_read.specs.ManifestName.{tag_path}
 use Rattle.bag_read.specs.declared.kind.Kind.{Kind}
 use Rattle.bag_read.specs.declared.kind.Kind.TheVariants.{Payload}
 use Rattle.bag_read.specs.declared.tag_name.TagName.TheVariants.{Declaration, Info, Manifest}
@@ -13,7 +13,7 @@ use Rattle.bag_tags.specs.Declaration.{declaration_text}
 use Rattle.bag_tags.specs.Element.{NewElement, info_text}
 use Rattle.bag_tags.specs.Entry.{manifest_text}
 use Rattle.bag_make.specs.Made.{File}
-use Rattle.bag_make.specs.Summed.{summed_entry}
+use Rattle.bag_make.specs.Summing.{summed_entry}
 use Rattle.bag_make.specs.declared.summed.SummedFile.{SummedFile}
 
 -- the bytes of listed files, and their number

@@ -1,9 +1,7 @@
 //! Laws of the definitions, each the contract of a function that does nothing.
-ghost use Rattle.bag_make.specs.Plan.{StepsMake};
+ghost use Rattle.bag_make.specs.Laws.{StepsMake, RefusesOneFile, MadeIsValid};
 ghost use Rattle.bag_make.specs.Contents.{MadeHasTheseFiles, MadeHasTheseFolders, ManifestsAscend};
 ghost use Rattle.bag_make.specs.Contents.{PayloadIsTheFolder};
-ghost use Rattle.bag_make.specs.Stops.{RefusesOneFile};
-ghost use Rattle.bag_make.specs.Valid.{MadeIsValid};
 
 /// All steps together make the bag, of each folder in which nothing has the name of the folder that
 /// is made for them.

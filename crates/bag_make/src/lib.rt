@@ -20,6 +20,7 @@ pub mod laws;
 mod making;
 mod obstacle;
 mod plan;
+mod reading;
 mod request;
 mod step;
 mod summed;

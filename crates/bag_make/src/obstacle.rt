@@ -5,6 +5,7 @@ ghost use Rattle.bag_tree.specs.Bag.{Bag};
 ghost use Rattle.bag_tree.specs.Listing.{IsListingOf, IsOrdered};
 ghost use Rattle.bag_tree.specs.Moved.{is_within};
 ghost use Rattle.bag_make.specs.Plan as plan;
+ghost use Rattle.bag_make.specs.ListedTops as from_listing;
 ghost use Rattle.bag_make.specs.Steps.{new_folder};
 
 use crate::step::NEW_FOLDER;
@@ -16,7 +17,7 @@ const NEW_PREFIX: &[u8] = b".bagit-new/";
 /// Whether a listed file has the name of the folder that holds the files while they are moved, or
 /// stands in it.
 pub fn is_in_the_way(listing: &Listing) -> bool
-    ensures listed { result ≡ plan.has_new listing.now }
+    ensures listed { result ≡ from_listing.has_new listing.now }
     ensures of_bag { (bag : Bag) → IsOrdered listing.now.files → IsListingOf bag listing.now
         → result ≡ plan.is_in_the_way bag }
 {

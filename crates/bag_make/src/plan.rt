@@ -8,8 +8,9 @@ ghost use Rattle.bag_tags.specs.Distinct.{lent_texts};
 ghost use Rattle.bag_tags.specs.Element.{NewElement};
 ghost use Rattle.bag_make.specs.Made.{new_tag_files};
 ghost use Rattle.bag_make.specs.Plan as spec;
-ghost use Rattle.bag_make.specs.Plan.{has_new};
-ghost use Rattle.bag_make.specs.Steps.{IsStep};
+ghost use Rattle.bag_make.specs.ListedTops as from_listing;
+ghost use Rattle.bag_make.specs.ListedTops.{has_new};
+ghost use Rattle.bag_make.specs.StepsTaken.{IsStep};
 ghost use Rattle.bag_make.specs.declared.step.Step.TheVariants.{MakeFolder, MoveIn, Rename};
 
 use crate::step::Step;
@@ -25,7 +26,7 @@ pub fn plan(
     tag_files: Vec<(Text, Items<u8>)>,
 ) -> Result<Vec<Step>, AllocError>
     ensures steps { IfOk result (λ steps.
-        steps.items ≡ spec.steps_for (spec.listed_tops listing.now) tag_files.items) }
+        steps.items ≡ spec.steps_for (from_listing.listed_tops listing.now) tag_files.items) }
     ensures of_bag { IfOk result (λ steps.
         (bag : Bag) (algs : List AlgValue) (info : List NewElement) → IsOrdered listing.now.files
         → IsListingOf bag listing.now

@@ -2,8 +2,7 @@
 ghost use Rattle.std.specs.Prelude.{◌≡◌, ◌≢◌, [], false, All, OnOk, IfErr};
 ghost use Rattle.std.specs.List.{list_any};
 ghost use Rattle.bag_text.specs.Text.{IsText};
-ghost use Rattle.bag_make.specs.Request.{AreTexts, IsRequestFault};
-ghost use Rattle.bag_make.specs.Valid.{is_refused as is_refused_by};
+ghost use Rattle.bag_make.specs.Request.{AreTexts, IsRequestFault, is_refused as is_refused_by};
 
 use crate::MakeFault;
 use bag_tags::is_bad_element;

@@ -1,13 +1,13 @@
 //! The digests that manifests are to give.
 ghost use Rattle.std.specs.Prelude.{◌≡◌, ◌<◌, ◌++◌, ◌∷◌, [], length, IfOk, IfErr, OnOk, OnErr};
 ghost use Rattle.bag_text.specs.Path.{under};
-ghost use Rattle.bag_tree.specs.NothingFailed.{NothingFailed};
-ghost use Rattle.bag_tree.specs.Tree.{Keeps, OpensAtMost};
-ghost use Rattle.bag_tree.specs.Digest.{AreSumsOf};
+ghost use Rattle.bag_tree.specs.Tree.{Keeps, NothingFailed};
+ghost use Rattle.bag_tree.specs.FileReads.{OpensAtMost};
+ghost use Rattle.bag_tree.specs.DigestsOf.{AreSumsOf};
 ghost use Rattle.bag_facts.specs.Wanted.{paths_of};
 ghost use Rattle.bag_make.specs.Made.{data_folder};
-ghost use Rattle.bag_make.specs.Stops.{StopsSumming};
-ghost use Rattle.bag_make.specs.Summed.{AreSummed, AreSummedFiles, IsSummedEntry, OpensFirstOf};
+ghost use Rattle.bag_make.specs.Summing.{StopsSumming, AreSummedFiles, IsSummedEntry, OpensFirstOf};
+ghost use Rattle.bag_make.specs.Summed.{AreSummed};
 ghost use Rattle.bag_make.specs.declared.summed.SummedFile.{SummedFile as Digested};
 
 use bag_facts::refusal_of;

@@ -3,13 +3,14 @@ ghost use Rattle.std.specs.Prelude.{◌≡◌, ◌∷◌, ◌++◌, [], List, If
 ghost use Rattle.std.specs.List.Sorted.{IsStrictlySortedBy};
 ghost use Rattle.bag_text.specs.Alg.{rank_cmp};
 ghost use Rattle.bag_text.specs.Lines.{line_feed};
-ghost use Rattle.bag_read.specs.TagName.{tag_path};
+ghost use Rattle.bag_read.specs.ManifestName.{tag_path};
 ghost use Rattle.bag_stages.specs.Payload.{oxum_text};
 ghost use Rattle.bag_tags.specs.Declaration.{declaration_text};
 ghost use Rattle.bag_tags.specs.Entry as entry;
 ghost use Rattle.bag_make.specs.Made as bag;
 ghost use Rattle.bag_make.specs.Made.{File, new_payload};
-ghost use Rattle.bag_make.specs.Summed.{AreSummed, entry_of_file, summed_entry};
+ghost use Rattle.bag_make.specs.Summed.{AreSummed, entry_of_file};
+ghost use Rattle.bag_make.specs.Summing.{summed_entry};
 ghost use Rattle.bag_make.specs.Texts.{info_of, manifests_of, named_of, size_of};
 
 use crate::request::OXUM_LABEL;

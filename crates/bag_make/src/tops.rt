@@ -3,6 +3,7 @@ ghost use Rattle.std.specs.Prelude.{◌≡◌, IfOk, map};
 ghost use Rattle.bag_text.specs.Path as spec;
 ghost use Rattle.bag_tags.specs.Distinct.{lent_texts};
 ghost use Rattle.bag_make.specs.Plan as plan;
+ghost use Rattle.bag_make.specs.ListedTops as from_listing;
 
 use crate::step::DATA_FOLDER;
 use bag_tree::{FileEntry, Listing};
@@ -11,7 +12,7 @@ use std::alloc::{AllocError, Global};
 /// The names of the base folder that are moved: the first component of each path, and `data` where
 /// that folder is there, in the order of their bytes, each once.
 pub fn tops(alloc: Global, listing: &Listing) -> Result<Vec<&str>, AllocError>
-    ensures { IfOk result (λ names. lent_texts names.items ≡ plan.listed_tops listing.now) }
+    ensures { IfOk result (λ names. lent_texts names.items ≡ from_listing.listed_tops listing.now) }
 {
     let mut names = first_components(alloc, listing.files.as_slice())?;
     if listing.has_data {

@@ -3,6 +3,7 @@ pub mod FailTree
 pub mod KthCall
 pub mod Memory
 pub mod MemoryLaw
+pub mod MemoryTree
 pub mod MemoryView
 pub mod Refusals
 pub mod SkewTree

@@ -4,7 +4,7 @@ use Rattle.std.proofs.lemmas.Bool.{and_parts, ltb-true}
 use Rattle.std.proofs.lemmas.List.Elements.{All-nil, All-cons}
 use Rattle.std.proofs.lemmas.Str.{IsUtf8-from_is_utf8}
 use Rattle.bag_tree.specs.Bag.{Bag, IsBag}
-use Rattle.bag_memory.specs.Memory.{PassesAsBag, are_bytes}
+use Rattle.bag_memory.specs.MemoryTree.{PassesAsBag, are_bytes}
 
 -- numbers that pass the test are below 256
 below_256 : (bytes : List ℕ) → are_bytes bytes ≡ true → All (λ b. b < 256) bytes

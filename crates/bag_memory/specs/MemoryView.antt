@@ -1,7 +1,8 @@
 -- How a tree in memory is seen.
 use Rattle.bag_tree.specs.Tree.{TreeState}
 use Rattle.bag_tree.specs.Bag.{Bag}
-use Rattle.bag_memory.specs.Memory.{memory_state_after, bag_of_files, unread_rest}
+use Rattle.bag_memory.specs.Memory.{memory_state_after}
+use Rattle.bag_memory.specs.MemoryTree.{bag_of_files, unread_rest}
 use Rattle.bag_memory.specs.declared.memory_tree.MemoryTree.{MemoryTree}
 
 -- the files and folders of a tree in memory

@@ -5,8 +5,8 @@ use Rattle.std.specs.Prelude.{OnErr, IfOk, IfErr, MatchResult}
 use Rattle.bag_text.specs.Path.{is_path}
 use Rattle.bag_tree.specs.Bag.{file}
 use Rattle.bag_tree.specs.Listing.{IsOrdered, IsListingOf}
-use Rattle.bag_tree.specs.Tree.{TreeState, Keeps, MayRefuse, HasOpen, IsOpen, ReadsNext}
-use Rattle.bag_tree.specs.Tree.{answer_of_read, MayRefuseListing}
+use Rattle.bag_tree.specs.Tree.{TreeState, Keeps, MayRefuse, HasOpen, MayRefuseListing}
+use Rattle.bag_tree.specs.FileReads.{IsOpen, ReadsNext, answer_of_read}
 use Rattle.bag_tree.specs.declared.answer.Answer.TheVariants.{Given, Refused, Unlisted}
 use Rattle.bag_tree.specs.declared.tree_fault.TreeFault.{TreeFault}
 use Rattle.bag_tree.specs.declared.listing.Listing.{Listing}

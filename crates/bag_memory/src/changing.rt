@@ -3,7 +3,7 @@ ghost use Rattle.std.specs.Prelude.{◌≡◌, ◌≢◌, true, false, IfErr, On
 ghost use Rattle.std.specs.FinMap as map;
 ghost use Rattle.std.specs.FinSet as set;
 ghost use Rattle.bag_text.specs.Path.{under};
-ghost use Rattle.bag_memory.specs.Memory.{bag_of_files, file_map, folder_set};
+ghost use Rattle.bag_memory.specs.MemoryTree.{bag_of_files, file_map, folder_set};
 ghost use Rattle.bag_memory.specs.Changing.{IsChangeFault};
 ghost use Rattle.bag_tree.specs.Moved as moving;
 ghost use Rattle.bag_tree.specs.Steps as step;

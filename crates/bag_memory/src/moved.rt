@@ -3,7 +3,7 @@ ghost use Rattle.std.specs.Prelude.{◌≡◌, IfOk};
 ghost use Rattle.std.specs.FinMap.{entries};
 ghost use Rattle.std.specs.List.{list_any};
 ghost use Rattle.bag_text.specs.Path.{under};
-ghost use Rattle.bag_memory.specs.Memory.{file_map};
+ghost use Rattle.bag_memory.specs.MemoryTree.{file_map};
 ghost use Rattle.bag_tree.specs.Moved as moving;
 
 use crate::file_map::{copy_of, insert_file};

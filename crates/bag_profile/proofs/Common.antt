@@ -19,14 +19,17 @@ pub use Rattle.serde_json.specs.Find.{as_array, as_bool, as_object, as_str, get}
 pub use Rattle.serde_json.specs.View.{items_view, members_view}
 pub use Rattle.bag_profile.specs.Answer.{at, needed, present, shaped}
 pub use Rattle.bag_text.specs.FirstFault.{◌>>=◌}
-pub use Rattle.bag_profile.specs.Label.{AreLabelsOrderly, allowed_values, flag, label_rules, labels, optional}
+pub use Rattle.bag_profile.specs.Label.{allowed_values, flag, label_rules, labels, optional}
+pub use Rattle.bag_profile.specs.Orderly.{AreLabelsOrderly}
 pub use Rattle.bag_profile.specs.Label.{label_rules_of}
 pub use Rattle.bag_profile.specs.NameLists.{name_lists_of, name_rules}
-pub use Rattle.bag_profile.specs.Pattern.{IsPieces, MatchesArePieces, begins, matches, matches_after_star, some_tail}
+pub use Rattle.bag_profile.specs.Pattern.{begins, matches, some_tail}
+pub use Rattle.bag_profile.specs.Laws.{IsPieces, MatchesArePieces, TextSetsAreLists}
+pub use Rattle.bag_profile.specs.Star.{matches_after_star}
 pub use Rattle.bag_profile.specs.Pattern.{star}
 pub use Rattle.bag_profile.specs.Read.{as_record, of_object}
 pub use Rattle.bag_profile.specs.Terms.{serialization_named, terms_of}
-pub use Rattle.bag_profile.specs.TextSet.{IsAscending, TextSetsAreLists, text_set, texts, texts_if_all, with_texts}
+pub use Rattle.bag_profile.specs.TextSet.{IsAscending, text_set, texts, texts_if_all, with_texts}
 pub use Rattle.bag_profile.specs.Unchecked.{keys, unchecked_of}
 pub use Rattle.bag_profile.specs.declared.fault.ProfileFault.{ProfileFault}
 pub use Rattle.bag_profile.specs.declared.key.Key.{Key}

@@ -5,16 +5,10 @@ use Rattle.std.specs.Prelude.{is_some, if◌then◌else◌, map, option_map, opt
 use Rattle.serde_json.specs.Data.{Data, Members, no_members, member}
 use Rattle.serde_json.specs.Find.{get, as_bool, as_object}
 use Rattle.bag_profile.specs.declared.label.LabelRule.{LabelRule}
-use Rattle.std.specs.List.{AllByRecursion}
-use Rattle.bag_profile.specs.TextSet.{texts, IsAscending}
+use Rattle.bag_profile.specs.TextSet.{texts}
 
 abbrev pub labels : List LabelRule → List (List ℕ)
 labels rules = map (λ rule. rule.label) rules
-
--- the labels ascend, and so do the values of each
-abbrev pub AreLabelsOrderly : List LabelRule → Type 0
-AreLabelsOrderly rules =
-    IsAscending (labels rules) × AllByRecursion (λ rule. IsAscending rule.values) rules
 
 -- what a value that may be absent is
 abbrev pub optional : {A : Type 0} → A → (Data → Option A) → Option Data → Option A

@@ -2,11 +2,14 @@ pub mod Answer
 pub mod Held
 pub mod Key
 pub mod Label
+pub mod Laws
 pub mod NameLists
+pub mod Orderly
 pub mod Pattern
 pub mod Profile
 pub mod Read
 pub mod Shape
+pub mod Star
 pub mod Terms
 pub mod TextSet
 pub mod Unchecked

@@ -2,19 +2,17 @@
 -- Specification, Manifests-Required, Manifests-Allowed, Tag-Manifests-Required,
 -- Tag-Manifests-Allowed, Tag-Files-Required, Tag-Files-Allowed).
 use Rattle.std.specs.Prelude.{ℕ, List, Option, Some, None, Result, Ok, option_map}
-use Rattle.std.specs.Option.{ForSome}
 use Rattle.serde_json.specs.Data.{Data}
 use Rattle.bag_profile.specs.declared.fault.ProfileFault.{ProfileFault}
 use Rattle.bag_profile.specs.declared.key.Key.{Key}
-use Rattle.bag_profile.specs.declared.key.Key.TheVariants.{ManifestsRequired, ManifestsAllowed}
-use Rattle.bag_profile.specs.declared.key.Key.TheVariants.{TagManifestsRequired}
-use Rattle.bag_profile.specs.declared.key.Key.TheVariants.{TagManifestsAllowed, TagFilesRequired}
-use Rattle.bag_profile.specs.declared.key.Key.TheVariants.{TagFilesAllowed}
+use Rattle.bag_profile.specs.declared.key.Key.TheVariants.{ManifestsRequired, TagManifestsRequired}
+use Rattle.bag_profile.specs.declared.key.Key.TheVariants.{ManifestsAllowed, TagManifestsAllowed}
+use Rattle.bag_profile.specs.declared.key.Key.TheVariants.{TagFilesRequired, TagFilesAllowed}
 use Rattle.bag_profile.specs.declared.name_lists.NameRules.{NameRules}
 use Rattle.bag_profile.specs.declared.name_lists.NameLists.{NameLists}
 use Rattle.bag_profile.specs.Answer.{at}
 use Rattle.bag_text.specs.FirstFault.{◌>>=◌}
-use Rattle.bag_profile.specs.TextSet.{texts, IsAscending}
+use Rattle.bag_profile.specs.TextSet.{texts}
 
 -- the set of texts at a key; none where it is absent
 unfoldable pub texts_at : Key → Data → Result (Option (List (List ℕ))) ProfileFault
@@ -34,12 +32,3 @@ name_lists_of d = do
   tag_manifests ← name_rules TagManifestsRequired TagManifestsAllowed d
   tag_files ← name_rules TagFilesRequired TagFilesAllowed d
   Ok record { manifests = manifests; tag_manifests = tag_manifests; tag_files = tag_files }
-
--- the lists that are there ascend
-abbrev pub IsAscendingPair : NameRules → Type 0
-IsAscendingPair rules = ForSome rules.required IsAscending × ForSome rules.allowed IsAscending
-
-abbrev pub NamesAscend : NameLists → Type 0
-NamesAscend lists =
-    IsAscendingPair lists.manifests × IsAscendingPair lists.tag_manifests
-    × IsAscendingPair lists.tag_files

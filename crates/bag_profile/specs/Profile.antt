@@ -1,18 +1,13 @@
 -- What a profile says (BagIt Profiles Specification, Implementation Details).
 use Rattle.std.specs.Prelude.{ℕ, List, Option}
-use Rattle.std.specs.Option.{ForSome}
-use Rattle.bag_profile.specs.Label as label
-use Rattle.bag_profile.specs.NameLists.{NamesAscend}
-use Rattle.bag_profile.specs.TextSet.{IsAscending}
 use Rattle.bag_profile.specs.declared.label.LabelRule.{LabelRule}
 use Rattle.bag_profile.specs.declared.name_lists.NameLists.{NameLists}
 use Rattle.bag_profile.specs.declared.rule.ListRule.{ListRule}
-use Rattle.bag_profile.specs.declared.rule.ListRule.TheVariants.{ManifestsRequired}
-use Rattle.bag_profile.specs.declared.rule.ListRule.TheVariants.{ManifestsAllowed}
 use Rattle.bag_profile.specs.declared.rule.ListRule.TheVariants.{TagManifestsRequired}
 use Rattle.bag_profile.specs.declared.rule.ListRule.TheVariants.{TagManifestsAllowed}
-use Rattle.bag_profile.specs.declared.rule.ListRule.TheVariants.{TagFilesRequired, TagFilesAllowed}
 use Rattle.bag_profile.specs.declared.rule.ListRule.TheVariants.{AcceptBagItVersion}
+use Rattle.bag_profile.specs.declared.rule.ListRule.TheVariants.{ManifestsRequired, TagFilesAllowed}
+use Rattle.bag_profile.specs.declared.rule.ListRule.TheVariants.{ManifestsAllowed, TagFilesRequired}
 use Rattle.bag_profile.specs.declared.terms.Terms.{Terms}
 
 pub record Profile : Type 0 where
@@ -33,9 +28,3 @@ names profile TagManifestsAllowed = profile.names.tag_manifests.allowed
 names profile TagFilesRequired = profile.names.tag_files.required
 names profile TagFilesAllowed = profile.names.tag_files.allowed
 names profile AcceptBagItVersion = profile.terms.versions
-
--- all lists ascend
-abbrev pub IsOrderly : Profile → Type 0
-IsOrderly profile =
-    label.AreLabelsOrderly profile.labels × NamesAscend profile.names
-    × ForSome profile.terms.versions IsAscending × IsAscending profile.unchecked

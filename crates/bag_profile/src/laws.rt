@@ -1,8 +1,7 @@
 //! Laws of the definitions, each the contract of a function that does nothing.
 ghost use Rattle.bag_profile.specs.Held.{ProfilesHoldTheirKeys, RulesHoldTheirKeys};
-ghost use Rattle.bag_profile.specs.Pattern.{MatchesArePieces};
+ghost use Rattle.bag_profile.specs.Laws.{MatchesArePieces, TextSetsAreLists};
 ghost use Rattle.bag_profile.specs.Shape.{FirstFaultIsReported};
-ghost use Rattle.bag_profile.specs.TextSet.{TextSetsAreLists};
 
 /// A name matches a pattern where it is what stands between the stars, with some text at each star.
 pub fn matches_are_pieces()

@@ -4,6 +4,7 @@ ghost use Rattle.std.specs.Option.{ForSome};
 ghost use Rattle.serde_json.specs.View.{view};
 ghost use Rattle.bag_profile.specs.Answer.{IsAnswerOrMemory};
 ghost use Rattle.bag_profile.specs.NameLists as spec;
+ghost use Rattle.bag_profile.specs.Orderly as lists_in_order;
 ghost use Rattle.bag_profile.specs.TextSet.{IsAscending};
 
 use crate::text_set::texts;
@@ -29,7 +30,7 @@ pub(crate) struct NameLists {
 
 pub(crate) fn name_lists_of(alloc: Global, value: &Value) -> Result<NameLists, ProfileFault>
     ensures lists { IsAnswerOrMemory result (spec.name_lists_of (view value.now)) }
-    ensures ascending { IfOk result spec.NamesAscend }
+    ensures ascending { IfOk result lists_in_order.NamesAscend }
 {
     let manifests = name_rules(alloc, value, Key::ManifestsRequired, Key::ManifestsAllowed)?;
     let tag_manifests = name_rules(
@@ -54,7 +55,7 @@ fn name_rules(
     allowed: Key,
 ) -> Result<NameRules, ProfileFault>
     ensures rules { IsAnswerOrMemory result (spec.name_rules required allowed (view value.now)) }
-    ensures ascending { IfOk result spec.IsAscendingPair }
+    ensures ascending { IfOk result lists_in_order.IsAscendingPair }
 {
     let required = texts_at(alloc, value, required)?;
     let allowed = texts_at(alloc, value, allowed)?;

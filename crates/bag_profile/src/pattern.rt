@@ -1,6 +1,7 @@
 //! Patterns of file names.
 ghost use Rattle.std.specs.Prelude.{◌≡◌};
 ghost use Rattle.bag_profile.specs.Pattern as spec;
+ghost use Rattle.bag_profile.specs.Star as star;
 
 /// Whether a name matches a pattern, in which `*` stands for any characters, `/` among them, and
 /// every other character for itself (BagIt Profiles Specification, Tag-Files-Allowed). Each piece
@@ -19,7 +20,7 @@ pub fn matches(pattern: &str, name: &str) -> bool
 
 /// Whether a text is some characters and then what the pattern stands for.
 fn matches_after_star(pattern: &str, text: &str) -> bool
-    ensures { result ≡ spec.matches_after_star pattern.now text.now }
+    ensures { result ≡ star.matches_after_star pattern.now text.now }
 {
     let mut rest = pattern;
     let mut left = text;

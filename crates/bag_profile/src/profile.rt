@@ -1,7 +1,7 @@
 //! A profile, as it was read.
 ghost use Rattle.std.specs.Prelude.{◌≡◌, IfSome, option_map};
 ghost use Rattle.std.specs.Option.{ForSome};
-ghost use Rattle.bag_profile.specs.Label as label;
+ghost use Rattle.bag_profile.specs.Orderly as orderly;
 ghost use Rattle.bag_profile.specs.Profile as spec;
 ghost use Rattle.bag_profile.specs.TextSet.{IsAscending};
 
@@ -22,6 +22,7 @@ pub struct Profile {
 }
 
 impl Model for Profile {
+    ghost use Rattle.bag_profile.specs.Orderly as orderly;
     ghost use Rattle.bag_profile.specs.Profile as spec;
 
     ghost Value = { spec.Profile };
@@ -34,7 +35,7 @@ impl Model for Profile {
       unchecked = p.unchecked;
     } };
 
-    ghost invariant = { λ p. spec.IsOrderly record {
+    ghost invariant = { λ p. orderly.IsOrderly record {
       identifier = p.identifier;
       labels = p.labels;
       names = p.names;
@@ -56,7 +57,7 @@ impl Profile {
     /// that differ by case alone are two.
     pub fn labels(&self) -> &[LabelRule]
         ensures labels { result.now ≡ self.now.labels }
-        ensures ascending { label.AreLabelsOrderly result.now }
+        ensures ascending { orderly.AreLabelsOrderly result.now }
     {
         self.labels.as_slice()
     }

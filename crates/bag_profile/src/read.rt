@@ -2,7 +2,7 @@
 ghost use Rattle.std.specs.Prelude.{◌≡◌, IfOk, MatchResult};
 ghost use Rattle.serde_json.specs.View.{view, members_view};
 ghost use Rattle.bag_profile.specs.Answer.{IsAnswerOrMemory};
-ghost use Rattle.bag_profile.specs.Label.{AreLabelsOrderly};
+ghost use Rattle.bag_profile.specs.Orderly.{AreLabelsOrderly};
 ghost use Rattle.bag_profile.specs.Read as spec;
 
 use crate::label::label_rules;

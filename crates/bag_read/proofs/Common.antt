@@ -44,14 +44,15 @@ pub use Rattle.bag_text.proofs.Numbered.{length-numbered, line_is_numbered, numb
 pub use Rattle.bag_text.specs.Alg.{alg_named, algs, hex_len, name}
 pub use Rattle.bag_text.specs.Code.{number, stage}
 pub use Rattle.bag_text.specs.Lines.{IsLine, line_feed, lines, lines_of_file, lines_of_text}
-pub use Rattle.bag_text.specs.Number.{is_digits}
 pub use Rattle.bag_text.specs.NumberedRest.{numbered_rest}
-pub use Rattle.bag_text.specs.Order.{IsListOf, IsOnly}
+pub use Rattle.bag_text.specs.Order.{IsListOf}
+pub use Rattle.bag_text.specs.Only.{IsOnly}
 pub use Rattle.bag_text.specs.Path.{is_path, is_payload_path}
-pub use Rattle.bag_text.specs.Spelling.{Spells, unescaped}
+pub use Rattle.bag_text.specs.Spelling.{unescaped}
+pub use Rattle.bag_text.specs.Spells.{Spells}
 pub use Rattle.bag_text.specs.Text.{IsNoText, IsText, after_blanks, after_prefix, before_blank, begins_with_blank}
 pub use Rattle.bag_text.specs.Text.{ends_with_blank, has_mark, is_blank, is_blank_line, same_label, text_cmp, text_of}
-pub use Rattle.bag_text.specs.Text.{trim, without_mark, without_prefix}
+pub use Rattle.bag_text.specs.Text.{trim, without_mark, without_prefix, is_digits}
 pub use Rattle.bag_text.specs.declared.alg.Alg.{Alg}
 pub use Rattle.bag_text.specs.declared.code.Code.{Code}
 pub use Rattle.bag_text.specs.declared.code.Code.TheVariants.{DeclarationLine, DeclarationLineCount, DeclarationNotUtf8}
@@ -68,7 +69,8 @@ pub use Rattle.bag_read.specs.Declaration.{is_supported_version, is_version, ver
 pub use Rattle.bag_read.specs.DeclarationLine.{DeclaresNone, DeclaresOne, EncodingLinesReadAsTheirParts, IsEncodingLine}
 pub use Rattle.bag_read.specs.DeclarationLine.{IsFaulty, IsVersionLine, LinesDeclareOrAreFaulty}
 pub use Rattle.bag_read.specs.DeclarationLine.{VersionLinesReadAsTheirParts}
-pub use Rattle.bag_read.specs.Fetch.{FetchFault, IsFetch, IsFetchFault, entry, fetch_entry_in, fetched_path, is_length}
+pub use Rattle.bag_read.specs.Fetch.{FetchFault, IsFetch, IsFetchFault, fetched_path, is_length}
+pub use Rattle.bag_read.specs.ReadEntries.{entry, fetch_entry_in}
 pub use Rattle.bag_read.specs.Fetch.{lacks_part, length_of, path_spelled, spelling_of, url_of, written_of}
 pub use Rattle.bag_read.specs.Info.{DoesNotSplit, InfoFault, IsElement, IsInfoFault, IsOrphan, begins_element}
 pub use Rattle.bag_read.specs.Info.{continuations, is_colon, is_continuation, is_label, leading_continuations, split}
@@ -79,13 +81,16 @@ pub use Rattle.bag_read.specs.InfoReader.{Numbered, after_line, all_elements, al
 pub use Rattle.bag_read.specs.InfoReader.{fault_at, fault_unless, faults, value_on, with_part, wrong}
 pub use Rattle.bag_read.specs.LineFault.{AreFaults, entries_read, entry_of, fault_of, faults_read, line_fault}
 pub use Rattle.bag_read.specs.LineFault.{line_fault_cmp, not_utf8}
-pub use Rattle.bag_read.specs.LineParts.{AreDigits, BeginsUnblank, IsCutAtBlanks, IsFronted, IsWithout}
+pub use Rattle.bag_read.specs.LineParts.{AreDigits, BeginsUnblank, IsCutAtBlanks, IsFronted}
+pub use Rattle.bag_read.specs.LineParts.{IsWithout, number_of}
 pub use Rattle.bag_read.specs.Manifest.{IsEntry, IsManifestFault, ManifestFault, ReadsManifest, checked_digest}
 pub use Rattle.bag_read.specs.Manifest.{digest_of, line_by_spelling, named, named_before, named_path, path_read, placed}
 pub use Rattle.bag_read.specs.Manifest.{spelled_path, without_marks}
 pub use Rattle.bag_read.specs.ManifestName.{is_alg_text, is_manifest_name, manifest_name, prefix}
-pub use Rattle.bag_read.specs.Oxum.{IsOxum, OxumsReadAsTheirParts, WritesNumber, is_dot, is_number, number_of, oxum_of}
-pub use Rattle.bag_read.specs.Reason.{IsFirst, Reason, decoded_or}
+pub use Rattle.bag_read.specs.Oxum.{is_dot, is_number, oxum_of}
+pub use Rattle.bag_read.specs.Laws.{IsOxum, OxumsReadAsTheirParts, WritesNumber}
+pub use Rattle.bag_read.specs.Reason.{Reason, decoded_or}
+pub use Rattle.bag_read.specs.FetchReasons.{IsFirst}
 pub use Rattle.bag_text.specs.FirstFault.{◌>>=◌}
 pub use Rattle.bag_read.specs.Repeats.{PathsAscend, AreDifferent, IsReadOnce, IsRepeatedLine, NamesBelow, RepeatsBelow}
 pub use Rattle.bag_read.specs.Repeats.{FindsRepeats, fingerprint, mark_of}

@@ -6,7 +6,8 @@ use Rattle.bag_read.proofs.Common.{lines_of_file, lines_of_text, IsListOf, IsNoT
 use Rattle.bag_read.proofs.Common.{NamedAgain, NotUtf8, Rules, AreFaults, entries_read, faults_read, line_fault_cmp}
 use Rattle.bag_read.proofs.Common.{not_utf8, IsEntry, IsManifestFault, ManifestFault, named, named_before, Reason}
 use Rattle.bag_read.proofs.Common.{IsReadOnce, FindsRepeats, Kind, LineFault, ManifestEntry, manifest_line}
-use Rattle.bag_read.specs.Manifest.{HasManifestReason, manifest_entry_in}
+use Rattle.bag_read.specs.Manifest.{HasManifestReason}
+use Rattle.bag_read.specs.ReadEntries.{manifest_entry_in}
 use Rattle.bag_read.proofs.FaultOrder.{is_fault}
 use Rattle.bag_read.proofs.LinesRead.{IsRead, IsUnread, entries_listed, faults_listed}
 use Rattle.bag_read.proofs.ManifestLine.{IsReasonCode, reason_code}

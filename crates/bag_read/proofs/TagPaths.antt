@@ -8,7 +8,8 @@ use Rattle.std.proofs.lemmas.List.Sums.{AllPass-from_list_all}
 use Rattle.bag_text.proofs.AlgSets.{each_is_listed, name_is_read_again, names_tell_apart}
 use Rattle.bag_read.specs.declared.tag_name.TagName.{TagName}
 use Rattle.bag_read.specs.declared.tag_name.TagName.TheVariants.{Manifest}
-use Rattle.bag_read.specs.TagName.{tag_path, TagPathsDiffer, TagFilesStandInTheBase}
+use Rattle.bag_read.specs.ManifestName.{tag_path}
+use Rattle.bag_read.specs.Laws.{TagPathsDiffer, TagFilesStandInTheBase}
 use Rattle.bag_read.proofs.ManifestName.{same_alg}
 
 -- what all of the list pass, each algorithm passes

@@ -5,8 +5,8 @@ use Rattle.std.specs.Prelude.{option_and_then, slice_get}
 use Rattle.std.specs.Str.{byte}
 use Rattle.std.specs.List.{before_first, after_first, list_all}
 use Rattle.bag_text.specs.Text.{IsText, IsNoText, after_prefix, has_mark, is_blank, same_label}
+use Rattle.bag_text.specs.Text.{is_digits}
 use Rattle.bag_text.specs.Lines.{lines_of_file, IsLine}
-use Rattle.bag_text.specs.Number.{is_digits}
 use Rattle.bag_text.specs.declared.code.Code.{Code}
 use Rattle.bag_text.specs.declared.code.Code.TheVariants.{DeclarationNotUtf8, DeclarationLineCount}
 use Rattle.bag_text.specs.declared.code.Code.TheVariants.{DeclarationLine, VersionUnsupported}

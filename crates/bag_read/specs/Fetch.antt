@@ -2,8 +2,8 @@
 use Rattle.std.specs.Prelude.{ℕ, ◌≡◌, ◌||◌, Bool, false, not, List, [], Result, Ok, Err, bytes_eq}
 use Rattle.std.specs.Prelude.{codes, if◌then◌else◌}
 use Rattle.bag_text.specs.Text.{IsNoText, before_blank, after_blanks, without_prefix, is_blank_line}
+use Rattle.bag_text.specs.Text.{is_digits}
 use Rattle.bag_text.specs.Lines.{lines_of_file, IsLine}
-use Rattle.bag_text.specs.Number.{is_digits}
 use Rattle.bag_text.specs.Path.{is_path, is_payload_path}
 use Rattle.bag_text.specs.Spelling.{unescaped}
 use Rattle.bag_text.specs.declared.rules.Rules.{Rules}
@@ -56,15 +56,6 @@ unfoldable pub fetch_line : Rules → List ℕ → Result (List ℕ) Reason
 fetch_line rules line = do
   spelling ← spelling_of line
   path_spelled rules spelling
-
-abbrev pub entry : ℕ → List ℕ → List ℕ → List ℕ → FetchEntry
-entry n url size path = record { line = n; url = url; length = size; path = path }
-
--- the entry of line n, or the first reason why it doesn't read
-abbrev pub fetch_entry_in : Rules → ℕ → List ℕ → Result FetchEntry Reason
-fetch_entry_in rules n line = do
-  path ← fetch_line rules line
-  Ok (entry n (url_of line) (length_of line) path)
 
 abbrev pub ReadsFetch : Rules → List ℕ → List ℕ → List ℕ → List ℕ → Type 0
 ReadsFetch rules line url size path =

@@ -1,7 +1,7 @@
 -- What a line of fetch.txt is made of (RFC 8493, 2.2.3), and the laws that its definition keeps.
 use Rattle.std.specs.Prelude.{ℕ, ◌≡◌, ◌⊎◌, ◌↔◌, false, List, codes, IsTrue}
 use Rattle.bag_text.specs.Path.{is_payload_path}
-use Rattle.bag_text.specs.Spelling.{Spells}
+use Rattle.bag_text.specs.Spells.{Spells}
 use Rattle.bag_text.specs.Text.{is_blank_line}
 use Rattle.bag_text.specs.declared.rules.Rules.{Rules}
 use Rattle.bag_read.specs.LineParts.{AreDigits, IsCutAtBlanks, IsWithout}

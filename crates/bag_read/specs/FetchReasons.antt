@@ -1,8 +1,8 @@
 -- The fetch_reasons why a line of fetch.txt doesn't read, each by itself (RFC 8493, 2.2.3), and the
 -- law of the first.
-use Rattle.std.specs.Prelude.{ℕ, ◌≡◌, false, List, [], ◌∷◌, codes}
+use Rattle.std.specs.Prelude.{ℕ, ◌≡◌, false, List, [], ◌∷◌, codes, ◌⊎◌}
 use Rattle.bag_text.specs.Path.{is_path, is_payload_path}
-use Rattle.bag_text.specs.Spelling.{Spells}
+use Rattle.bag_text.specs.Spells.{Spells}
 use Rattle.bag_text.specs.declared.rules.Rules.{Rules}
 use Rattle.bag_text.specs.declared.code.Code.{Code}
 use Rattle.bag_text.specs.declared.code.Code.TheVariants.{FetchLine, FetchEscape, FetchUnsafePath}
@@ -10,7 +10,7 @@ use Rattle.bag_text.specs.declared.code.Code.TheVariants.{FetchOutsidePayload}
 use Rattle.bag_read.specs.Fetch.{HasFetchReason}
 use Rattle.bag_read.specs.FetchLine.{IsLength}
 use Rattle.bag_read.specs.LineParts.{IsCutAtBlanks, IsWithout}
-use Rattle.bag_read.specs.Reason.{Reason, IsFirst}
+use Rattle.bag_read.specs.Reason.{Reason}
 
 -- a URL, blanks, a length, blanks, and the path as it is written
 abbrev pub HasParts : List ℕ → List ℕ → Type 0
@@ -47,6 +47,13 @@ FetchReasonHolds other rules line detail = ⊥
 -- in the order in which they count
 abbrev pub fetch_reasons : List Code
 fetch_reasons = FetchLine ∷ FetchEscape ∷ FetchUnsafePath ∷ FetchOutsidePayload ∷ []
+
+-- of these codes the reason is the first that holds: each before it holds with no detail
+abbrev pub IsFirst : (Code → List ℕ → Type 0) → List Code → Reason → Type 0
+IsFirst Holds [] reason = ⊥
+IsFirst Holds (code ∷ later) reason =
+    ((reason.0 ≡ code) × Holds code reason.1)
+    ⊎ (((detail : List ℕ) → ¬ (Holds code detail)) × IsFirst Holds later reason)
 
 -- the law: the reason of a line holds, and none of those before it does
 abbrev pub FirstFetchReasonIsReported : Type 0

@@ -8,6 +8,7 @@ pub mod Info
 pub mod InfoPlaces
 pub mod InfoReader
 pub mod InfoSplit
+pub mod Laws
 pub mod LineFault
 pub mod LineParts
 pub mod Manifest
@@ -15,7 +16,7 @@ pub mod ManifestLine
 pub mod ManifestName
 pub mod ManifestReasons
 pub mod Oxum
+pub mod ReadEntries
 pub mod Reason
 pub mod Repeats
 pub mod Spelled
-pub mod TagName

@@ -1,8 +1,11 @@
 -- What lines of tag files are made of (RFC 8493, 2.1.1, 2.1.3 and 2.2.3).
-use Rattle.std.specs.Prelude.{ℕ, ◌≡◌, ◌≢◌, ◌⊎◌, ◌++◌, false, not, List, [], ◌∷◌, IsTrue}
+use Rattle.std.specs.Prelude.{ℕ, ◌≡◌, ◌≢◌, ◌⊎◌, ◌++◌, false, not, List, [], ◌∷◌, IsTrue, Option}
+use Rattle.std.specs.Prelude.{Some, None, if◌then◌else◌}
 use Rattle.std.specs.Char.{is_ascii_digit}
 use Rattle.std.specs.List.{list_all}
 use Rattle.bag_text.specs.Text.{is_blank}
+use Rattle.std.specs.Str.Parse.{digits_value}
+use Rattle.bag_read.specs.Oxum.{is_number}
 
 -- a text that isn't empty and doesn't begin with a blank
 abbrev pub BeginsUnblank : List ℕ → Type 0
@@ -35,3 +38,7 @@ AreDigits t = (t ≢ []) × IsTrue (list_all is_ascii_digit t)
 abbrev pub IsWithout : List ℕ → List ℕ → List ℕ → Type 0
 IsWithout mark text after = (text ≡ mark ++ after)
     ⊎ ((after ≡ text) × ((more : List ℕ) → text ≢ mark ++ more))
+
+-- the number that a text writes
+abbrev pub number_of : List ℕ → Option ℕ
+number_of t = if is_number t then Some (digits_value 10 t) else None

@@ -1,7 +1,7 @@
 -- Manifests (RFC 8493, 2.1.3 and 2.2.1).
-use Rattle.std.specs.Prelude.{ℕ, ◌-◌, ◌≡◌, ◌==◌, ◌||◌, Bool, false, not, List, [], length, Option}
-use Rattle.std.specs.Prelude.{Some, None, Result, Ok, Err, bytes_eq, codes, if◌then◌else◌}
-use Rattle.std.specs.Prelude.{filter_map, take, Contains}
+use Rattle.std.specs.Prelude.{ℕ, ◌-◌, ◌≡◌, ◌==◌, ◌||◌, false, not, List, [], length, Option, Some}
+use Rattle.std.specs.Prelude.{None, Result, Ok, Err, bytes_eq, codes, if◌then◌else◌, filter_map}
+use Rattle.std.specs.Prelude.{take, Contains}
 use Rattle.std.specs.Str.{str_to_ascii_lowercase}
 use Rattle.std.specs.Char.{is_ascii_hexdigit}
 use Rattle.std.specs.List.{list_all}
@@ -13,11 +13,10 @@ use Rattle.bag_text.specs.Alg.{hex_len}
 use Rattle.bag_text.specs.declared.rules.Rules.{Rules}
 use Rattle.bag_text.specs.declared.alg.Alg.{Alg}
 use Rattle.bag_text.specs.declared.code.Code.{Code}
-use Rattle.bag_text.specs.declared.code.Code.TheVariants.{NotUtf8, ManifestLine, DigestLength}
-use Rattle.bag_text.specs.declared.code.Code.TheVariants.{ManifestEscape, ManifestUnsafePath}
-use Rattle.bag_text.specs.declared.code.Code.TheVariants.{ManifestOutsidePayload}
-use Rattle.bag_text.specs.declared.code.Code.TheVariants.{TagmanifestNamesPayload}
-use Rattle.bag_text.specs.declared.code.Code.TheVariants.{TagmanifestNamesTagmanifest, NamedAgain}
+use Rattle.bag_text.specs.declared.code.Code.TheVariants.{ManifestLine, TagmanifestNamesTagmanifest}
+use Rattle.bag_text.specs.declared.code.Code.TheVariants.{ManifestEscape, TagmanifestNamesPayload}
+use Rattle.bag_text.specs.declared.code.Code.TheVariants.{DigestLength, ManifestOutsidePayload}
+use Rattle.bag_text.specs.declared.code.Code.TheVariants.{NotUtf8, ManifestUnsafePath, NamedAgain}
 use Rattle.bag_read.specs.ManifestName.{is_manifest_name}
 use Rattle.bag_read.specs.declared.kind.Kind.{Kind}
 use Rattle.bag_read.specs.declared.kind.Kind.TheVariants.{Payload, Tag}
@@ -73,20 +72,6 @@ unfoldable pub manifest_line : Rules → Kind → Alg → List ℕ → Result (L
 manifest_line rules kind alg line = do
   digest ← digest_of alg line
   line_by_spelling rules kind digest (spelled_path line)
-
--- the entry of line n that says this, where it doesn't name a path again
-abbrev pub entry_unless : Bool → ℕ → List ℕ × List ℕ → Result ManifestEntry Reason
-entry_unless again n said =
-    if again then Err (NamedAgain, said.1)
-    else Ok (record { line = n; digest = said.0; path = said.1 })
-
--- the entry of line n, or the first reason why it isn't one, by a test whether a line names a path
--- again
-abbrev pub manifest_entry_in : (ℕ → List ℕ → Bool) → Rules → Kind → Alg → ℕ → List ℕ
-    → Result ManifestEntry Reason
-manifest_entry_in names_again rules kind alg n line = do
-  said ← manifest_line rules kind alg line
-  entry_unless (names_again n said.1) n said
 
 abbrev pub ReadsManifest : Rules → Kind → Alg → List ℕ → List ℕ → List ℕ → Type 0
 ReadsManifest rules kind alg line digest path =

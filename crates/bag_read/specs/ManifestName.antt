@@ -6,6 +6,9 @@ use Rattle.std.specs.Char.{is_ascii_digit, is_ascii_lowercase}
 use Rattle.bag_text.specs.Text.{without_prefix}
 use Rattle.bag_read.specs.declared.kind.Kind.{Kind}
 use Rattle.bag_read.specs.declared.kind.Kind.TheVariants.{Payload, Tag}
+use Rattle.bag_text.specs.Alg.{name}
+use Rattle.bag_read.specs.declared.tag_name.TagName.{TagName}
+use Rattle.bag_read.specs.declared.tag_name.TagName.TheVariants.{Declaration, Info, Fetch, Manifest}
 
 abbrev pub prefix : Kind → List ℕ
 prefix Payload = codes "manifest-"
@@ -25,3 +28,10 @@ is_manifest_name kind path =
     let rest = without_prefix (prefix kind) path in
     let alg = take (length rest - 4) rest in
     is_alg_text alg && bytes_eq path (manifest_name kind alg)
+
+-- where a tag file stands
+abbrev pub tag_path : TagName → List ℕ
+tag_path Declaration = codes "bagit.txt"
+tag_path Info = codes "bag-info.txt"
+tag_path Fetch = codes "fetch.txt"
+tag_path (Manifest kind alg) = manifest_name kind (name alg)

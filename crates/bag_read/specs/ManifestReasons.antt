@@ -5,20 +5,20 @@ use Rattle.std.specs.Char.{is_ascii_hexdigit}
 use Rattle.std.specs.List.{list_all}
 use Rattle.bag_text.specs.Alg.{hex_len}
 use Rattle.bag_text.specs.Path.{is_path, is_payload_path}
-use Rattle.bag_text.specs.Spelling.{Spells}
+use Rattle.bag_text.specs.Spells.{Spells}
 use Rattle.bag_text.specs.declared.rules.Rules.{Rules}
 use Rattle.bag_text.specs.declared.alg.Alg.{Alg}
 use Rattle.bag_text.specs.declared.code.Code.{Code}
-use Rattle.bag_text.specs.declared.code.Code.TheVariants.{ManifestLine, DigestLength}
-use Rattle.bag_text.specs.declared.code.Code.TheVariants.{ManifestEscape, ManifestUnsafePath}
-use Rattle.bag_text.specs.declared.code.Code.TheVariants.{ManifestOutsidePayload}
-use Rattle.bag_text.specs.declared.code.Code.TheVariants.{TagmanifestNamesPayload}
-use Rattle.bag_text.specs.declared.code.Code.TheVariants.{TagmanifestNamesTagmanifest}
+use Rattle.bag_text.specs.declared.code.Code.TheVariants.{ManifestLine, TagmanifestNamesTagmanifest}
+use Rattle.bag_text.specs.declared.code.Code.TheVariants.{ManifestEscape, TagmanifestNamesPayload}
+use Rattle.bag_text.specs.declared.code.Code.TheVariants.{DigestLength, ManifestOutsidePayload}
+use Rattle.bag_text.specs.declared.code.Code.TheVariants.{ManifestUnsafePath}
 use Rattle.bag_read.specs.LineParts.{IsFronted}
 use Rattle.bag_read.specs.Manifest.{HasManifestReason}
 use Rattle.bag_read.specs.ManifestLine.{IsSpelling}
 use Rattle.bag_read.specs.ManifestName.{manifest_name, is_alg_text}
-use Rattle.bag_read.specs.Reason.{Reason, IsFirst}
+use Rattle.bag_read.specs.Reason.{Reason}
+use Rattle.bag_read.specs.FetchReasons.{IsFirst}
 use Rattle.bag_read.specs.declared.kind.Kind.{Kind}
 use Rattle.bag_read.specs.declared.kind.Kind.TheVariants.{Payload, Tag}
 

@@ -1,5 +1,5 @@
 -- Why a line of a tag file doesn't read.
-use Rattle.std.specs.Prelude.{ℕ, ◌≡◌, ◌⊎◌, List, [], ◌∷◌, Option, Some, None, Result, Ok, Err}
+use Rattle.std.specs.Prelude.{ℕ, List, Option, Some, None, Result, Ok, Err}
 use Rattle.bag_text.specs.declared.code.Code.{Code}
 
 -- a code, and a fault's detail
@@ -10,10 +10,3 @@ Reason = Code × List ℕ
 abbrev pub decoded_or : Code → Option (List ℕ) → List ℕ → Result (List ℕ) Reason
 decoded_or bad_escape None spelling = Err (bad_escape, spelling)
 decoded_or bad_escape (Some path) spelling = Ok path
-
--- of these codes the reason is the first that holds: each before it holds with no detail
-abbrev pub IsFirst : (Code → List ℕ → Type 0) → List Code → Reason → Type 0
-IsFirst Holds [] reason = ⊥
-IsFirst Holds (code ∷ later) reason =
-    ((reason.0 ≡ code) × Holds code reason.1)
-    ⊎ (((detail : List ℕ) → ¬ (Holds code detail)) × IsFirst Holds later reason)

@@ -8,7 +8,8 @@ use Rattle.bag_text.specs.Text.{text_cmp}
 use Rattle.bag_text.specs.declared.rules.Rules.{Rules}
 use Rattle.bag_text.specs.declared.alg.Alg.{Alg}
 use Rattle.bag_read.specs.LineFault.{entries_read, faults_read}
-use Rattle.bag_read.specs.Manifest.{ReadsManifest, manifest_entry_in, named_before}
+use Rattle.bag_read.specs.Manifest.{ReadsManifest, named_before}
+use Rattle.bag_read.specs.ReadEntries.{manifest_entry_in}
 use Rattle.bag_read.specs.declared.kind.Kind.{Kind}
 use Rattle.bag_read.specs.declared.line_fault.LineFault.{LineFault}
 use Rattle.bag_read.specs.declared.manifest.ManifestEntry.{ManifestEntry}

@@ -5,6 +5,7 @@ ghost use Rattle.bag_text.specs.Lines as cut;
 ghost use Rattle.bag_text.specs.Order.{IsListOf};
 ghost use Rattle.bag_read.specs.LineFault.{AreFaults};
 ghost use Rattle.bag_read.specs.Fetch as spec;
+ghost use Rattle.bag_read.specs.ReadEntries as of_line;
 ghost use Rattle.bag_read.specs.Fetch.{IsFetch, IsFetchFault};
 
 use crate::line_fault::{
@@ -60,7 +61,7 @@ struct FetchForm {
 impl LineForm for FetchForm {
     type Entry = FetchEntry;
 
-    ghost reads = { λ form line content. spec.fetch_entry_in form.rules line content };
+    ghost reads = { λ form line content. of_line.fetch_entry_in form.rules line content };
 
     fn read(
         &self,
@@ -80,7 +81,7 @@ fn read_line(
     number: u64,
     line: &str,
 ) -> Result<Result<FetchEntry, Why>, AllocError>
-    ensures { IfOk result (λ read. read ≡ spec.fetch_entry_in rules number line.now) }
+    ensures { IfOk result (λ read. read ≡ of_line.fetch_entry_in rules number line.now) }
 {
     let (url, after) = split_at_blanks(line);
     let (length, written) = split_at_blanks(after);
@@ -139,7 +140,7 @@ fn entry(
     length: &str,
     path: Text,
 ) -> Result<FetchEntry, AllocError>
-    ensures { IfOk result (λ entry. entry ≡ spec.entry line url.now length.now path) }
+    ensures { IfOk result (λ entry. entry ≡ of_line.entry line url.now length.now path) }
 {
     Ok(FetchEntry {
         line,

@@ -2,14 +2,14 @@
 ghost use Rattle.bag_read.specs.ManifestLine.{ManifestLinesReadAsTheirParts};
 ghost use Rattle.bag_read.specs.ManifestLine.{ManifestLinesReadOrHaveOneReason};
 ghost use Rattle.bag_read.specs.ManifestReasons.{FirstManifestReasonIsReported};
-ghost use Rattle.bag_read.specs.TagName.{TagFilesStandInTheBase, TagPathsDiffer};
+ghost use Rattle.bag_read.specs.Laws.{TagFilesStandInTheBase, TagPathsDiffer};
+ghost use Rattle.bag_read.specs.Laws.{OxumsReadAsTheirParts};
 ghost use Rattle.bag_read.specs.FetchLine.{FetchLinesReadAsTheirParts};
 ghost use Rattle.bag_read.specs.FetchLine.{FetchLinesReadOrHaveOneReason};
 ghost use Rattle.bag_read.specs.FetchReasons.{FirstFetchReasonIsReported};
 ghost use Rattle.bag_read.specs.InfoPlaces.{ContinuationsAreBelow, EachLineHasOnePlace};
 ghost use Rattle.bag_read.specs.InfoPlaces.{EachLineIsOfOneElement};
 ghost use Rattle.bag_read.specs.InfoSplit.{LinesSplitAsTheirParts};
-ghost use Rattle.bag_read.specs.Oxum.{OxumsReadAsTheirParts};
 ghost use Rattle.bag_read.specs.DeclarationLine.{EncodingLinesReadAsTheirParts};
 ghost use Rattle.bag_read.specs.DeclarationLine.{LinesDeclareOrAreFaulty};
 ghost use Rattle.bag_read.specs.DeclarationLine.{VersionLinesReadAsTheirParts};

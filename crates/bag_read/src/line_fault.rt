@@ -9,7 +9,6 @@ ghost use Rattle.bag_read.specs.LineFault.{entries_read, faults_read, not_utf8};
 ghost use Rattle.bag_read.specs.Reason.{Reason, decoded_or};
 ghost use Rattle.bag_text.specs.Spelling.{unescaped};
 ghost use Rattle.bag_text.specs.Lines as cut;
-ghost use Rattle.bag_text.specs.Number as number;
 ghost use Rattle.bag_text.specs.Text as spec;
 
 use bag_text::{
@@ -195,7 +194,7 @@ pub(crate) fn decode_known(
 
 /// One or more ASCII digits.
 pub(crate) fn is_digits(text: &str) -> bool
-    ensures { result ≡ number.is_digits text.now }
+    ensures { result ≡ spec.is_digits text.now }
 {
     !text.is_empty() && has_digits_only(text)
 }

@@ -8,6 +8,7 @@ ghost use Rattle.bag_text.specs.Lines as cut;
 ghost use Rattle.bag_text.specs.Order.{IsListOf};
 ghost use Rattle.bag_read.specs.LineFault.{AreFaults};
 ghost use Rattle.bag_read.specs.Manifest as spec;
+ghost use Rattle.bag_read.specs.ReadEntries as of_line;
 ghost use Rattle.bag_read.specs.Manifest.{IsEntry, IsManifestFault};
 ghost use Rattle.bag_read.specs.Repeats.{IsReadOnce};
 
@@ -123,7 +124,7 @@ impl<'a> ManifestForm<'a> {
     /// The entry of a line that says this, where it is the first that names the path.
     fn entry(&self, line: u64, digest: Digest, path: Text) -> Result<ManifestEntry, Why>
         ensures { result
-            ≡ spec.entry_unless (contains nat_cmp self.now.repeated line) line (digest, path) }
+            ≡ of_line.entry_unless (contains nat_cmp self.now.repeated line) line (digest, path) }
     {
         if self.repeated.contains(&line) {
             Err((Code::NamedAgain, path))
@@ -137,7 +138,7 @@ impl<'a> LineForm for ManifestForm<'a> {
     type Entry = ManifestEntry;
 
     ghost reads = { λ form line content.
-        spec.manifest_entry_in (λ n path. contains nat_cmp form.repeated n) form.rules form.kind
+        of_line.manifest_entry_in (λ n path. contains nat_cmp form.repeated n) form.rules form.kind
         form.alg line content };
 
     fn read(

@@ -1,6 +1,7 @@
 //! The value of `Payload-Oxum` (RFC 8493, 2.2.2).
 ghost use Rattle.std.specs.Prelude.{◌≡◌};
 ghost use Rattle.bag_read.specs.Oxum as spec;
+ghost use Rattle.bag_read.specs.LineParts as parts;
 
 use crate::line_fault::is_digits;
 
@@ -30,7 +31,7 @@ pub fn oxum_of(value: &str) -> Option<Oxum>
 
 /// The number that a text writes in ASCII digits alone.
 fn number_of(text: &str) -> Option<u64>
-    ensures { result ≡ spec.number_of text.now }
+    ensures { result ≡ parts.number_of text.now }
 {
     if !is_digits(text) {
         return None;

@@ -2,7 +2,7 @@
 ghost use Rattle.std.specs.Prelude.{◌≡◌, ◌≢◌, IfOk, IsTrue, MatchOption, Some, slice_get};
 ghost use Rattle.std.specs.Str.{byte};
 ghost use Rattle.bag_text.specs.declared.alg.Alg.{Alg};
-ghost use Rattle.bag_read.specs.TagName.{tag_path};
+ghost use Rattle.bag_read.specs.ManifestName.{tag_path};
 ghost use Rattle.bag_read.specs.declared.tag_name.TagName.{TagName};
 ghost use Rattle.bag_read.specs.declared.tag_name.TagName.TheVariants.{Manifest};
 

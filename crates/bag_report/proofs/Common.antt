@@ -13,7 +13,8 @@ pub use Rattle.bag_facts.specs.FaultOrder.{fault_cmp}
 pub use Rattle.bag_facts.specs.Options.{reaches}
 pub use Rattle.bag_facts.specs.declared.fault.Fault.{Fault}
 pub use Rattle.bag_profile.specs.Profile.{Profile}
-pub use Rattle.bag_stages.specs.CompletenessStage.{IsOfCompleteness, IsSoughtInStageSix}
+pub use Rattle.bag_stages.specs.CompletenessStage.{IsOfCompleteness}
+pub use Rattle.bag_stages.specs.CompletenessFaults.{IsSoughtInStageSix}
 pub use Rattle.bag_stages.specs.DeclarationStage.{IsOfDeclaration}
 pub use Rattle.bag_stages.specs.FetchStage.{IsOfFetch}
 pub use Rattle.bag_stages.specs.ManifestsStage.{IsOfManifests}
@@ -25,6 +26,6 @@ pub use Rattle.bag_text.specs.Code.{stage}
 pub use Rattle.bag_text.specs.Order.{IsListOf}
 pub use Rattle.bag_text.specs.declared.code.Code.TheVariants.{NameClash, NoOxum}
 pub use Rattle.bag_tree.specs.Bag.{Bag}
-pub use Rattle.bag_report.specs.Report.{Check, IsReported, IsStageOf, asks, is_fast}
-pub use Rattle.bag_report.specs.Stages.{IsFoundAt}
-unfoldable pub use Rattle.bag_report.specs.Is.{Is}
+pub use Rattle.bag_report.specs.Report.{Check, IsReported, asks, is_fast}
+pub use Rattle.bag_report.specs.Stages.{IsFoundAt, IsStageOf}
+unfoldable pub use Rattle.bag_report.specs.Report.{Is}

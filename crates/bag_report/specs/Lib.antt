@@ -15,7 +15,6 @@ pub use Rattle.bag_profile.specs.Profile
 pub use Rattle.bag_stages.specs.DeclarationStage
 pub use Rattle.bag_stages.specs.FetchStage
 pub use Rattle.bag_stages.specs.ManifestsStage
-pub use Rattle.bag_stages.specs.Metadata
 pub use Rattle.bag_stages.specs.MetadataStage
 pub use Rattle.bag_stages.specs.PartsStage
 pub use Rattle.bag_stages.specs.Payload
@@ -23,6 +22,6 @@ pub use Rattle.bag_stages.specs.FaultFields
 pub use Rattle.bag_stages.specs.TagFiles
 pub use Rattle.bag_stages.specs.SummedFiles
 pub use Rattle.bag_stages.specs.ValidityStage
-pub mod Is
+pub mod Laws
 pub mod Report
 pub mod Stages

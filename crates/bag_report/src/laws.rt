@@ -1,5 +1,5 @@
 //! Laws of the definitions, each the contract of a function that gives nothing.
-ghost use Rattle.bag_report.specs.Report.{EachBagHasAReport, ReportIsOne};
+ghost use Rattle.bag_report.specs.Laws.{EachBagHasAReport, ReportIsOne};
 
 pub use bag_facts::laws::{
     ascending_faults_are_one, equal_faults_are_one, every_fault_is_one, faults_are_ordered,

@@ -4,11 +4,11 @@ ghost use Rattle.std.specs.Option.{option_copied};
 ghost use Rattle.bag_text.specs.Order.{IsListOf};
 ghost use Rattle.bag_tree.specs.Bag.{Bag};
 ghost use Rattle.bag_facts.specs.FaultOrder.{fault_cmp};
-ghost use Rattle.bag_facts.specs.Facts.{IsFactsOf};
+ghost use Rattle.bag_facts.specs.FactsOfBag.{IsFactsOf};
 ghost use Rattle.bag_facts.specs.declared.options.Depth.TheVariants.{Declaration};
 ghost use Rattle.bag_conformance.specs.ConformanceStage.{IsOfConformance};
-ghost use Rattle.bag_report.specs.Report.{asks, IsStageOf, check_of_facts};
-ghost use Rattle.bag_report.specs.Stages.{IsFoundAt};
+ghost use Rattle.bag_report.specs.Report.{asks};
+ghost use Rattle.bag_report.specs.Stages.{IsFoundAt, IsStageOf, check_of_facts};
 ghost use Rattle.bag_stages.specs.Found.{AreFaultsOf};
 
 use bag_conformance::conformance_faults;

@@ -33,7 +33,8 @@ pub use Rattle.bag_facts.proofs.ByPath.{items_ascend, less_case, paths_ascend, r
 pub use Rattle.bag_facts.proofs.ListedFiles.{file_listed, listed_file}
 pub use Rattle.bag_facts.proofs.Mapped.{contains_mapped, kept, mapped_contains, passed, take_one_more, taken_cases}
 pub use Rattle.bag_facts.proofs.Ordered.{fault_cmp_same, fault_cmp_total}
-pub use Rattle.bag_facts.specs.Facts.{IsByV097, IsByV10, IsFactsOf, IsSaidOfTagFile, OfBag, rules_in}
+pub use Rattle.bag_facts.specs.Facts.{IsByV10, rules_in}
+pub use Rattle.bag_facts.specs.FactsOfBag.{IsByV097, IsFactsOf, IsSaidOfTagFile, OfBag}
 pub use Rattle.bag_facts.specs.FaultAt.{of_line, of_path}
 pub use Rattle.bag_facts.specs.FaultOrder.{fault_cmp}
 pub use Rattle.bag_facts.specs.TagFacts.{AreByPath, AreEntriesOf, IsDeclarationOf, IsFetchListOf, IsManifestNamed}
@@ -55,12 +56,13 @@ pub use Rattle.bag_read.proofs.ManifestName.{IsManifestName, named_is, same_alg}
 pub use Rattle.bag_read.proofs.PickedOut.{both_true}
 pub use Rattle.bag_read.proofs.TagPaths.{name_named, paths_differ}
 pub use Rattle.bag_read.specs.Declaration.{DeclarationFault, IsDeclarationFault}
-pub use Rattle.bag_read.specs.Fetch.{FetchFault, IsFetch, IsFetchFault, fetch_entry_in}
+pub use Rattle.bag_read.specs.Fetch.{FetchFault, IsFetch, IsFetchFault}
+pub use Rattle.bag_read.specs.ReadEntries.{fetch_entry_in}
 pub use Rattle.bag_read.specs.Info.{InfoFault, IsElement, IsInfoFault}
 pub use Rattle.bag_read.specs.LineFault.{AreFaults, entries_read, faults_read, line_fault, line_fault_cmp, not_utf8}
 pub use Rattle.bag_read.specs.Manifest.{IsEntry, IsManifestFault, ManifestFault}
 pub use Rattle.bag_read.specs.ManifestName.{is_alg_text, is_manifest_name, manifest_name, prefix}
-pub use Rattle.bag_read.specs.TagName.{tag_path}
+pub use Rattle.bag_read.specs.ManifestName.{tag_path}
 pub use Rattle.bag_read.specs.declared.fetch.FetchEntry.{FetchEntry}
 pub use Rattle.bag_read.specs.declared.info.Element.{Element}
 pub use Rattle.bag_read.specs.declared.kind.Kind.{Kind}
@@ -77,7 +79,8 @@ pub use Rattle.bag_text.proofs.ListOf.{nothing_listed, one_listed, only_listed, 
 pub use Rattle.bag_text.specs.Alg.{alg_named, algs, hex_len, rank, rank_cmp, rank_or_zero}
 pub use Rattle.bag_text.specs.Code.{stage}
 pub use Rattle.bag_text.specs.Lines.{lines_of_file}
-pub use Rattle.bag_text.specs.Order.{IsListOf, IsOnly}
+pub use Rattle.bag_text.specs.Order.{IsListOf}
+pub use Rattle.bag_text.specs.Only.{IsOnly}
 pub use Rattle.bag_text.specs.Path.{is_path, is_payload_path}
 pub use Rattle.bag_text.specs.Text.{IsNoText, text_cmp, without_prefix}
 pub use Rattle.bag_text.specs.declared.alg.Alg.{Alg}
@@ -104,41 +107,46 @@ pub use Rattle.bag_stages.specs.CompletenessFaults.{IsMissing, IsMissingFromSome
 pub use Rattle.bag_stages.specs.CompletenessFaults.{IsOfPathAmong, IsLeftOutAmong, IsV10LeftOutByOne}
 pub use Rattle.bag_stages.specs.CompletenessFaults.{IsV097LeftOutByAll, IsV10LeftOutBySome, IsPathLeftOutOf}
 pub use Rattle.bag_stages.specs.CompletenessFaults.{IsFileNamedByNone, IsPathNamedByNone, IsWrong, IsWrongOfSome}
-pub use Rattle.bag_stages.specs.CompletenessFaults.{missing_code}
-pub use Rattle.bag_stages.specs.CompletenessStage.{CompletenessFaultsAreListed, CompletenessFaultsAreOfStageSix}
-pub use Rattle.bag_stages.specs.CompletenessStage.{IsOfCompleteness, IsPayloadFile, IsPayloadName, IsSoughtInStageSix}
-pub use Rattle.bag_stages.specs.DeclarationStage.{DeclarationFaultsAreListed, DeclarationFaultsAreOfStageOne}
+pub use Rattle.bag_stages.specs.CompletenessFaults.{missing_code, IsSoughtInStageSix}
+pub use Rattle.bag_stages.specs.Laws.{CompletenessFaultsAreListed, CompletenessFaultsAreOfStageSix}
+pub use Rattle.bag_stages.specs.Laws.{DeclarationFaultsAreListed, DeclarationFaultsAreOfStageOne}
+pub use Rattle.bag_stages.specs.Laws.{FetchFaultsAreListed, FetchFaultsAreOfStageFour}
+pub use Rattle.bag_stages.specs.Laws.{ManifestFaultsAreListed, ManifestFaultsAreOfStageFive}
+pub use Rattle.bag_stages.specs.Laws.{MetadataFaultsAreListed, MetadataFaultsAreOfStageThree}
+pub use Rattle.bag_stages.specs.Laws.{PartFaultsAreListed, PartFaultsAreOfStageTwo, NamesByKind}
+pub use Rattle.bag_stages.specs.Laws.{ValidityFaultsAreListed, ValidityFaultsAreOfStageSeven}
+pub use Rattle.bag_stages.specs.CompletenessStage.{IsOfCompleteness, IsPayloadFile, IsPayloadName}
 pub use Rattle.bag_stages.specs.DeclarationStage.{InDeclaration, IsOfDeclaration}
-pub use Rattle.bag_stages.specs.FaultFields.{At, InFile, in_file, in_line, of_bag}
+pub use Rattle.bag_stages.specs.FaultFields.{At, InFile, in_line}
+pub use Rattle.bag_stages.specs.FaultPlaces.{in_file, of_bag}
 pub use Rattle.bag_stages.specs.FetchFaults.{AreByLine, AreFetched, IsNamedByNone, IsNamedByNoneAmong}
 pub use Rattle.bag_stages.specs.FetchFaults.{IsFetchLeftOutByAll, IsFetchLeftOutByOne, IsFetchLeftOutBySome, IsNotNamed}
 pub use Rattle.bag_stages.specs.FetchFaults.{IsNotNamedAmong, not_in_manifest}
-pub use Rattle.bag_stages.specs.FetchStage.{FetchFaultsAreListed, FetchFaultsAreOfStageFour, HasFetch, IsOfFetch}
+pub use Rattle.bag_stages.specs.FetchStage.{HasFetch, IsOfFetch}
 pub use Rattle.bag_stages.specs.FetchStage.{fetch_txt}
 pub use Rattle.bag_stages.specs.FileFaults.{AreTagsOf, HasTextless, IsFaultAmong, IsFileFault, IsUnsupported}
 pub use Rattle.bag_stages.specs.FileFaults.{ListsPayloadManifest}
-pub use Rattle.bag_stages.specs.Given.{AreNaming, IsGivenBy, IsSpelledBy}
+pub use Rattle.bag_stages.specs.Given.{AreNaming, IsGivenBy, IsSpelledBy, kind_of}
 pub use Rattle.bag_stages.specs.HasList.{HasList}
 pub use Rattle.bag_stages.specs.LeftOut.{IsLeftOut, IsLeftOutByAll, IsLeftOutByOne, IsNamedBySome}
 pub use Rattle.bag_stages.specs.ManifestFaults.{IsAskedUnnamed, IsLineFault, IsOfManifest, IsUnlistedManifest}
 pub use Rattle.bag_stages.specs.ManifestFaults.{IsUnnamedFault, unnamed}
-pub use Rattle.bag_stages.specs.ManifestsStage.{InManifest, IsOfManifests, ManifestFaultsAreListed}
-pub use Rattle.bag_stages.specs.ManifestsStage.{ManifestFaultsAreOfStageFive}
-pub use Rattle.bag_stages.specs.Metadata.{HasElement, HasFirst, HasLater, bag_info_txt}
-pub use Rattle.bag_stages.specs.MetadataStage.{IsOfMetadata, MetadataFaultsAreListed, MetadataFaultsAreOfStageThree}
-pub use Rattle.bag_stages.specs.MetadataStage.{oxum_label, pair}
+pub use Rattle.bag_stages.specs.ManifestsStage.{InManifest, IsOfManifests}
+pub use Rattle.bag_stages.specs.MetadataStage.{IsOfMetadata}
+pub use Rattle.bag_stages.specs.MetadataStage.{oxum_label, pair, HasElement, HasFirst, HasLater}
+pub use Rattle.bag_stages.specs.MetadataStage.{bag_info_txt}
 pub use Rattle.bag_stages.specs.Names.{IsNameOf, texts_of}
 pub use Rattle.bag_stages.specs.OxumFaults.{again, differs, first_faults, is_oxum, no_oxum, of_element, oxum_faults}
 pub use Rattle.bag_stages.specs.OxumFaults.{oxums, same_oxum, reported_faults}
-pub use Rattle.bag_stages.specs.PartsStage.{PartFaultsAreListed, PartFaultsAreOfStageTwo}
 pub use Rattle.bag_stages.specs.Payload.{oxum, oxum_of_files, oxum_text}
 pub use Rattle.bag_stages.specs.PayloadNamed.{RestStartsAfter, IsExact, IsNamedExactly, IsPayloadNotFirst}
 pub use Rattle.bag_stages.specs.PayloadNamed.{payload_paths}
 pub use Rattle.bag_stages.specs.PayloadSize.{listed_oxum, payload_entries}
-pub use Rattle.bag_stages.specs.SumFaults.{AreSumsBy, differing, differing_code, faults_of_bytes, sum_differs}
-pub use Rattle.bag_stages.specs.SummedFiles.{IsNamed, IsSummed, NamesByKind, kind_of}
+pub use Rattle.bag_stages.specs.SumFaults.{AreSumsBy, differing, differing_code, faults_of_bytes}
+pub use Rattle.bag_stages.specs.SumFaults.{sum_differs, IsFaultOfFile}
+pub use Rattle.bag_stages.specs.SummedFiles.{IsNamed, IsSummed}
 pub use Rattle.bag_stages.specs.TagFiles.{HasManifest, HasNoText, HasSupported, Names, bagit_txt, lines_in}
 pub use Rattle.bag_stages.specs.TagFiles.{lines_or_none, manifest_of, named_in}
-pub use Rattle.bag_stages.specs.ValidityStage.{Differs, IsEntryIn, IsFaultOfFile, IsOfValidity, ValidityFaultsAreListed}
-pub use Rattle.bag_stages.specs.ValidityStage.{ValidityFaultsAreOfStageSeven, expected_and_found}
+pub use Rattle.bag_stages.specs.ValidityStage.{Differs, IsEntryIn, IsOfValidity}
+pub use Rattle.bag_stages.specs.ValidityStage.{expected_and_found}
 pub use Rattle.bag_stages.specs.declared.expected.Expected.{Expected}

@@ -27,10 +27,3 @@ module _ (IsName : List ℕ → Type 0) where
   -- a name that isn't the least of its class, and the least
   abbrev pub Clashes : List ℕ → List ℕ → Type 0
   Clashes name least = IsName name × IsLeastAlike name least × (least ≢ name)
-
--- the law: to be of one class is an equivalence
-pub record AlikeIsAnEquivalence : Type 0 where
-  pub reflexive : (text : List ℕ) → AreAlike text text
-  pub symmetric : (one other : List ℕ) → AreAlike one other → AreAlike other one
-  pub transitive : (one other third : List ℕ) → AreAlike one other → AreAlike other third
-      → AreAlike one third

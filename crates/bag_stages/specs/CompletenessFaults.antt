@@ -1,12 +1,12 @@
 -- The faults of completeness, one manifest at a time, and those of all payload manifests at once.
-use Rattle.std.specs.Prelude.{ℕ, ◌≡◌, ◌↔◌, ◌⊎◌, true, List, [], Option, None, Some, Contains}
+use Rattle.std.specs.Prelude.{ℕ, ◌≡◌, ◌↔◌, ◌⊎◌, true, List, [], Option, None, Some, Contains, Bool}
 use Rattle.std.specs.List.{IsDistinct}
 use Rattle.std.specs.Ordering.{eq_by_cmp}
 use Rattle.bag_text.specs.Path.{is_payload_path}
 use Rattle.bag_text.specs.declared.alg.Alg.{Alg}
 use Rattle.bag_text.specs.declared.code.Code.{Code}
 use Rattle.bag_text.specs.declared.code.Code.TheVariants.{PayloadFileMissing, TagFileMissing}
-use Rattle.bag_text.specs.declared.code.Code.TheVariants.{PayloadFileNotListed}
+use Rattle.bag_text.specs.declared.code.Code.TheVariants.{PayloadFileNotListed, NameClash}
 use Rattle.bag_read.specs.declared.kind.Kind.{Kind}
 use Rattle.bag_read.specs.declared.kind.Kind.TheVariants.{Payload, Tag}
 use Rattle.bag_read.specs.declared.manifest.ManifestEntry.{ManifestEntry}
@@ -14,13 +14,14 @@ use Rattle.bag_tree.specs.Bag.{Bag, LacksFile}
 use Rattle.bag_facts.specs.FaultAt.{of_path}
 use Rattle.bag_facts.specs.FaultOrder.{fault_cmp}
 use Rattle.bag_facts.specs.declared.fault.Fault.{Fault}
-use Rattle.bag_facts.specs.Facts.{IsByV10, IsByV097}
+use Rattle.bag_facts.specs.Facts.{IsByV10}
+use Rattle.bag_facts.specs.FactsOfBag.{IsByV097}
 use Rattle.bag_facts.specs.TagFacts.{entry_paths}
 use Rattle.bag_facts.specs.Wanted.{paths_of}
 use Rattle.bag_tree.specs.declared.listing.FileEntry.{FileEntry}
 use Rattle.bag_stages.specs.LeftOut.{IsLeftOutByAll, IsLeftOutByOne, IsNamedBySome}
 use Rattle.bag_stages.specs.TagFiles.{Names}
-use Rattle.bag_stages.specs.CompletenessStage.{IsPayloadFile}
+use Rattle.bag_stages.specs.CompletenessStage.{IsPayloadFile, IsOfCompleteness}
 
 -- a list of exactly these, each once and in any order
 pub record HasEachOnce (IsMember : Fault → Type 0) (faults : List Fault) : Type 0 where
@@ -111,3 +112,7 @@ IsLeftOutAmong alg entries = IsOfPathAmong PayloadFileNotListed (Some alg) (IsPa
 abbrev pub IsIncomplete : Bag → Fault → Type 0
 IsIncomplete bag f = (IsMissingFromSome bag Payload f ⊎ IsMissingFromSome bag Tag f)
     ⊎ IsFileLeftOut bag f
+
+-- such a fault that is looked for: a clash of names only where clashes are
+abbrev pub IsSoughtInStageSix : Bool → Bag → Fault → Type 0
+IsSoughtInStageSix clashes bag f = IsOfCompleteness bag f × (f.code ≡ NameClash → clashes ≡ true)

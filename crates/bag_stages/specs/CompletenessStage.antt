@@ -1,7 +1,6 @@
 -- Stage 6: what keeps a bag from being complete (RFC 8493, 3), and names that differ by normal form
 -- alone.
-use Rattle.std.specs.Prelude.{ℕ, ◌≡◌, ◌⊎◌, Bool, true, List, [], None, Some}
-use Rattle.bag_text.specs.Code.{stage}
+use Rattle.std.specs.Prelude.{ℕ, ◌≡◌, ◌⊎◌, true, List, [], None, Some}
 use Rattle.bag_text.specs.Path.{is_payload_path}
 use Rattle.bag_text.specs.declared.alg.Alg.{Alg}
 use Rattle.bag_text.specs.declared.code.Code.{Code}
@@ -13,7 +12,6 @@ use Rattle.bag_tree.specs.Bag.{Bag, HasFile, LacksFile}
 use Rattle.bag_facts.specs.declared.fault.Fault.{Fault}
 use Rattle.bag_facts.specs.Facts.{rules_in}
 use Rattle.bag_stages.specs.FaultFields.{At}
-use Rattle.bag_stages.specs.HasList.{HasList}
 use Rattle.bag_stages.specs.LeftOut.{IsLeftOut}
 use Rattle.bag_stages.specs.TagFiles.{Names}
 use Rattle.bag_stages.specs.Clashes.{Clashes}
@@ -49,16 +47,3 @@ module _ (bag : Bag) (f : Fault) where
 -- the fault is one of the bag's completeness or of its names: what its code says holds
 unfoldable pub IsOfCompleteness : Bag → Fault → Type 0
 IsOfCompleteness bag f = CompletenessHolds bag f f.code
-
--- such a fault that is looked for: a clash of names only where clashes are
-abbrev pub IsSoughtInStageSix : Bool → Bag → Fault → Type 0
-IsSoughtInStageSix clashes bag f = IsOfCompleteness bag f × (f.code ≡ NameClash → clashes ≡ true)
-
--- the law: these faults are of the sixth stage
-abbrev pub CompletenessFaultsAreOfStageSix : Type 0
-CompletenessFaultsAreOfStageSix = (bag : Bag) (f : Fault) → IsOfCompleteness bag f
-    → stage f.code ≡ 6
-
--- the law: every bag has a list of these faults
-abbrev pub CompletenessFaultsAreListed : Type 0
-CompletenessFaultsAreListed = (bag : Bag) → HasList (IsOfCompleteness bag)

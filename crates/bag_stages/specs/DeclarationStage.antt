@@ -1,6 +1,5 @@
 -- Stage 1: what is a fault of the declaration (RFC 8493, 2.1.1).
-use Rattle.std.specs.Prelude.{◌≡◌, [], None}
-use Rattle.bag_text.specs.Code.{stage}
+use Rattle.std.specs.Prelude.{[], None}
 use Rattle.bag_text.specs.declared.code.Code.{Code}
 use Rattle.bag_text.specs.declared.code.Code.TheVariants.{NoDeclaration, DeclarationNotUtf8}
 use Rattle.bag_text.specs.declared.code.Code.TheVariants.{DeclarationLineCount, DeclarationLine}
@@ -9,7 +8,6 @@ use Rattle.bag_read.specs.Declaration.{IsDeclarationFault}
 use Rattle.bag_tree.specs.Bag.{Bag, LacksFile}
 use Rattle.bag_facts.specs.declared.fault.Fault.{Fault}
 use Rattle.bag_stages.specs.FaultFields.{At, InFile}
-use Rattle.bag_stages.specs.HasList.{HasList}
 use Rattle.bag_stages.specs.TagFiles.{bagit_txt}
 
 -- what a code says of a bag and the other fields of the fault
@@ -34,11 +32,3 @@ module _ (bag : Bag) (f : Fault) where
 -- the fault is one of the bag's declaration: what its code says holds
 unfoldable pub IsOfDeclaration : Bag → Fault → Type 0
 IsOfDeclaration bag f = DeclarationHolds bag f f.code
-
--- the law: these faults are of the first stage
-abbrev pub DeclarationFaultsAreOfStageOne : Type 0
-DeclarationFaultsAreOfStageOne = (bag : Bag) (f : Fault) → IsOfDeclaration bag f → stage f.code ≡ 1
-
--- the law: every bag has a list of these faults
-abbrev pub DeclarationFaultsAreListed : Type 0
-DeclarationFaultsAreListed = (bag : Bag) → HasList (IsOfDeclaration bag)

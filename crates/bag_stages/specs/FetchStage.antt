@@ -1,18 +1,16 @@
 -- Stage 4: what is a fault of the list of files to fetch (RFC 8493, 2.2.3).
-use Rattle.std.specs.Prelude.{ℕ, ◌≡◌, List, None}
-use Rattle.bag_text.specs.Code.{stage}
+use Rattle.std.specs.Prelude.{ℕ, List, None}
 use Rattle.bag_text.specs.declared.code.Code.{Code}
 use Rattle.bag_text.specs.declared.code.Code.TheVariants.{FetchLine, FetchEscape, FetchUnsafePath}
 use Rattle.bag_text.specs.declared.code.Code.TheVariants.{FetchOutsidePayload, FetchNotInManifest}
 use Rattle.bag_read.specs.Fetch.{IsFetch, IsFetchFault}
 use Rattle.bag_read.specs.declared.fetch.FetchEntry.{FetchEntry}
-use Rattle.bag_read.specs.TagName.{tag_path}
+use Rattle.bag_read.specs.ManifestName.{tag_path}
 use Rattle.bag_read.specs.declared.tag_name.TagName.TheVariants.{Fetch}
 use Rattle.bag_tree.specs.Bag.{Bag}
 use Rattle.bag_facts.specs.declared.fault.Fault.{Fault}
 use Rattle.bag_facts.specs.Facts.{rules_in}
 use Rattle.bag_stages.specs.FaultFields.{At, InFile}
-use Rattle.bag_stages.specs.HasList.{HasList}
 use Rattle.bag_stages.specs.LeftOut.{IsLeftOut}
 use Rattle.bag_stages.specs.TagFiles.{lines_in}
 
@@ -45,11 +43,3 @@ module _ (bag : Bag) (f : Fault) where
 -- the fault is one of the bag's list of files to fetch: what its code says holds
 unfoldable pub IsOfFetch : Bag → Fault → Type 0
 IsOfFetch bag f = FetchHolds bag f f.code
-
--- the law: these faults are of the fourth stage
-abbrev pub FetchFaultsAreOfStageFour : Type 0
-FetchFaultsAreOfStageFour = (bag : Bag) (f : Fault) → IsOfFetch bag f → stage f.code ≡ 4
-
--- the law: every bag has a list of these faults
-abbrev pub FetchFaultsAreListed : Type 0
-FetchFaultsAreListed = (bag : Bag) → HasList (IsOfFetch bag)

@@ -2,15 +2,14 @@
 use Rattle.std.specs.Prelude.{ℕ, ◌≡◌, ◌⊎◌, true, false, List, [], Some, None, Contains}
 use Rattle.bag_text.specs.Alg.{alg_named}
 use Rattle.bag_text.specs.declared.code.Code.TheVariants.{AlgorithmUnsupported, NotUtf8}
-use Rattle.bag_read.specs.ManifestName.{manifest_name, is_alg_text}
-use Rattle.bag_read.specs.TagName.{tag_path}
+use Rattle.bag_read.specs.ManifestName.{manifest_name, is_alg_text, tag_path}
 use Rattle.bag_read.specs.declared.kind.Kind.{Kind}
 use Rattle.bag_read.specs.declared.kind.Kind.TheVariants.{Payload}
 use Rattle.bag_read.specs.declared.tag_name.TagName.{TagName}
 use Rattle.bag_tree.specs.Bag.{Bag, HasFile}
 use Rattle.bag_tree.specs.declared.listing.FileEntry.{FileEntry}
 use Rattle.bag_facts.specs.declared.fault.Fault.{Fault}
-use Rattle.bag_facts.specs.Facts.{IsSaidOfTagFile}
+use Rattle.bag_facts.specs.FactsOfBag.{IsSaidOfTagFile}
 use Rattle.bag_facts.specs.TagFacts.{name_of, text_test}
 use Rattle.bag_facts.specs.Wanted.{paths_of}
 use Rattle.bag_facts.specs.declared.tag_facts.TagFacts.{TagFacts}

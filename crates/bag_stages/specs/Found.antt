@@ -4,7 +4,7 @@ use Rattle.bag_text.specs.Order.{IsListOf}
 use Rattle.bag_tree.specs.Bag.{Bag}
 use Rattle.bag_read.specs.declared.fetch.FetchEntry.{FetchEntry}
 use Rattle.bag_facts.specs.FaultOrder.{fault_cmp}
-use Rattle.bag_facts.specs.Facts.{OfBag}
+use Rattle.bag_facts.specs.FactsOfBag.{OfBag}
 use Rattle.bag_facts.specs.declared.facts.Facts.{Facts}
 use Rattle.bag_facts.specs.declared.fault.Fault.{Fault}
 use Rattle.bag_stages.specs.CompletenessFaults.{HasEachOnce}

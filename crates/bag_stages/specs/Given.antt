@@ -1,14 +1,20 @@
 -- What manifests give for a file (RFC 8493, 2.1.3 and 2.2.1).
-use Rattle.std.specs.Prelude.{ℕ, ◌≡◌, ◌↔◌, List, Option, Contains, MatchOption}
+use Rattle.std.specs.Prelude.{ℕ, ◌≡◌, ◌↔◌, List, Option, Contains, MatchOption, if◌then◌else◌}
 use Rattle.hex.specs.Hex.{encode_lower}
 use Rattle.bag_text.specs.declared.alg.Alg.{Alg}
 use Rattle.bag_read.specs.declared.kind.Kind.{Kind}
 use Rattle.bag_read.specs.declared.manifest.ManifestEntry.{ManifestEntry}
 use Rattle.bag_tree.specs.Bag.{Bag}
 use Rattle.bag_stages.specs.TagFiles.{Names}
-use Rattle.bag_stages.specs.SummedFiles.{kind_of}
 use Rattle.bag_stages.specs.ValidityStage.{IsEntryIn}
 use Rattle.bag_stages.specs.declared.expected.Expected.{Expected}
+use Rattle.bag_text.specs.Path.{is_payload_path}
+use Rattle.bag_read.specs.declared.kind.Kind.TheVariants.{Payload, Tag}
+
+-- the kind of the manifests that may name a path: payload manifests name payload files, and tag
+-- manifests the others
+abbrev pub kind_of : List ℕ → Kind
+kind_of path = if is_payload_path path then Payload else Tag
 
 -- these are the algorithms whose manifests name the path
 abbrev pub AreNaming : Bag → List ℕ → List Alg → Type 0

@@ -1,15 +1,13 @@
 -- Stage 5: what is a fault of the manifests (RFC 8493, 2.1.3 and 2.2.1), where all but the digests
 -- is looked at.
-use Rattle.std.specs.Prelude.{ℕ, ◌≡◌, List, Some}
-use Rattle.bag_text.specs.Code.{stage}
+use Rattle.std.specs.Prelude.{ℕ, List, Some}
 use Rattle.bag_text.specs.declared.alg.Alg.{Alg}
 use Rattle.bag_text.specs.declared.code.Code.{Code}
-use Rattle.bag_text.specs.declared.code.Code.TheVariants.{ManifestLine, DigestLength}
-use Rattle.bag_text.specs.declared.code.Code.TheVariants.{ManifestEscape, ManifestUnsafePath}
-use Rattle.bag_text.specs.declared.code.Code.TheVariants.{ManifestOutsidePayload}
-use Rattle.bag_text.specs.declared.code.Code.TheVariants.{TagmanifestNamesPayload}
-use Rattle.bag_text.specs.declared.code.Code.TheVariants.{TagmanifestNamesTagmanifest, NamedAgain}
-use Rattle.bag_text.specs.declared.code.Code.TheVariants.{PayloadManifestNotListed}
+use Rattle.bag_text.specs.declared.code.Code.TheVariants.{ManifestLine, TagmanifestNamesTagmanifest}
+use Rattle.bag_text.specs.declared.code.Code.TheVariants.{ManifestEscape, PayloadManifestNotListed}
+use Rattle.bag_text.specs.declared.code.Code.TheVariants.{DigestLength, TagmanifestNamesPayload}
+use Rattle.bag_text.specs.declared.code.Code.TheVariants.{ManifestOutsidePayload, NamedAgain}
+use Rattle.bag_text.specs.declared.code.Code.TheVariants.{ManifestUnsafePath}
 use Rattle.bag_read.specs.Manifest.{IsManifestFault}
 use Rattle.bag_read.specs.ManifestName.{manifest_name}
 use Rattle.bag_read.specs.declared.kind.Kind.{Kind}
@@ -18,7 +16,6 @@ use Rattle.bag_tree.specs.Bag.{Bag}
 use Rattle.bag_facts.specs.declared.fault.Fault.{Fault}
 use Rattle.bag_facts.specs.Facts.{rules_in, IsByV10}
 use Rattle.bag_stages.specs.FaultFields.{At, InFile}
-use Rattle.bag_stages.specs.HasList.{HasList}
 use Rattle.bag_stages.specs.TagFiles.{manifest_of, HasManifest, HasSupported, Names}
 
 -- what a code says of a bag and the other fields of the fault
@@ -53,11 +50,3 @@ module _ (bag : Bag) (f : Fault) where
 -- the fault is one of the bag's manifests: what its code says holds
 unfoldable pub IsOfManifests : Bag → Fault → Type 0
 IsOfManifests bag f = ManifestHolds bag f f.code
-
--- the law: these faults are of the fifth stage
-abbrev pub ManifestFaultsAreOfStageFive : Type 0
-ManifestFaultsAreOfStageFive = (bag : Bag) (f : Fault) → IsOfManifests bag f → stage f.code ≡ 5
-
--- the law: every bag has a list of these faults
-abbrev pub ManifestFaultsAreListed : Type 0
-ManifestFaultsAreListed = (bag : Bag) → HasList (IsOfManifests bag)

@@ -1,10 +1,9 @@
 -- Stage 3: what is a fault of the metadata and of its Payload-Oxum (RFC 8493, 2.2.2).
-use Rattle.std.specs.Prelude.{ℕ, ◌≡◌, ◌≢◌, ◌++◌, List, [], None, Some, codes}
-use Rattle.bag_text.specs.Code.{stage}
+use Rattle.std.specs.Prelude.{ℕ, ◌≡◌, ◌≢◌, ◌++◌, List, [], None, Some, codes, ◌<◌, ◌≤◌, true}
 use Rattle.bag_text.specs.declared.code.Code.{Code}
 use Rattle.bag_text.specs.declared.code.Code.TheVariants.{InfoLine, OxumMalformed, OxumAgain}
 use Rattle.bag_text.specs.declared.code.Code.TheVariants.{OxumDiffers, NoOxum}
-use Rattle.bag_read.specs.Info.{IsInfoFault}
+use Rattle.bag_read.specs.Info.{IsInfoFault, IsElement}
 use Rattle.bag_read.specs.Oxum.{oxum_of}
 use Rattle.bag_read.specs.declared.info.Element.{Element}
 use Rattle.bag_read.specs.declared.oxum.Oxum.{Oxum}
@@ -12,9 +11,11 @@ use Rattle.bag_tree.specs.Bag.{Bag}
 use Rattle.bag_facts.specs.declared.fault.Fault.{Fault}
 use Rattle.bag_facts.specs.Facts.{rules_in}
 use Rattle.bag_stages.specs.FaultFields.{At, InFile}
-use Rattle.bag_stages.specs.HasList.{HasList}
-use Rattle.bag_stages.specs.Metadata.{bag_info_txt, HasElement, HasFirst, HasLater}
 use Rattle.bag_stages.specs.Payload.{oxum, oxum_text}
+use Rattle.bag_text.specs.Text.{same_label}
+use Rattle.bag_read.specs.ManifestName.{tag_path}
+use Rattle.bag_read.specs.declared.tag_name.TagName.TheVariants.{Info}
+use Rattle.bag_stages.specs.TagFiles.{lines_in}
 
 -- the label of the element that gives the payload's size
 abbrev pub oxum_label : List ℕ
@@ -23,6 +24,23 @@ oxum_label = codes "Payload-Oxum"
 -- two texts with a colon between them
 abbrev pub pair : List ℕ → List ℕ → List ℕ
 pair a b = a ++ codes ":" ++ b
+
+abbrev pub bag_info_txt : List ℕ
+bag_info_txt = tag_path Info
+
+-- the elements of bag-info.txt that have a label, whatever its case: each, the first, and each
+-- later one
+abbrev pub HasElement : Bag → List ℕ → Element → Type 0
+HasElement bag label e =
+    IsElement (rules_in bag) (lines_in bag bag_info_txt) e × (same_label e.label label ≡ true)
+
+abbrev pub HasLater : Bag → List ℕ → Element → Type 0
+HasLater bag label e =
+    HasElement bag label e × ((d : Element) × HasElement bag label d × (d.line < e.line))
+
+abbrev pub HasFirst : Bag → List ℕ → Element → Type 0
+HasFirst bag label e =
+    HasElement bag label e × ((d : Element) → HasElement bag label d → e.line ≤ d.line)
 
 -- what a code says of a bag and the other fields of the fault
 module _ (bag : Bag) (f : Fault) where
@@ -50,11 +68,3 @@ module _ (bag : Bag) (f : Fault) where
 -- the fault is one of the bag's metadata: what its code says holds
 unfoldable pub IsOfMetadata : Bag → Fault → Type 0
 IsOfMetadata bag f = MetadataHolds bag f f.code
-
--- the law: these faults are of the third stage
-abbrev pub MetadataFaultsAreOfStageThree : Type 0
-MetadataFaultsAreOfStageThree = (bag : Bag) (f : Fault) → IsOfMetadata bag f → stage f.code ≡ 3
-
--- the law: every bag has a list of these faults
-abbrev pub MetadataFaultsAreListed : Type 0
-MetadataFaultsAreListed = (bag : Bag) → HasList (IsOfMetadata bag)

@@ -1,7 +1,6 @@
 -- Stage 2: what is a fault of a bag's parts (RFC 8493, 2.1, 2.3 and 2.4).
 use Rattle.std.specs.Prelude.{ℕ, ◌≡◌, false, List, [], None, codes}
 use Rattle.bag_text.specs.Alg.{alg_named}
-use Rattle.bag_text.specs.Code.{stage}
 use Rattle.bag_text.specs.declared.code.Code.{Code}
 use Rattle.bag_text.specs.declared.code.Code.TheVariants.{NoPayloadFolder, NoPayloadManifest}
 use Rattle.bag_text.specs.declared.code.Code.TheVariants.{AlgorithmUnsupported, NotUtf8}
@@ -11,7 +10,6 @@ use Rattle.bag_read.specs.declared.kind.Kind.TheVariants.{Payload}
 use Rattle.bag_tree.specs.Bag.{Bag, has_folder}
 use Rattle.bag_facts.specs.declared.fault.Fault.{Fault}
 use Rattle.bag_stages.specs.FaultFields.{At}
-use Rattle.bag_stages.specs.HasList.{HasList}
 use Rattle.bag_stages.specs.TagFiles.{HasManifest, HasNoText}
 
 -- what a code says of a bag and the other fields of the fault
@@ -34,11 +32,3 @@ module _ (bag : Bag) (f : Fault) where
 -- the fault is one of the bag's parts: what its code says holds
 unfoldable pub IsOfParts : Bag → Fault → Type 0
 IsOfParts bag f = PartHolds bag f f.code
-
--- the law: these faults are of the second stage
-abbrev pub PartFaultsAreOfStageTwo : Type 0
-PartFaultsAreOfStageTwo = (bag : Bag) (f : Fault) → IsOfParts bag f → stage f.code ≡ 2
-
--- the law: every bag has a list of these faults
-abbrev pub PartFaultsAreListed : Type 0
-PartFaultsAreListed = (bag : Bag) → HasList (IsOfParts bag)

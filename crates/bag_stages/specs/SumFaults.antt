@@ -6,12 +6,14 @@ use Rattle.bag_text.specs.declared.code.Code.{Code}
 use Rattle.bag_text.specs.declared.code.Code.TheVariants.{PayloadSumDiffers, TagSumDiffers}
 use Rattle.bag_read.specs.declared.kind.Kind.{Kind}
 use Rattle.bag_read.specs.declared.kind.Kind.TheVariants.{Payload, Tag}
-use Rattle.bag_tree.specs.Digest.{digest, sum_at}
+use Rattle.bag_tree.specs.Digest.{digest}
+use Rattle.bag_tree.specs.DigestsOf.{sum_at}
 use Rattle.bag_facts.specs.FaultAt.{of_path}
 use Rattle.bag_facts.specs.declared.fault.Fault.{Fault}
-use Rattle.bag_stages.specs.SummedFiles.{kind_of}
-use Rattle.bag_stages.specs.ValidityStage.{expected_and_found}
+use Rattle.bag_stages.specs.Given.{kind_of}
+use Rattle.bag_stages.specs.ValidityStage.{expected_and_found, IsOfValidity}
 use Rattle.bag_stages.specs.declared.expected.Expected.{Expected}
+use Rattle.bag_tree.specs.Bag.{Bag}
 
 -- what a file is whose digest isn't the one that a manifest of this kind gives
 abbrev pub differing_code : Kind → Code
@@ -38,3 +40,7 @@ faults_of_bytes path content expected = filter_map (differing path content) expe
 abbrev pub AreSumsBy : List Expected → List ℕ → List (Option (List ℕ)) → Type 0
 AreSumsBy expected content sums = (one : Expected) → Contains expected one
     → sum_at sums one.alg ≡ Some (digest one.alg content)
+
+-- such a fault of this file
+abbrev pub IsFaultOfFile : Bag → List ℕ → Fault → Type 0
+IsFaultOfFile bag path f = IsOfValidity bag f × (f.path ≡ path)

@@ -4,8 +4,7 @@ use Rattle.bag_text.specs.Text.{IsNoText}
 use Rattle.bag_text.specs.Lines.{lines_of_file}
 use Rattle.bag_text.specs.declared.alg.Alg.{Alg}
 use Rattle.bag_read.specs.Manifest.{named}
-use Rattle.bag_read.specs.ManifestName.{manifest_name, is_alg_text}
-use Rattle.bag_read.specs.TagName.{tag_path}
+use Rattle.bag_read.specs.ManifestName.{manifest_name, is_alg_text, tag_path}
 use Rattle.bag_read.specs.declared.kind.Kind.{Kind}
 use Rattle.bag_read.specs.declared.tag_name.TagName.{TagName}
 use Rattle.bag_read.specs.declared.tag_name.TagName.TheVariants.{Declaration, Manifest}

@@ -1,7 +1,6 @@
 -- Stage 7: what keeps a complete bag from being valid (RFC 8493, 3): files whose digests aren't
 -- those that manifests give.
 use Rattle.std.specs.Prelude.{ℕ, ◌≡◌, ◌≢◌, ◌++◌, List, Some, codes}
-use Rattle.bag_text.specs.Code.{stage}
 use Rattle.bag_text.specs.declared.alg.Alg.{Alg}
 use Rattle.bag_text.specs.declared.code.Code.{Code}
 use Rattle.bag_text.specs.declared.code.Code.TheVariants.{PayloadSumDiffers, TagSumDiffers}
@@ -14,7 +13,6 @@ use Rattle.bag_tree.specs.Digest.{digest}
 use Rattle.bag_facts.specs.declared.fault.Fault.{Fault}
 use Rattle.bag_facts.specs.Facts.{rules_in}
 use Rattle.bag_stages.specs.FaultFields.{At}
-use Rattle.bag_stages.specs.HasList.{HasList}
 use Rattle.bag_stages.specs.TagFiles.{lines_in, manifest_of}
 
 -- the entry is one of the bag's manifest of this kind and algorithm, by the bag's rules
@@ -45,15 +43,3 @@ module _ (bag : Bag) (f : Fault) where
 -- the fault is that a file of the bag has another digest: what its code says holds
 unfoldable pub IsOfValidity : Bag → Fault → Type 0
 IsOfValidity bag f = ValidityHolds bag f f.code
-
--- such a fault of this file
-abbrev pub IsFaultOfFile : Bag → List ℕ → Fault → Type 0
-IsFaultOfFile bag path f = IsOfValidity bag f × (f.path ≡ path)
-
--- the law: these faults are of the seventh stage
-abbrev pub ValidityFaultsAreOfStageSeven : Type 0
-ValidityFaultsAreOfStageSeven = (bag : Bag) (f : Fault) → IsOfValidity bag f → stage f.code ≡ 7
-
--- the law: every bag has a list of these faults
-abbrev pub ValidityFaultsAreListed : Type 0
-ValidityFaultsAreListed = (bag : Bag) → HasList (IsOfValidity bag)

@@ -1,8 +1,7 @@
 //! Stage 6: completeness, and clashes of names.
 ghost use Rattle.std.specs.Prelude.{IfOk};
 ghost use Rattle.bag_stages.specs.ClashStage.{IsSoughtClash};
-ghost use Rattle.bag_stages.specs.CompletenessFaults.{IsIncomplete};
-ghost use Rattle.bag_stages.specs.CompletenessStage.{IsSoughtInStageSix};
+ghost use Rattle.bag_stages.specs.CompletenessFaults.{IsIncomplete, IsSoughtInStageSix};
 ghost use Rattle.bag_stages.specs.Found.{AreFaultsOf, AreEachOnceOf};
 
 use crate::clashes::clash_faults;

@@ -3,7 +3,7 @@ ghost use Rattle.std.specs.Prelude.{IfOk};
 ghost use Rattle.bag_text.specs.Order.{IsListOf};
 ghost use Rattle.bag_tree.specs.Bag.{Bag};
 ghost use Rattle.bag_facts.specs.FaultOrder.{fault_cmp};
-ghost use Rattle.bag_facts.specs.Facts.{IsFactsOf};
+ghost use Rattle.bag_facts.specs.FactsOfBag.{IsFactsOf};
 ghost use Rattle.bag_stages.specs.DeclarationStage.{IsOfDeclaration};
 
 use crate::tag_file::{faults_in_file, whole_file};

@@ -4,12 +4,10 @@ ghost use Rattle.std.specs.Option.{option_copied};
 ghost use Rattle.bag_text.specs.Order.{IsListOf};
 ghost use Rattle.bag_tree.specs.Bag.{file};
 ghost use Rattle.bag_facts.specs.FaultOrder.{fault_cmp};
-ghost use Rattle.bag_facts.specs.Facts.{OfBag};
+ghost use Rattle.bag_facts.specs.FactsOfBag.{OfBag};
 ghost use Rattle.bag_facts.specs.TagFacts.{entry_paths, AreByPath};
-ghost use Rattle.bag_stages.specs.Given.{AreNaming, IsGivenBy};
-ghost use Rattle.bag_stages.specs.SumFaults.{faults_of_bytes};
-ghost use Rattle.bag_stages.specs.SummedFiles.{kind_of};
-ghost use Rattle.bag_stages.specs.ValidityStage.{IsFaultOfFile};
+ghost use Rattle.bag_stages.specs.Given.{AreNaming, IsGivenBy, kind_of};
+ghost use Rattle.bag_stages.specs.SumFaults.{faults_of_bytes, IsFaultOfFile};
 
 use crate::{GivenDigest, Places};
 use bag_facts::Facts;

@@ -1,19 +1,13 @@
 //! Laws of the definitions, each the contract of a function that does nothing.
-ghost use Rattle.bag_stages.specs.DeclarationStage.{DeclarationFaultsAreListed};
-ghost use Rattle.bag_stages.specs.DeclarationStage.{DeclarationFaultsAreOfStageOne};
-ghost use Rattle.bag_stages.specs.FetchStage.{FetchFaultsAreListed, FetchFaultsAreOfStageFour};
-ghost use Rattle.bag_stages.specs.ManifestsStage.{ManifestFaultsAreListed};
-ghost use Rattle.bag_stages.specs.ManifestsStage.{ManifestFaultsAreOfStageFive};
-ghost use Rattle.bag_stages.specs.MetadataStage.{MetadataFaultsAreListed};
-ghost use Rattle.bag_stages.specs.MetadataStage.{MetadataFaultsAreOfStageThree};
-ghost use Rattle.bag_stages.specs.PartsStage.{PartFaultsAreListed, PartFaultsAreOfStageTwo};
-ghost use Rattle.bag_stages.specs.Clashes.{AlikeIsAnEquivalence};
+ghost use Rattle.bag_stages.specs.Laws.{DeclarationFaultsAreListed, DeclarationFaultsAreOfStageOne};
+ghost use Rattle.bag_stages.specs.Laws.{FetchFaultsAreListed, FetchFaultsAreOfStageFour};
+ghost use Rattle.bag_stages.specs.Laws.{ManifestFaultsAreListed, ManifestFaultsAreOfStageFive};
+ghost use Rattle.bag_stages.specs.Laws.{MetadataFaultsAreListed, MetadataFaultsAreOfStageThree};
+ghost use Rattle.bag_stages.specs.Laws.{PartFaultsAreListed, PartFaultsAreOfStageTwo};
+ghost use Rattle.bag_stages.specs.Laws.{AlikeIsAnEquivalence, CompletenessFaultsAreListed};
+ghost use Rattle.bag_stages.specs.Laws.{CompletenessFaultsAreOfStageSix, NamesByKind};
+ghost use Rattle.bag_stages.specs.Laws.{ValidityFaultsAreListed, ValidityFaultsAreOfStageSeven};
 ghost use Rattle.bag_stages.specs.ClashStage.{ClashesAndLeastsAreAllNames};
-ghost use Rattle.bag_stages.specs.CompletenessStage.{CompletenessFaultsAreListed};
-ghost use Rattle.bag_stages.specs.CompletenessStage.{CompletenessFaultsAreOfStageSix};
-ghost use Rattle.bag_stages.specs.SummedFiles.{NamesByKind};
-ghost use Rattle.bag_stages.specs.ValidityStage.{ValidityFaultsAreListed};
-ghost use Rattle.bag_stages.specs.ValidityStage.{ValidityFaultsAreOfStageSeven};
 
 /// The faults of the declaration are of the first stage.
 pub fn declaration_faults_are_of_stage_one()

@@ -6,7 +6,7 @@ ghost use Rattle.bag_text.specs.Path.{is_payload_path};
 ghost use Rattle.bag_text.specs.Text.{text_cmp};
 ghost use Rattle.bag_text.specs.declared.alg.Alg.{Alg as AlgValue};
 ghost use Rattle.bag_facts.specs.FaultOrder.{fault_cmp};
-ghost use Rattle.bag_facts.specs.Facts.{OfBag};
+ghost use Rattle.bag_facts.specs.FactsOfBag.{OfBag};
 ghost use Rattle.bag_facts.specs.TagFacts.{AreByPath};
 ghost use Rattle.bag_facts.specs.Wanted.{paths_of};
 ghost use Rattle.bag_stages.specs.CompletenessFaults.{IsFileLeftOutByAll, IsFileLeftOutByOne};

@@ -1,11 +1,12 @@
 //! Stage 5: manifests.
 ghost use Rattle.std.specs.Prelude.{◌≡◌, IfOk};
 ghost use Rattle.std.specs.List.Sorted.{IsStrictlySortedBy};
-ghost use Rattle.bag_text.specs.Order.{IsListOf, IsOnly};
+ghost use Rattle.bag_text.specs.Order.{IsListOf};
+ghost use Rattle.bag_text.specs.Only.{IsOnly};
 ghost use Rattle.bag_text.specs.Text.{text_cmp};
 ghost use Rattle.bag_tree.specs.Bag.{Bag};
 ghost use Rattle.bag_facts.specs.FaultOrder.{fault_cmp};
-ghost use Rattle.bag_facts.specs.Facts.{IsFactsOf, IsSaidOfTagFile};
+ghost use Rattle.bag_facts.specs.FactsOfBag.{IsFactsOf, IsSaidOfTagFile};
 ghost use Rattle.bag_facts.specs.TagFacts.{AreByPath};
 ghost use Rattle.bag_facts.specs.Wanted.{paths_of};
 ghost use Rattle.bag_facts.specs.declared.tag_facts.TagFacts.TheVariants as known;

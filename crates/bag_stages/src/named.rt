@@ -1,7 +1,7 @@
 //! Whether payload manifests name a path.
 ghost use Rattle.std.specs.Prelude.{◌↔◌, IsTrue};
 ghost use Rattle.bag_read.specs.declared.kind.Kind.TheVariants.{Payload};
-ghost use Rattle.bag_facts.specs.Facts.{OfBag};
+ghost use Rattle.bag_facts.specs.FactsOfBag.{OfBag};
 ghost use Rattle.bag_stages.specs.LeftOut.{IsNamedBySome};
 ghost use Rattle.bag_stages.specs.TagFiles.{Names};
 

@@ -5,7 +5,7 @@ ghost use Rattle.bag_text.specs.Order.{IsListOf};
 ghost use Rattle.bag_text.specs.Path.{is_payload_path};
 ghost use Rattle.bag_text.specs.Text.{text_cmp};
 ghost use Rattle.bag_read.specs.declared.kind.Kind.TheVariants.{Payload};
-ghost use Rattle.bag_facts.specs.Facts.{OfBag};
+ghost use Rattle.bag_facts.specs.FactsOfBag.{OfBag};
 ghost use Rattle.bag_facts.specs.TagFacts.{entry_paths};
 ghost use Rattle.bag_facts.specs.Wanted.{paths_of};
 ghost use Rattle.bag_stages.specs.TagFiles.{Names};

@@ -2,7 +2,8 @@
 ghost use Rattle.std.specs.Prelude.{◌≡◌, ◌≢◌, ◌∷◌, ◌++◌, ◌↔◌, ℕ, List, [], IsTrue, IfOk};
 ghost use Rattle.std.specs.Prelude.{MatchOption, Some, false, if◌then◌else◌};
 ghost use Rattle.std.specs.List.Sorted.{IsStrictlySortedBy};
-ghost use Rattle.bag_text.specs.Order.{IsListOf, IsOnly};
+ghost use Rattle.bag_text.specs.Order.{IsListOf};
+ghost use Rattle.bag_text.specs.Only.{IsOnly};
 ghost use Rattle.bag_text.specs.Text.{text_cmp};
 ghost use Rattle.bag_text.specs.declared.code.Code.TheVariants.{NoPayloadFolder, NoPayloadManifest};
 ghost use Rattle.bag_read.specs.ManifestName.{is_alg_text, manifest_name};
@@ -14,7 +15,7 @@ ghost use Rattle.bag_facts.specs.Wanted.{paths_of};
 ghost use Rattle.bag_stages.specs.FileFaults.{AreTagsOf, ListsPayloadManifest, HasTextless};
 ghost use Rattle.bag_stages.specs.FileFaults.{IsUnsupported, IsFileFault, IsFaultAmong};
 ghost use Rattle.bag_stages.specs.PartsStage.{IsOfParts};
-ghost use Rattle.bag_stages.specs.FaultFields.{of_bag};
+ghost use Rattle.bag_stages.specs.FaultPlaces.{of_bag};
 ghost use Rattle.bag_stages.specs.TagFiles.{HasNoText};
 ghost use Rattle.bag_stages.specs.Found.{AreFaultsOf};
 

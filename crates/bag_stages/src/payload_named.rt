@@ -1,6 +1,6 @@
 //! What payload manifests say of the payload's files that isn't so.
 ghost use Rattle.std.specs.Prelude.{◌≡◌, ◌↔◌, IfOk, IsTrue, MatchOption};
-ghost use Rattle.bag_facts.specs.Facts.{OfBag};
+ghost use Rattle.bag_facts.specs.FactsOfBag.{OfBag};
 ghost use Rattle.bag_facts.specs.TagFacts.{entry_paths};
 ghost use Rattle.bag_facts.specs.Wanted.{paths_of};
 ghost use Rattle.bag_stages.specs.CompletenessFaults.{IsWrong, IsWrongOfSome};

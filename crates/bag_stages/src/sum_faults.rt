@@ -1,6 +1,7 @@
 //! Stage 7: digests that differ.
 ghost use Rattle.std.specs.Prelude.{◌≡◌, ℕ, List, Some, IfOk};
-ghost use Rattle.bag_tree.specs.Digest.{digest, sum_at};
+ghost use Rattle.bag_tree.specs.Digest.{digest};
+ghost use Rattle.bag_tree.specs.DigestsOf.{sum_at};
 ghost use Rattle.bag_stages.specs.SumFaults.{differing, differing_code, faults_of_bytes};
 ghost use Rattle.bag_stages.specs.SumFaults.{sum_differs, AreSumsBy};
 ghost use Rattle.bag_stages.specs.ValidityStage.{expected_and_found};

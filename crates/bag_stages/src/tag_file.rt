@@ -1,7 +1,7 @@
 //! Faults of one tag file: of its lines, and of it as a whole.
 ghost use Rattle.std.specs.Prelude.{◌≡◌, [], IfOk, map, if◌then◌else◌};
 ghost use Rattle.bag_facts.specs.FaultAt.{of_path};
-ghost use Rattle.bag_stages.specs.FaultFields.{in_file};
+ghost use Rattle.bag_stages.specs.FaultPlaces.{in_file};
 
 use bag_facts::Fault;
 use bag_read::LineFault;

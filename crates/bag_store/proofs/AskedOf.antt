@@ -8,7 +8,8 @@ use Rattle.std.proofs.lemmas.Bool.{or_left, or_right}
 use Rattle.bag_tree.specs.Asked.{Adds, AsksFolder, AsksMove, AsksRename, AsksSyncs, has_durable_folders}
 use Rattle.bag_tree.specs.declared.event.DeviceEvent.{DeviceEvent}
 use Rattle.bag_tree.specs.declared.event.DeviceEvent.TheVariants as event
-use Rattle.bag_disk.specs.Disk.{DiskState, Nodes, OnlyLooks, OnlySyncs}
+use Rattle.bag_disk.specs.Disk.{DiskState, Nodes}
+use Rattle.bag_disk.specs.DiskNodes.{OnlyLooks, OnlySyncs}
 use Rattle.bag_disk.specs.WritableDisk.{Notes}
 use Rattle.bag_disk.specs.declared.refusal.Refusal.{Refusal}
 use Rattle.bag_store.specs.Asking.{AsksOfDisk, HasDurableFolders, SyncsBoth}

@@ -25,7 +25,7 @@ use Rattle.bag_store.specs.declared.standing.Standing.TheVariants as standing
 use Rattle.bag_store.proofs.BaseNames.{base_reached, path_in_is_under, target_reached}
 use Rattle.bag_tree.proofs.Parents.{base_not_under}
 use Rattle.bag_store.specs.Changing.{IsMovedIn, IsNameTaken}
-use Rattle.bag_disk.specs.Disk.{OnlyLooks}
+use Rattle.bag_disk.specs.DiskNodes.{OnlyLooks}
 use Rattle.bag_tree.specs.Moved.{ByPath}
 
 pub same_bag : (a b : Bag) → ((path : List ℕ) → file a path ≡ file b path)

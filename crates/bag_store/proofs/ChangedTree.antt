@@ -8,7 +8,7 @@ use Rattle.bag_store.proofs.Common.{count_after, Begins, Makes, failures_after, 
 use Rattle.std.specs.FinMap as map
 use Rattle.bag_tree.specs.declared.answer.Answer.{Answer}
 use Rattle.bag_tree.specs.Steps as step
-use Rattle.bag_disk.specs.Disk.{OnlySyncs, SameDisk}
+use Rattle.bag_disk.specs.DiskNodes.{OnlySyncs, SameDisk}
 use Rattle.bag_store.proofs.AskedOf.{looked}
 use Rattle.bag_store.proofs.EntryCounts.{as_many_moved, more_put}
 use Rattle.bag_store.proofs.BagSteps.{came_from, bag_moved_in, bag_renamed, file_made, folder_made, free_not_taken}

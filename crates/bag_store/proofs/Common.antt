@@ -18,8 +18,10 @@ pub use Rattle.bag_disk.proofs.Plain.{all_plain, other_not_plain, other_seen, sp
 pub use Rattle.bag_disk.proofs.Refusals.{counted_since, due_at_known, due_for, due_in_move, due_in_step, move_due_for}
 pub use Rattle.bag_disk.proofs.Refusals.{step_due_for}
 pub use Rattle.bag_disk.specs.BagBelow.{bag_is_what_stands, bag_of_disk, file_of_disk, folder_of_disk}
-pub use Rattle.bag_disk.specs.Disk.{DiskState, HasSpecial, IsDisk, IsReachedByFolders, Node, Nodes, OnlyLooks, bytes_of}
-pub use Rattle.bag_disk.specs.Disk.{entry_count, files_and_folders, is_folder_node, is_plain, is_plain_node, node}
+pub use Rattle.bag_disk.specs.Disk.{DiskState, Node, Nodes, bytes_of}
+pub use Rattle.bag_disk.specs.DiskNodes.{HasSpecial, IsDisk, IsReachedByFolders, OnlyLooks, node}
+pub use Rattle.bag_disk.specs.Disk.{entry_count, files_and_folders, is_folder_node, is_plain}
+pub use Rattle.bag_disk.specs.Disk.{is_plain_node}
 pub use Rattle.bag_disk.specs.Disk.Node.{File, Folder}
 pub use Rattle.bag_disk.specs.DiskBag.{bag_of}
 pub use Rattle.bag_disk.specs.Location.{path_in}
@@ -33,11 +35,13 @@ pub use Rattle.bag_tree.proofs.SameText.{exact_texts, one_text, text_itself}
 pub use Rattle.bag_tree.proofs.Within.{itself_within, not_within, within_cases}
 pub use Rattle.bag_tree.specs.Bag.{Bag, file, files_of, has_folder}
 pub use Rattle.bag_tree.specs.Changes.{LeavesPartialFile, AppliesStep, IsUnchanged, MayRefuseChange}
-pub use Rattle.bag_tree.specs.Moved.{MovesAll, is_within, moved, renamed, with_renamed}
+pub use Rattle.bag_tree.specs.Moved.{is_within, moved, renamed, with_renamed}
+pub use Rattle.bag_tree.specs.MovesAll.{MovesAll}
 pub use Rattle.bag_tree.specs.Steps.{create, has_within, is_taken, lacks_folder, lacks_source, make_folder}
 pub use Rattle.bag_tree.specs.Tree.{Keeps, MayRefuse, most_entries}
 pub use Rattle.bag_store.specs.Answered.{count_after, fault_answering}
 pub use Rattle.bag_store.specs.Changing.{IsMovedIn, IsRenamed}
-pub use Rattle.bag_store.specs.FileTree.{ReportsDisk, file_state_after}
+pub use Rattle.bag_store.specs.FileTree.{file_state_after}
+pub use Rattle.bag_store.specs.FileTreeCalls.{ReportsDisk}
 pub use Rattle.bag_store.specs.Standing.{IsStanding}
 pub use Rattle.bag_store.specs.Writing.{Begins, HasWritten, HasWrittenSome, Makes}

@@ -7,7 +7,8 @@ use Rattle.bag_tree.proofs.Events.{not_base, synced_front}
 use Rattle.bag_tree.specs.Asked.{Adds, AreSyncs, AsksFile, AsksMove, AsksSyncs, MayBegin, has_durable_folders, is_named}
 use Rattle.bag_tree.specs.Cut.{is_synced}
 use Rattle.bag_tree.specs.declared.event.DeviceEvent.{DeviceEvent}
-use Rattle.bag_disk.specs.Disk.{DiskState, OnlyLooks}
+use Rattle.bag_disk.specs.Disk.{DiskState}
+use Rattle.bag_disk.specs.DiskNodes.{OnlyLooks}
 use Rattle.bag_store.specs.Asking.{HasDurableFolders}
 use Rattle.bag_store.specs.Writing.{Begins}
 use Rattle.bag_tree.specs.declared.event.DeviceEvent.TheVariants.{MakeFolder, Rename, Create, Write, Sync, SyncFolder}

@@ -6,7 +6,8 @@ use Rattle.bag_tree.proofs.Added.{nothing_added}
 use Rattle.bag_tree.specs.Asked.{Adds, AsksFile, MayBegin, joined}
 use Rattle.bag_tree.specs.declared.event.DeviceEvent.{DeviceEvent}
 use Rattle.bag_tree.specs.declared.event.DeviceEvent.TheVariants as event
-use Rattle.bag_disk.specs.Disk.{DiskState, OnlyLooks}
+use Rattle.bag_disk.specs.Disk.{DiskState}
+use Rattle.bag_disk.specs.DiskNodes.{OnlyLooks}
 use Rattle.bag_disk.specs.WritableDisk.{Notes}
 use Rattle.bag_store.specs.Asking.{FillsFile, FillsPart, AsksOfDisk, WritesPieces}
 use Rattle.bag_store.proofs.AskedOf.{Answer, NotesIt}

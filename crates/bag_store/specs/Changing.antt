@@ -1,6 +1,7 @@
 -- When an honest disk is in the way of a step, and what a step makes of it.
 use Rattle.std.specs.Prelude.{ℕ, ◌≡◌, true, IsTrue, List, None, Some}
-use Rattle.bag_disk.specs.Disk.{DiskState, Nodes, node}
+use Rattle.bag_disk.specs.Disk.{DiskState, Nodes}
+use Rattle.bag_disk.specs.DiskNodes.{node}
 use Rattle.bag_disk.specs.Disk.Node.{Folder}
 use Rattle.bag_disk.specs.WritableDisk.{Moves}
 use Rattle.bag_disk.specs.DiskBag.{bag_of}

@@ -15,7 +15,6 @@ pub use Rattle.bag_memory.specs.Skewed
 pub use Rattle.bag_memory.specs.TreeCalls
 pub use Rattle.bag_tree.specs.Asked
 pub use Rattle.bag_tree.specs.Bag
-pub use Rattle.bag_tree.specs.Cause
 pub use Rattle.bag_tree.specs.Changes
 pub use Rattle.bag_tree.specs.Cut
 pub use Rattle.bag_tree.specs.Digest
@@ -34,5 +33,6 @@ pub mod Answered
 pub mod Asking
 pub mod Changing
 pub mod FileTree
+pub mod FileTreeCalls
 pub mod Standing
 pub mod Writing

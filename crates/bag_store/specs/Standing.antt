@@ -1,6 +1,7 @@
 -- What a look at a path finds.
 use Rattle.std.specs.Prelude.{ℕ, ◌≡◌, List, Option, Some, None}
-use Rattle.bag_disk.specs.Disk.{Nodes, node}
+use Rattle.bag_disk.specs.Disk.{Nodes}
+use Rattle.bag_disk.specs.DiskNodes.{node}
 use Rattle.bag_disk.specs.Disk.Node.{Folder as FolderNode}
 use Rattle.bag_disk.specs.WritableDisk.{HasFileNode}
 use Rattle.bag_store.specs.declared.standing.Standing.{Standing}

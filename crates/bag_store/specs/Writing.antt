@@ -1,6 +1,7 @@
 -- What was written to a file.
 use Rattle.std.specs.Prelude.{ℕ, ◌≡◌, IsTrue, List, Option, None, Some, take}
-use Rattle.bag_disk.specs.Disk.{DiskState, Nodes, node}
+use Rattle.bag_disk.specs.Disk.{DiskState, Nodes}
+use Rattle.bag_disk.specs.DiskNodes.{node}
 use Rattle.bag_disk.specs.WritableDisk.{Appends, ClosesOpenFile, HasFileNode, with_file_node}
 
 -- these bytes were put after those of the file that is being written, and nothing was opened

@@ -1,6 +1,6 @@
 //! What a tree has answered.
 ghost use Rattle.std.specs.Prelude.{◌≡◌, ◌≤◌, ◌+◌, IsTrue};
-ghost use Rattle.bag_tree.specs.Tree.{answer_of_read};
+ghost use Rattle.bag_tree.specs.FileReads.{answer_of_read};
 ghost use Rattle.bag_tree.specs.declared.answer.Answer.TheVariants.{Given, Refused, Unlisted};
 ghost use Rattle.bag_store.specs.Answered.{fault_answering, count_after, failure_or_memory};
 ghost use Rattle.bag_store.specs.Answered.{one_more_failure, last_count};

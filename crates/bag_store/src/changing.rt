@@ -4,7 +4,7 @@ ghost use Rattle.bag_text.specs.Path.{is_base_name, under};
 ghost use Rattle.bag_tree.specs.Asked.{AsksFolder, AsksMove, AsksRename, AsksSyncs};
 ghost use Rattle.bag_tree.specs.Steps.{lacks_folder, lacks_source};
 ghost use Rattle.bag_tree.specs.declared.event.DeviceEvent.TheVariants.{Rename};
-ghost use Rattle.bag_disk.specs.Disk.{Has, OnlyLooks, OnlySyncs};
+ghost use Rattle.bag_disk.specs.DiskNodes.{Has, OnlyLooks, OnlySyncs};
 ghost use Rattle.bag_disk.specs.WritableDisk.{ClosesOpenFile, MakesFolderNode, Moves, Notes};
 ghost use Rattle.bag_store.specs.Asking.{AsksOfDisk, HasDurableFolders};
 ghost use Rattle.bag_store.specs.Changing.{HasFolderInTheWay, HasTarget, IsRenamed, IsMovedIn};

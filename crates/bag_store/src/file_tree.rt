@@ -37,7 +37,8 @@ pub struct FileTree<D: Disk> {
 }
 
 impl<D: Disk + Drop> FileTree<D> {
-    ghost use Rattle.bag_store.specs.FileTree.{disk_of, tree_state};
+    ghost use Rattle.bag_store.specs.FileTree.{tree_state};
+    ghost use Rattle.bag_store.specs.FileTreeCalls.{disk_of};
 
     /// The tree over a disk, at which it doesn't look yet.
     pub fn over(alloc: Global, disk: D) -> FileTree<D>
@@ -65,7 +66,7 @@ impl<D: Disk + Drop> Tree for FileTree<D> {
     ghost use Rattle.bag_disk.specs.BagBelow.{bag_of_disk};
     ghost use Rattle.bag_disk.specs.FolderWalk.{Contradiction};
     ghost use Rattle.bag_memory.specs.TreeCalls.{ListCall, OpenCall, ReadCall};
-    ghost use Rattle.bag_store.specs.FileTree.{ReportsDisk, disk_of, state_of};
+    ghost use Rattle.bag_store.specs.FileTreeCalls.{ReportsDisk, disk_of, state_of};
 
     ghost state = { state_of D.state };
 
@@ -124,9 +125,9 @@ impl<D: Disk + Drop> Tree for FileTree<D> {
 impl<D: WritableDisk + Drop> WriteTree for FileTree<D> {
     ghost use Rattle.std.specs.Prelude.{◌≢◌, IsTrue, IfErr};
     ghost use Rattle.bag_text.specs.Path.{is_base_name};
-    ghost use Rattle.bag_tree.specs.Changes.{Creates, MakesFolder, MovesIn, RenamesFolder};
+    ghost use Rattle.bag_tree.specs.ChangeCalls.{Creates, MakesFolder, MovesIn, RenamesFolder};
     ghost use Rattle.bag_store.specs.Changing.{HasFolderInTheWay};
-    ghost use Rattle.bag_store.specs.FileTree.{ReportsDisk, disk_of, state_of};
+    ghost use Rattle.bag_store.specs.FileTreeCalls.{ReportsDisk, disk_of, state_of};
 
     fn make_folder(&mut self, name: &str) -> Result<(), TreeFault>
         requires { IsTrue (is_base_name name.now) }
@@ -205,7 +206,8 @@ impl<D: WritableDisk + Drop> WriteTree for FileTree<D> {
 impl<R: Files + AllocGlobal + Clone + Drop> FileTree<SystemDisk<R>> {
     ghost use Rattle.std.specs.Prelude.{[], IfOk, false};
     ghost use Rattle.bag_disk.specs.SystemDisk.{base_of, system_state};
-    ghost use Rattle.bag_store.specs.FileTree.{disk_of, tree_state};
+    ghost use Rattle.bag_store.specs.FileTree.{tree_state};
+    ghost use Rattle.bag_store.specs.FileTreeCalls.{disk_of};
 
     /// The tree below a base folder of the system's disk, at which it doesn't look yet.
     pub fn at(rt: R, alloc: Global, base: &str) -> Result<FileTree<SystemDisk<R>>, AllocError>

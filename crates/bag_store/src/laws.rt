@@ -1,5 +1,5 @@
 //! Laws of the definitions, each the contract of a function that does nothing.
-ghost use Rattle.bag_disk.specs.DiskBag.{BagIsWhatStands};
+ghost use Rattle.bag_disk.specs.Laws.{BagIsWhatStands};
 
 pub use bag_memory::laws::one_call_is_refused;
 pub use bag_tree::laws::listings_are_of_the_bag;

@@ -2,7 +2,7 @@
 ghost use Rattle.std.specs.Prelude.{◌≡◌, IfErr, IfOk, IsTrue, None, OnOk, false};
 ghost use Rattle.bag_text.specs.Path.{is_base_name, is_path};
 ghost use Rattle.bag_tree.specs.Steps.{is_taken};
-ghost use Rattle.bag_disk.specs.Disk.{HasSpecial, IsReachedByFolders, OnlyLooks, node};
+ghost use Rattle.bag_disk.specs.DiskNodes.{HasSpecial, IsReachedByFolders, OnlyLooks, node};
 ghost use Rattle.bag_store.specs.Changing.{IsNameTaken};
 ghost use Rattle.bag_disk.specs.DiskBag.{bag_of};
 ghost use Rattle.bag_disk.specs.Refusal.{IsCounted, IsDue, IsDueInStep, MeetsSpecial};

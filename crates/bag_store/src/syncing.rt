@@ -2,7 +2,7 @@
 ghost use Rattle.std.specs.Prelude.{◌≡◌, IfErr, IsTrue, List, OnErr, OnOk, Some, is_some, true, ℕ};
 ghost use Rattle.bag_tree.specs.Asked.{AsksSyncs};
 ghost use Rattle.bag_tree.specs.declared.event.DeviceEvent.TheVariants.{Sync, SyncFolder};
-ghost use Rattle.bag_disk.specs.Disk.{OnlyLooks, OnlySyncs};
+ghost use Rattle.bag_disk.specs.DiskNodes.{OnlyLooks, OnlySyncs};
 ghost use Rattle.bag_disk.specs.Refusal.{IsCounted, IsDueInStep};
 ghost use Rattle.bag_disk.specs.WritableDisk.{ClosesOpenFile, Notes};
 ghost use Rattle.bag_store.specs.Asking.{AsksOfDisk, HasDurableFolders, SyncsBoth};

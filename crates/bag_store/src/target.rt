@@ -2,7 +2,7 @@
 ghost use Rattle.std.specs.Prelude.{◌≡◌, ◌↔◌, Any, IsTrue, true};
 ghost use Rattle.bag_tree.specs.Moved as moving;
 ghost use Rattle.bag_tree.specs.Steps as step;
-ghost use Rattle.bag_disk.specs.Disk.{OnlyLooks};
+ghost use Rattle.bag_disk.specs.DiskNodes.{OnlyLooks};
 ghost use Rattle.bag_disk.specs.DiskBag.{bag_of};
 ghost use Rattle.bag_disk.specs.Refusal.{IsDueInMove, failures_after};
 

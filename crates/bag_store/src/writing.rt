@@ -3,7 +3,7 @@ ghost use Rattle.std.specs.Prelude.{◌≡◌, ◌⊎◌, IfErr, IsTrue, OnErr, 
 ghost use Rattle.bag_text.specs.Path.{is_base_name};
 ghost use Rattle.bag_tree.specs.Asked.{AsksFile, MayBegin};
 ghost use Rattle.bag_store.specs.Asking.{FillsFile, FillsPart, AsksOfDisk, HasFilled, WritesPieces};
-ghost use Rattle.bag_disk.specs.Disk.{OnlyLooks};
+ghost use Rattle.bag_disk.specs.DiskNodes.{OnlyLooks};
 ghost use Rattle.bag_store.specs.Changing.{IsNameTaken};
 ghost use Rattle.bag_disk.specs.Refusal.{IsCounted, IsDueInStep, MeetsSpecial};
 ghost use Rattle.bag_store.specs.Writing.{Begins, HasWritten, HasWrittenSome, Makes};

@@ -37,9 +37,11 @@ pub use Rattle.bag_read.specs.declared.kind.Kind.TheVariants.{Payload, Tag}
 pub use Rattle.bag_read.specs.declared.line_fault.LineFault.{LineFault}
 pub use Rattle.bag_text.proofs.SpellingLaws.{read_again, strict_spellings, unescaped_plain}
 pub use Rattle.bag_text.specs.LineEnd.{is_line_end}
-pub use Rattle.bag_text.specs.Lines.{HasNoEnd, IsLine, line_feed, lines, lines_of_file}
+pub use Rattle.bag_text.specs.Lines.{IsLine, line_feed, lines, lines_of_file}
+pub use Rattle.bag_text.specs.Laws.{HasNoEnd}
 pub use Rattle.bag_text.specs.Path.{is_path, is_payload_path}
-pub use Rattle.bag_text.specs.Spelling.{both, escape, escape_one, percent, unescaped_strictly}
+pub use Rattle.bag_text.specs.Spelling.{both, percent, unescaped_strictly}
+pub use Rattle.bag_text.specs.Escape.{escape, escape_one}
 pub use Rattle.bag_text.specs.Text.{IsText, ends_with_blank, has_mark, is_blank, is_some_blank, text_cmp, trim}
 pub use Rattle.bag_text.specs.declared.alg.Alg.{Alg}
 pub use Rattle.bag_text.specs.declared.code.Code.{Code}
@@ -47,6 +49,9 @@ pub use Rattle.bag_text.specs.declared.code.Code.TheVariants.{InfoLine, NamedAga
 pub use Rattle.bag_text.specs.declared.rules.Rules.TheVariants.{V10}
 pub use Rattle.bag_tags.specs.Distinct.{TextsAscend, lent_texts}
 pub use Rattle.bag_tags.specs.Element.{NewElement, has_outer_blank, info_line, info_text, is_bad_element}
-pub use Rattle.bag_tags.specs.Entry.{NamesEachOnce, NewEntry, begins_with_mark, entry_line, is_bad_digest, is_bad_entry}
-pub use Rattle.bag_tags.specs.Entry.{is_bad_path, is_lower_hex_digit, is_tag_manifest, manifest_text, may_name, paths}
+pub use Rattle.bag_tags.specs.Entry.{NewEntry, entry_line}
+pub use Rattle.bag_tags.specs.Writable.{NamesEachOnce, begins_with_mark, is_bad_digest}
+pub use Rattle.bag_tags.specs.Writable.{is_bad_entry, is_bad_path, is_lower_hex_digit}
+pub use Rattle.bag_tags.specs.Writable.{is_tag_manifest, may_name, paths}
+pub use Rattle.bag_tags.specs.Entry.{manifest_text}
 pub use Rattle.bag_tags.specs.ReadAgain.{DeclarationIsReadAgain, InfoIsReadAgain, ManifestIsReadAgain, StandsOn}

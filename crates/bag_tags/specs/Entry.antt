@@ -1,18 +1,7 @@
 -- The entries that are written to a manifest (RFC 8493, 2.1.3 and 2.2.1).
-use Rattle.std.specs.Prelude.{ℕ, ◌≡◌, ◌==◌, ◌&&◌, ◌||◌, Bool, false, not, List, ◌∷◌, [], ◌++◌}
-use Rattle.std.specs.Prelude.{Option, Some, None, length, bytes_eq, codes, flat_map, map, slice_get}
-use Rattle.std.specs.Char.{is_ascii_hexdigit, is_ascii_uppercase}
-use Rattle.std.specs.List.{list_all, list_any, IsDistinct}
-use Rattle.std.specs.Str.{byte}
-use Rattle.bag_text.specs.Alg.{hex_len}
+use Rattle.std.specs.Prelude.{ℕ, List, ◌∷◌, [], ◌++◌, codes, flat_map}
 use Rattle.bag_text.specs.Lines.{line_feed}
-use Rattle.bag_text.specs.Path.{is_path, is_payload_path}
-use Rattle.bag_text.specs.Spelling.{escape}
-use Rattle.bag_text.specs.Text.{is_blank}
-use Rattle.bag_text.specs.declared.alg.Alg.{Alg}
-use Rattle.bag_read.specs.ManifestName.{is_manifest_name}
-use Rattle.bag_read.specs.declared.kind.Kind.{Kind}
-use Rattle.bag_read.specs.declared.kind.Kind.TheVariants.{Payload, Tag}
+use Rattle.bag_text.specs.Escape.{escape}
 
 -- a digest, and the path of the file that it is of
 abbrev pub NewEntry : Type 0
@@ -25,46 +14,3 @@ entry_line entry = entry.0 ++ codes "  " ++ escape entry.1
 -- a line for each entry, in their order
 abbrev pub manifest_text : List NewEntry → List ℕ
 manifest_text entries = flat_map (λ entry. entry_line entry ++ line_feed ∷ []) entries
-
-abbrev pub is_lower_hex_digit : ℕ → Bool
-is_lower_hex_digit c = is_ascii_hexdigit c && not (is_ascii_uppercase c)
-
--- a text that isn't lower-case hex of the algorithm's length
-abbrev pub is_bad_digest : Alg → List ℕ → Bool
-is_bad_digest alg t = not (length t == hex_len alg) || not (list_all is_lower_hex_digit t)
-
-abbrev pub is_tag_manifest : List ℕ → Bool
-is_tag_manifest t = is_manifest_name Tag t
-
--- a payload manifest names payload files, and a tag manifest other files, but no tag manifest
-abbrev pub may_name : Kind → List ℕ → Bool
-may_name Payload t = is_payload_path t
-may_name Tag t = is_path t && not (is_payload_path t) && not (is_tag_manifest t)
-
-abbrev pub is_some_mark : Option ℕ → Bool
-is_some_mark None = false
-is_some_mark (Some c) = is_blank c || c == byte "*"
-
--- a blank or a * at the front, which a reader drops before a path
-abbrev pub begins_with_mark : List ℕ → Bool
-begins_with_mark t = is_some_mark (slice_get t 0)
-
--- a text that a manifest of this kind may not name, or that doesn't stand for itself
-abbrev pub is_bad_path : Kind → List ℕ → Bool
-is_bad_path kind t = not (may_name kind t) || begins_with_mark t
-
--- an entry that can't be written
-abbrev pub is_bad_entry : Kind → Alg → NewEntry → Bool
-is_bad_entry kind alg entry = is_bad_digest alg entry.0 || is_bad_path kind entry.1
-
-abbrev pub paths : List NewEntry → List (List ℕ)
-paths entries = map (λ entry. entry.1) entries
-
--- no path stands twice
-abbrev pub NamesEachOnce : List NewEntry → Type 0
-NamesEachOnce entries = IsDistinct bytes_eq (paths entries)
-
--- entries that can be written: each by itself, and each path once
-abbrev pub CanWrite : Kind → Alg → List NewEntry → Type 0
-CanWrite kind alg entries =
-    (list_any (is_bad_entry kind alg) entries ≡ false) × NamesEachOnce entries

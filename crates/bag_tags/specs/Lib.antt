@@ -4,3 +4,4 @@ pub mod Element
 pub mod Entry
 pub mod Line
 pub mod ReadAgain
+pub mod Writable

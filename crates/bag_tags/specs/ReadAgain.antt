@@ -15,7 +15,8 @@ use Rattle.bag_read.specs.declared.kind.Kind.{Kind}
 use Rattle.bag_read.specs.declared.manifest.ManifestEntry.{ManifestEntry}
 use Rattle.bag_tags.specs.Declaration.{declaration_text}
 use Rattle.bag_tags.specs.Element.{NewElement, info_text, is_bad_element}
-use Rattle.bag_tags.specs.Entry.{NewEntry, manifest_text, CanWrite}
+use Rattle.bag_tags.specs.Entry.{NewEntry, manifest_text}
+use Rattle.bag_tags.specs.Writable.{CanWrite}
 
 -- the declaration is read as version 1.0 and UTF-8, with no fault
 abbrev pub DeclarationIsReadAgain : Type 0

@@ -1,7 +1,7 @@
 //! Whether a list names each path once.
 ghost use Rattle.std.specs.Prelude.{◌≡◌, ◌↔◌, IfOk, IsTrue};
 ghost use Rattle.bag_tags.specs.Distinct.{TextsAscend, lent_texts};
-ghost use Rattle.bag_tags.specs.Entry as spec;
+ghost use Rattle.bag_tags.specs.Writable as spec;
 
 use bag_text::Text;
 use std::alloc::{AllocError, Global};

@@ -1,7 +1,7 @@
 //! Entries that can't be written to a manifest (RFC 8493, 2.1.3 and 2.2.1).
 ghost use Rattle.std.specs.Prelude.{◌≡◌};
 ghost use Rattle.std.specs.List.{list_all};
-ghost use Rattle.bag_tags.specs.Entry as spec;
+ghost use Rattle.bag_tags.specs.Writable as spec;
 
 use bag_read::{Kind, manifest_alg};
 use bag_text::{Alg, Text, check_path, is_blank, is_payload};

@@ -3,6 +3,7 @@ ghost use Rattle.std.specs.Prelude.{◌≡◌, IfOk, OnErr, OnOk, IsErrOf, IsTru
 ghost use Rattle.std.specs.Prelude.{string_bytes};
 ghost use Rattle.std.specs.List.{list_any};
 ghost use Rattle.bag_tags.specs.Entry as spec;
+ghost use Rattle.bag_tags.specs.Writable as writable;
 ghost use Rattle.bag_tags.specs.Line.{AddsLine, AddsPartOfLine};
 
 use crate::WriteFault;
@@ -28,10 +29,10 @@ pub fn write_manifest(
     alg: Alg,
     entries: &[(Text, Text)],
 ) -> Result<Vec<u8>, WriteFault>
-    ensures text { IfOk result (λ bytes. spec.CanWrite kind alg entries.now
+    ensures text { IfOk result (λ bytes. writable.CanWrite kind alg entries.now
         × (bytes.items ≡ spec.manifest_text entries.now)) }
-    ensures bad { IsErrOf result WriteFault.BadValue → ¬ (spec.CanWrite kind alg entries.now) }
-    ensures bad_entry { IsTrue (list_any (spec.is_bad_entry kind alg) entries.now)
+    ensures bad { IsErrOf result WriteFault.BadValue → ¬ (writable.CanWrite kind alg entries.now) }
+    ensures bad_entry { IsTrue (list_any (writable.is_bad_entry kind alg) entries.now)
         → IsErrOf result WriteFault.BadValue }
 {
     if has_bad_entry(kind, alg, entries) || !are_paths_distinct(alloc, entries)? {
@@ -42,7 +43,7 @@ pub fn write_manifest(
 }
 
 fn has_bad_entry(kind: Kind, alg: Alg, entries: &[(Text, Text)]) -> bool
-    ensures { result ≡ list_any (spec.is_bad_entry kind alg) entries.now }
+    ensures { result ≡ list_any (writable.is_bad_entry kind alg) entries.now }
 {
     entries.iter().any(|entry| is_bad_entry(kind, alg, entry))
 }

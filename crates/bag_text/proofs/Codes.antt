@@ -1,7 +1,9 @@
 -- Codes in the table of codes are found by their numbers.
 use Rattle.bag_text.proofs.Common.{Bool, Bor, List, None, Option, Some, [], ap, arith, find, map, refl, sym, unwrap_or}
 use Rattle.bag_text.proofs.Common.{ℕ, ◌==◌, ◌∙◌, ◌∷◌, ◌≡◌, option_map}
-use Rattle.bag_text.specs.Code.{number, word, all_codes, words}
+use Rattle.bag_text.specs.Code.{number}
+use Rattle.bag_text.specs.CodeWord.{word}
+use Rattle.bag_text.specs.CodeList.{all_codes, words}
 use Rattle.bag_text.specs.declared.code.Code.{Code}
 use Rattle.bag_text.specs.declared.code.Code.TheVariants.{NoDeclaration}
 

@@ -33,17 +33,21 @@ pub use Rattle.std.specs.Str.{IsCharBoundary, IsUtf8, NoCharPasses, encode_utf8_
 pub use Rattle.memchr.specs.Find.{IsFirstByte, Nowhere, Passes, is_byte2}
 pub use denote.Shadow.{shadow}
 pub use denote.Text.{Utf8}
-pub use Rattle.bag_text.specs.Alg.{EachIsListed, ListAscends, NameIsReadAgain, NamesTellApart, algs, rank, rank_cmp}
+pub use Rattle.bag_text.specs.Alg.{algs, rank, rank_cmp}
+pub use Rattle.bag_text.specs.Laws.{EachIsListed, ListAscends, NameIsReadAgain, NamesTellApart, Cut}
+pub use Rattle.bag_text.specs.Laws.{HasNoEnd, IsEnd, LinesAreTheOnlyCut, PathsAreJoinedComponents}
+pub use Rattle.bag_text.specs.Laws.{EscapedIsReadAgain, UnescapedIsSpelled}
 pub use Rattle.bag_text.specs.AlgList.{has_member, same_alg, with_member}
 pub use Rattle.bag_text.specs.AlgSet.{IsTable, flag_of, members}
 pub use Rattle.bag_text.specs.AlgTable.{flags_are, has_each, has_member-filter, same_alg_same, same_rank}
 pub use Rattle.bag_text.specs.LineEnd.{end_len, is_line_end}
-pub use Rattle.bag_text.specs.Lines.{Cut, HasNoEnd, IsEnd, IsLine, LinesAreTheOnlyCut, carriage_return, line_feed}
+pub use Rattle.bag_text.specs.Lines.{IsLine, carriage_return, line_feed}
 pub use Rattle.bag_text.specs.Lines.{lines}
-pub use Rattle.bag_text.specs.Path.{PathsAreJoinedComponents, components, is_component, is_path, slash}
+pub use Rattle.bag_text.specs.Path.{components, is_component, is_path, slash}
 pub use Rattle.bag_text.specs.SortKey.{CommonFrontIsTheLongest, IsFront, IsLongestFront, common_front, front_of_sixteen}
-pub use Rattle.bag_text.specs.Spelling.{BeginsWithNone, EscapedIsReadAgain, SpellsLineEnds, SpellsStrictly}
-pub use Rattle.bag_text.specs.Spelling.{UnescapedIsSpelled, both, escape, escape_one, escaped, itself, line_end}
+pub use Rattle.bag_text.specs.Spells.{BeginsWithNone, SpellsLineEnds, SpellsStrictly}
+pub use Rattle.bag_text.specs.Spelling.{both, escaped, itself, line_end}
+pub use Rattle.bag_text.specs.Escape.{escape, escape_one}
 pub use Rattle.bag_text.specs.Spelling.{percent, unescaped_strictly, with_line_ends}
 pub use Rattle.bag_text.specs.Text.{is_blank, without_leading_blanks, without_trailing_blanks}
 pub use Rattle.bag_text.specs.declared.path.Part.{Part}

@@ -10,7 +10,8 @@ use Rattle.std.specs.Cmp.{IsTotalOrder}
 use Rattle.std.specs.declared.cmp.Ordering.{Ordering}
 use Rattle.std.specs.declared.cmp.Ordering.TheVariants.{Less, Greater}
 use Rattle.std.specs.Ordering.{ordering_reverse}
-use Rattle.bag_text.specs.Order.{IsListOf, IsOnly}
+use Rattle.bag_text.specs.Order.{IsListOf}
+use Rattle.bag_text.specs.Only.{IsOnly}
 
 -- a member of a list is its first or stands after it
 pub contains_cases : {A : Type 0} (x : A) (xs : List A) (y : A) → Contains (x ∷ xs) y → (x ≡ y) ⊎ Contains xs y

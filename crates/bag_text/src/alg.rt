@@ -1,6 +1,7 @@
 //! The checksum algorithms.
 ghost use Rattle.std.specs.Prelude.{◌≡◌};
 ghost use Rattle.bag_text.specs.Alg as spec;
+ghost use Rattle.bag_text.specs.CodeWord as words;
 
 /// A checksum algorithm (RFC 8493, 2.4).
 #[derive(Clone, Copy, Debug, PartialEq, Eq, PartialOrd, Ord)]
@@ -40,7 +41,7 @@ impl Alg {
 
     /// The name as its standard writes it, for people.
     pub fn title(self) -> &'static str
-        ensures { result.now ≡ spec.title self }
+        ensures { result.now ≡ words.title self }
     {
         match self {
             Alg::Md5 => "MD5",

@@ -1,6 +1,8 @@
 //! The codes of faults.
 ghost use Rattle.std.specs.Prelude.{◌≡◌, ◌≢◌, ◌==◌, MatchOption, find, map};
 ghost use Rattle.bag_text.specs.Code as spec;
+ghost use Rattle.bag_text.specs.CodeWord as words;
+ghost use Rattle.bag_text.specs.CodeList as list;
 ghost use Rattle.bag_text.specs.declared.code.Code.{Code};
 
 use std::fmt;
@@ -182,7 +184,7 @@ impl Code {
 
     /// The word that stands after the number in a fault line: ASCII, in lower case, with hyphens.
     pub fn word(self) -> &'static str
-        ensures { result.now ≡ spec.word self }
+        ensures { result.now ≡ words.word self }
     {
         word_in(&CODES, self)
     }
@@ -217,8 +219,8 @@ fn first_numbered(codes: &[(Code, &'static str)], number: u16) -> Option<(Code, 
 
 /// The word beside a code in the table of every code.
 fn word_in(codes: &[(Code, &'static str)], code: Code) -> &'static str
-    requires { map (λ pair. (pair.0, pair.1.now)) codes.now ≡ spec.words }
-    ensures { result.now ≡ spec.word code }
+    requires { map (λ pair. (pair.0, pair.1.now)) codes.now ≡ list.words }
+    ensures { result.now ≡ words.word code }
 {
     let Some((_, word)) = first_numbered(codes, code.number()) else {
         unreachable!()

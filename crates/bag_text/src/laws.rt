@@ -1,12 +1,11 @@
 //! Laws of the definitions, each the contract of a function that does nothing.
-ghost use Rattle.bag_text.specs.Lines.{LinesAreTheOnlyCut};
-ghost use Rattle.bag_text.specs.Path.{PathsAreJoinedComponents};
+ghost use Rattle.bag_text.specs.Laws.{LinesAreTheOnlyCut, PathsAreJoinedComponents};
+ghost use Rattle.bag_text.specs.Laws.{EscapedIsReadAgain, UnescapedIsSpelled, EachIsListed};
+ghost use Rattle.bag_text.specs.Laws.{ListAscends, NameIsReadAgain, NamesTellApart, RanksTellApart};
 ghost use Rattle.bag_text.specs.SortKey.{CommonFrontIsTheLongest};
-ghost use Rattle.bag_text.specs.Spelling.{EscapedIsReadAgain, UnescapedIsSpelled};
 ghost use Rattle.bag_text.specs.Trim.{TrimTakesOuterBlanks};
 ghost use Rattle.std.specs.Prelude.{◌≡◌};
-ghost use Rattle.bag_text.specs.Alg.{EachIsListed, ListAscends, NameIsReadAgain, NamesTellApart};
-ghost use Rattle.bag_text.specs.Alg.{RanksTellApart, algs};
+ghost use Rattle.bag_text.specs.Alg.{algs};
 
 use crate::Alg;
 

@@ -6,6 +6,7 @@ ghost use Rattle.std.specs.List.{list_all};
 ghost use Rattle.bag_text.specs.PathPart.{with_byte, is_name};
 ghost use Rattle.bag_text.specs.Path as spec;
 ghost use Rattle.bag_text.specs.Spelling as spelled;
+ghost use Rattle.bag_text.specs.Escape as writing;
 
 use crate::{Rules, said};
 use std::alloc::{AllocError, Global};
@@ -131,7 +132,7 @@ impl From<AllocError> for PathFault {
 /// A path as it is written: LF, CR and `%` as `%0A`, `%0D` and `%25`, every other character as
 /// itself (RFC 8493, 2.1.3).
 pub fn escape_path(alloc: Global, path: &str) -> Result<String, AllocError>
-    ensures { IfOk result (λ text. string_bytes text ≡ spelled.escape path.now) }
+    ensures { IfOk result (λ text. string_bytes text ≡ writing.escape path.now) }
 {
     let mut text = String::with_capacity(alloc, path.len())?;
     for c in path.chars() {
@@ -234,8 +235,8 @@ fn decode(alloc: Global, text: &str) -> Result<String, AllocError>
 
 /// What is written for a character that isn't written as itself.
 fn escape_of(c: char) -> Option<&'static str>
-    ensures { MatchOption result (spelled.escape (encode_utf8 c) ≡ encode_utf8 c) (λ text.
-        spelled.escape (encode_utf8 c) ≡ text.now) }
+    ensures { MatchOption result (writing.escape (encode_utf8 c) ≡ encode_utf8 c) (λ text.
+        writing.escape (encode_utf8 c) ≡ text.now) }
 {
     match c {
         '\n' => Some("%0A"),

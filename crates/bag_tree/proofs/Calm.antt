@@ -1,7 +1,7 @@
 -- A tree that refuses nothing, and out of memory.
 use Rattle.bag_tree.proofs.Common.{arith, ◌≡◌, ◌∙◌, inl, inr, ℕ, None, Some, refl, ap, TreeState, answer_of_read}
 use Rattle.bag_tree.proofs.Common.{refusal_of, Given, Refused, Unlisted}
-use Rattle.bag_tree.specs.NothingFailed.{MayReportMemory, NothingFailed}
+use Rattle.bag_tree.specs.Tree.{MayReportMemory, NothingFailed}
 use Rattle.bag_tree.specs.declared.tree_fault.TreeFault.{TreeFault}
 use Rattle.bag_tree.specs.declared.tree_fault.TreeFault.TheVariants.{Memory}
 

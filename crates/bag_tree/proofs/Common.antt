@@ -51,10 +51,13 @@ pub use types.Kit.{suffices, use1, ‵, ◌$◌, ◌∵◌, ◌⊛◌}
 pub use types.Logic.{Logic}
 pub use types.Run.{and_then, enter, no_more, of_opd, returns, unit_lit}
 pub use Rattle.bag_tree.specs.Bag.{file, files_of}
-pub use Rattle.bag_tree.specs.Digest.{AreSumsOf, digest, hash, hash_len, sum_at}
+pub use Rattle.bag_tree.specs.Digest.{digest, hash}
+pub use Rattle.bag_tree.specs.DigestsOf.{AreSumsOf, hash_len, sum_at}
 pub use Rattle.bag_tree.specs.Digests.{HoldsWhere, IsHashWhere}
-pub use Rattle.bag_tree.specs.Moved.{ByPath, MovedIsThere, is_within, moved, renamed, with_renamed}
-pub use Rattle.bag_tree.specs.Tree.{HasOpen, Keeps, ReadsNext, TreeState, answer_of_read, refusal_of}
+pub use Rattle.bag_tree.specs.Moved.{ByPath, is_within, moved, renamed, with_renamed}
+pub use Rattle.bag_tree.specs.MovesAll.{MovedIsThere}
+pub use Rattle.bag_tree.specs.Tree.{HasOpen, Keeps, TreeState, refusal_of}
+pub use Rattle.bag_tree.specs.FileReads.{ReadsNext, answer_of_read}
 pub use Rattle.bag_tree.specs.Whole.{HasRead}
 pub use Rattle.bag_tree.specs.declared.answer.Answer.TheVariants.{Given, Refused, Unlisted}
 pub use Rattle.bag_tree.specs.declared.heard.Heard.{Heard}

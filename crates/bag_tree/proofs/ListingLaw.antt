@@ -5,7 +5,8 @@ use Rattle.bag_tree.proofs.Common.{get-entries, below_all, same_entries, is_lt, 
 use Rattle.bag_tree.proofs.Common.{text_cmp, files_of}
 use Rattle.std.proofs.Common.{is_lt}
 use Rattle.std.specs.List.Sorted.{IsStrictlySortedBy}
-use Rattle.bag_tree.specs.Listing.{ListingsAreOfTheBag, size_at}
+use Rattle.bag_tree.specs.Listing.{size_at}
+use Rattle.bag_tree.specs.Laws.{ListingsAreOfTheBag}
 use Rattle.bag_tree.specs.declared.listing.FileEntry.{FileEntry}
 use Rattle.bag_tree.proofs.SameText.{exact_texts, same_test}
 

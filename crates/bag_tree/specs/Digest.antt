@@ -1,11 +1,10 @@
 -- The digest of bytes, in lower-case hex (RFC 8493, 2.4).
-use Rattle.std.specs.Prelude.{ℕ, ◌≡◌, ◌/◌, ◌-◌, List, Option, Some, None, Contains, slice_index_or}
+use Rattle.std.specs.Prelude.{ℕ, List}
 use Rattle.hex.specs.Hex.{encode_lower}
 use Rattle.md5.specs.Md5.{md5}
 use Rattle.sha1.specs.Sha1.{sha1}
 use Rattle.sha2.specs.Sha256.{sha224, sha256}
 use Rattle.sha2.specs.Sha512.{sha384, sha512}
-use Rattle.bag_text.specs.Alg.{hex_len, rank}
 use Rattle.bag_text.specs.declared.alg.Alg.{Alg}
 use Rattle.bag_text.specs.declared.alg.Alg.TheVariants.{Md5, Sha1, Sha224, Sha256, Sha384, Sha512}
 
@@ -21,17 +20,3 @@ hash Sha512 bytes = sha512 bytes
 -- its value as manifests spell it
 abbrev pub digest : Alg → List ℕ → List ℕ
 digest alg bytes = encode_lower (hash alg bytes)
-
--- how many bytes a value has
-abbrev pub hash_len : Alg → ℕ
-hash_len alg = hex_len alg / 2
-
--- the digest by an algorithm, of a list with a place for each algorithm in their order
-abbrev pub sum_at : List (Option (List ℕ)) → Alg → Option (List ℕ)
-sum_at sums alg = slice_index_or sums (rank alg - 1) None
-
--- these are the digests of the bytes: by each algorithm that was asked for, and by no other
-pub record AreSumsOf (asked : List Alg) (bytes : List ℕ) (sums : List (Option (List ℕ))) : Type 0
-  where
-    pub each : (alg : Alg) → Contains asked alg → sum_at sums alg ≡ Some (digest alg bytes)
-    pub no_other : (alg : Alg) → ¬ (Contains asked alg) → sum_at sums alg ≡ None

@@ -3,7 +3,8 @@ use Rattle.std.specs.Prelude.{ℕ, ◌≡◌, ◌-◌, ◌<◌, List, All, Conta
 use Rattle.std.specs.Prelude.{slice_index_or, take}
 use Rattle.bag_text.specs.Alg.{rank}
 use Rattle.bag_text.specs.declared.alg.Alg.{Alg}
-use Rattle.bag_tree.specs.Digest.{hash, hash_len}
+use Rattle.bag_tree.specs.Digest.{hash}
+use Rattle.bag_tree.specs.DigestsOf.{hash_len}
 use Rattle.bag_tree.specs.Hasher.{HoldsMessage}
 use Rattle.bag_tree.specs.declared.hasher.Hasher.{Hasher}
 use Rattle.bag_tree.specs.declared.digests.Digests.{Digests}

@@ -5,7 +5,7 @@ use Rattle.bag_tree.specs.Bag.{file}
 use Rattle.bag_tree.specs.Tree.{TreeState}
 use Rattle.bag_tree.specs.Whole.{HasRead}
 use Rattle.bag_tree.specs.declared.listing.FileEntry.{FileEntry}
-use Rattle.bag_tree.specs.Digest.{AreSumsOf}
+use Rattle.bag_tree.specs.DigestsOf.{AreSumsOf}
 use Rattle.bag_tree.specs.Digests.{HaveTaken}
 use Rattle.bag_tree.specs.declared.digests.Digests.{Digests}
 

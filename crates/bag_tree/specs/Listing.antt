@@ -6,7 +6,7 @@ use Rattle.std.specs.List.Sorted.{IsStrictlySortedBy}
 use Rattle.std.specs.Str.{bytes_eq}
 use Rattle.bag_text.specs.Text.{text_cmp}
 use Rattle.bag_text.specs.Path.{is_path}
-use Rattle.bag_tree.specs.Bag.{Bag, file, files_of, has_folder}
+use Rattle.bag_tree.specs.Bag.{Bag, file, has_folder}
 use Rattle.bag_tree.specs.declared.listing.FileEntry.{FileEntry}
 use Rattle.bag_tree.specs.declared.listing.Listing.{Listing}
 
@@ -27,9 +27,3 @@ pub record IsOrdered (files : List FileEntry) : Type 0 where
 pub record IsListingOf (bag : Bag) (listing : Listing) : Type 0 where
   pub files : (path : List ℕ) → size_at listing.files path ≡ option_map length (file bag path)
   pub has_data : listing.has_data ≡ has_folder bag (codes "data")
-
--- the law: an ordered listing of a bag is the bag's files in path order, with their lengths
-abbrev pub ListingsAreOfTheBag : Type 0
-ListingsAreOfTheBag =
-    (bag : Bag) (listing : Listing) → IsOrdered listing.files → IsListingOf bag listing
-    → listing.files ≡ map (λ e. record { path = e.0; size = length e.1 }) (files_of bag)

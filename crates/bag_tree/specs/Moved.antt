@@ -1,10 +1,10 @@
 -- What stands at paths, when one path has become another with all that is below it.
-use Rattle.std.specs.Prelude.{ℕ, ◌≡◌, ◌||◌, Bool, false, IsTrue, List, [], ◌∷◌, ◌++◌, None, fold}
-use Rattle.std.specs.Prelude.{bytes_eq, nat_eq, if◌then◌else◌, length, drop}
+use Rattle.std.specs.Prelude.{ℕ, ◌||◌, Bool, List, [], ◌∷◌, ◌++◌, fold, bytes_eq, nat_eq}
+use Rattle.std.specs.Prelude.{if◌then◌else◌, length, drop}
 use Rattle.std.specs.List.{starts_with}
 use Rattle.std.specs.FinMap as map
 use Rattle.bag_text.specs.Text.{text_cmp}
-use Rattle.bag_text.specs.Path.{slash, under}
+use Rattle.bag_text.specs.Path.{slash}
 
 -- whether a path is this one, or below it
 abbrev pub is_within : List ℕ → List ℕ → Bool
@@ -26,24 +26,3 @@ with_renamed from to all entries =
 -- what stands there when `from` has become `to`, with all that is below it
 abbrev pub moved : {V : Type 0} → List ℕ → List ℕ → ByPath V → ByPath V
 moved from to all = with_renamed from to map.empty (map.entries all)
-
--- what stands neither at nor below one of two paths is as before
-abbrev pub KeepsOthers : {V : Type 0} → ByPath V → ByPath V → List ℕ → List ℕ → Type 0
-KeepsOthers old new from to = (path : List ℕ) → is_within from path ≡ false
-    → is_within to path ≡ false → map.get new path ≡ map.get old path
-
--- What stood at `from` and below it stands at `to` and below it, nothing stands there any more, and
--- all else stays.
-pub record MovesAll {V : Type 0} (old new : ByPath V) (from to : List ℕ) : Type 0 where
-  pub arrived : map.get new to ≡ map.get old from
-  pub arrived_below : (rest : List ℕ) → map.get new (under to rest) ≡ map.get old (under from rest)
-  pub left : (path : List ℕ) → IsTrue (is_within from path) → is_within to path ≡ false
-      → map.get new path ≡ None
-  pub others : KeepsOthers old new from to
-
--- the law: that is what a move makes, where nothing stood at `to` or below it
-abbrev pub MovedIsThere : Type 0 → Type 0
-MovedIsThere V =
-    (all : ByPath V) (from to : List ℕ)
-    → ((path : List ℕ) → IsTrue (is_within to path) → map.get all path ≡ None)
-    → MovesAll all (moved from to all) from to

@@ -4,7 +4,7 @@ use Rattle.std.specs.Option.{option_map}
 use Rattle.hex.specs.Hex.{encode_lower}
 use Rattle.bag_text.specs.Alg.{algs, rank}
 use Rattle.bag_text.specs.declared.alg.Alg.{Alg}
-use Rattle.bag_tree.specs.Digest.{hash_len}
+use Rattle.bag_tree.specs.DigestsOf.{hash_len}
 use Rattle.bag_tree.specs.declared.sums.Sums.TheInside.{Inside}
 
 -- the bytes of the digest by an algorithm, without the zeros after them

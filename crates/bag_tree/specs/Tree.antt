@@ -1,9 +1,7 @@
 -- What the calls of a tree answer, and what they change.
-use Rattle.std.specs.Prelude.{◌≡◌, ℕ, ◌<◌, ◌≤◌, ◌↔◌, ◌⊎◌, zero, suc, Bool, true, false, IsTrue}
-use Rattle.std.specs.Prelude.{List, [], ◌∷◌, ◌++◌, length, take, drop, Option, None, Some, is_some}
-use Rattle.std.specs.Option.{option_map}
-use Rattle.bag_tree.specs.Bag.{Bag, file}
-use Rattle.bag_tree.specs.declared.listing.FileEntry.{FileEntry}
+use Rattle.std.specs.Prelude.{◌≡◌, ℕ, ◌<◌, ◌≤◌, ◌⊎◌, Bool, true, false, IsTrue, List, [], ◌∷◌, ◌++◌}
+use Rattle.std.specs.Prelude.{Option, None, Some, is_some, codes}
+use Rattle.bag_tree.specs.Bag.{Bag}
 use Rattle.bag_tree.specs.declared.tree_fault.TreeFault.{TreeFault}
 use Rattle.bag_tree.specs.declared.tree_fault.TreeFault.TheVariants.{Device, Special, Name}
 use Rattle.bag_tree.specs.declared.tree_fault.TreeFault.TheVariants.{NotFound, TooMany, Changed}
@@ -35,15 +33,6 @@ pub record TreeState : Type 0 where
   pub trail : List DeviceEvent
   -- the device notes what it does, and what it synced is durable
   pub noted : Bool
-
--- a call leaves the bag, what else stands there, and its honesty, and forgets no failure
-pub record LeavesBag (old new : TreeState) : Type 0 where
-  pub bag : new.bag ≡ old.bag
-  pub plain : new.plain ≡ old.plain
-  pub honest : new.honest ≡ old.honest
-  pub entries : new.entries ≡ old.entries
-  pub failures : old.failures ≤ new.failures
-  pub noted : new.noted ≡ old.noted
 
 -- a call leaves the bag, what else stands there and its honesty, forgets no failure, and its device
 -- does nothing that it notes
@@ -87,31 +76,6 @@ MayRefuseListing old new = MayRefuse ⊥ ⊥ old new
 abbrev pub HasOpen : TreeState → Type 0
 HasOpen state = is_some state.rest ≡ true
 
--- the file that was opened is one of the bag's, and all of it is left
-abbrev pub IsOpen : Option (List ℕ) → Option (List ℕ) → Type 0
-IsOpen content rest = (bytes : List ℕ) × (content ≡ Some bytes) × (rest ≡ Some bytes)
-
--- a read of n bytes from the rest of a file, none exactly at the file's end
-pub record ReadsNext (rest after : Option (List ℕ)) (n : ℕ) (buffer : List ℕ) : Type 0 where
-  pub from_open : (bytes : List ℕ) → rest ≡ Some bytes
-      → (take n buffer ≡ take n bytes) × (after ≡ Some (drop n bytes)) × (n ≤ length bytes)
-      × ((n ≡ 0) ↔ (bytes ≡ []))
-  pub some : (bytes : List ℕ) × (rest ≡ Some bytes)
-
--- the entry is one of the bag's files
-abbrev pub IsEntryOf : Bag → FileEntry → Type 0
-IsEntryOf bag entry = option_map length (file bag entry.path) ≡ Some entry.size
-
--- this file was opened, once at most, and no other
-abbrev pub OpensAtMost : TreeState → TreeState → List ℕ → Type 0
-OpensAtMost old new path = (new.openings ≡ old.openings)
-    ⊎ (new.openings ≡ old.openings ++ path ∷ [])
-
--- what a read of n bytes answers
-abbrev pub answer_of_read : ℕ → Answer
-answer_of_read zero = AtEnd
-answer_of_read (suc n) = Given
-
 -- the reads of the open file gave more bytes than this size, or came to its end before it
 abbrev pub IsOtherSize : TreeState → ℕ → Type 0
 IsOtherSize state size = ((state.last ≡ Given) × (size < state.given))
@@ -130,3 +94,30 @@ abbrev pub CameFromFile : TreeState → TreeFault → Type 0
 CameFromFile state Changed = (size : ℕ) × IsOtherSize state size
 CameFromFile state Memory = Unit {0}
 CameFromFile state fault = state.last ≡ Refused fault
+
+-- the word for a refusal
+abbrev pub cause_word : TreeFault → List ℕ
+cause_word Device = codes "device"
+cause_word Special = codes "special"
+cause_word Name = codes "name"
+cause_word NotFound = codes "not-found"
+cause_word TooMany = codes "too-many"
+cause_word Changed = codes "changed"
+cause_word NoneOpen = codes "none-open"
+cause_word Memory = codes "memory"
+cause_word Exists = codes "exists"
+
+-- the device didn't fail, and the tree's last answer is no refusal, or nothing was asked of it
+pub record NothingFailed (old new : TreeState) : Type 0 where
+  pub failures : new.failures ≡ old.failures
+  pub last : (new ≡ old) ⊎ (refusal_of new.last ≡ None)
+
+-- out of memory may be reported: the tree reported it, or it refused nothing
+abbrev pub MayReportMemory : TreeState → TreeState → Type 0
+MayReportMemory old new = (refusal_of new.last ≡ Some Memory) ⊎ NothingFailed old new
+
+-- The file was refused when these had been opened: either its opening, and no file is open, or a
+-- read of it, and it is still open.
+abbrev pub IsRefusedAt : List (List ℕ) → List ℕ → TreeState → Type 0
+IsRefusedAt opened path new = ((new.rest ≡ None) × (new.openings ≡ opened))
+    ⊎ (HasOpen new × (new.openings ≡ opened ++ path ∷ []))

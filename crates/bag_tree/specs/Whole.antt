@@ -1,7 +1,8 @@
 -- When a whole file is refused.
-use Rattle.std.specs.Prelude.{◌≡◌, ◌⊎◌, IsTrue, None, Some, Option, List, [], ◌∷◌, ℕ, ◌++◌}
+use Rattle.std.specs.Prelude.{◌≡◌, IsTrue, None, Some, Option, List, ℕ, ◌++◌}
 use Rattle.bag_tree.specs.Bag.{file, HasFile}
-use Rattle.bag_tree.specs.Tree.{TreeState, HasOpen, MayRefuse, IsEntryOf, IsOtherSize, CameFromFile}
+use Rattle.bag_tree.specs.Tree.{TreeState, MayRefuse, IsOtherSize, CameFromFile}
+use Rattle.bag_tree.specs.FileReads.{IsEntryOf}
 use Rattle.bag_tree.specs.declared.listing.FileEntry.{FileEntry}
 use Rattle.bag_tree.specs.declared.tree_fault.TreeFault.{TreeFault}
 use Rattle.bag_tree.specs.declared.tree_fault.TreeFault.TheVariants.{Changed}
@@ -15,12 +16,6 @@ MayRefuseWhole old new entry Changed =
     × (IsTrue old.honest → HasFile old.bag entry.path × (IsEntryOf old.bag entry → ⊥))
 MayRefuseWhole old new entry fault =
     MayRefuse (file old.bag entry.path ≡ None) ⊥ old new fault × CameFromFile new fault
-
--- The file was refused when these had been opened: either its opening, and no file is open, or a
--- read of it, and it is still open.
-abbrev pub IsRefusedAt : List (List ℕ) → List ℕ → TreeState → Type 0
-IsRefusedAt opened path new = ((new.rest ≡ None) × (new.openings ≡ opened))
-    ⊎ (HasOpen new × (new.openings ≡ opened ++ path ∷ []))
 
 -- these bytes of the file were read, and the rest follows
 pub record HasRead (content : Option (List ℕ)) (bytes : List ℕ) (rest : Option (List ℕ)) : Type 0

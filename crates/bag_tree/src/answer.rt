@@ -1,6 +1,6 @@
 //! What a tree answered last.
 ghost use Rattle.std.specs.Prelude.{◌≡◌};
-ghost use Rattle.bag_tree.specs.Tree.{answer_of_read};
+ghost use Rattle.bag_tree.specs.FileReads.{answer_of_read};
 
 use crate::TreeFault;
 

@@ -1,7 +1,7 @@
 //! Digests of bytes that come piece by piece.
 ghost use Rattle.std.specs.Prelude.{◌≡◌, ℕ, List, [], ◌++◌};
 ghost use Rattle.bag_text.specs.declared.alg.Alg.{Alg as AlgValue};
-ghost use Rattle.bag_tree.specs.Digest.{AreSumsOf};
+ghost use Rattle.bag_tree.specs.DigestsOf.{AreSumsOf};
 ghost use Rattle.bag_tree.specs.Digests.{HaveTaken, HoldsWhere, IsHashWhere};
 
 use crate::Sums;

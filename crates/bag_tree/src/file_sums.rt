@@ -1,8 +1,8 @@
 //! The digests of a listed file.
 ghost use Rattle.std.specs.Prelude.{◌≡◌, ◌≢◌, ◌<◌, ◌∷◌, ◌++◌, [], length, IfOk, IfErr, OnOk, OnErr};
-ghost use Rattle.bag_tree.specs.NothingFailed.{NothingFailed};
-ghost use Rattle.bag_tree.specs.Tree.{Keeps, OpensAtMost};
-ghost use Rattle.bag_tree.specs.Whole.{IsRefusedAt, MayRefuseWhole};
+ghost use Rattle.bag_tree.specs.Tree.{Keeps, NothingFailed, IsRefusedAt};
+ghost use Rattle.bag_tree.specs.FileReads.{OpensAtMost};
+ghost use Rattle.bag_tree.specs.Whole.{MayRefuseWhole};
 ghost use Rattle.bag_tree.specs.declared.answer.Answer.TheVariants.{Refused};
 ghost use Rattle.bag_tree.specs.declared.tree_fault.TreeFault.TheVariants.{Changed};
 ghost use Rattle.bag_tree.specs.FileSums.{AreSumsOfFile};

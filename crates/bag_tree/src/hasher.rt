@@ -1,7 +1,8 @@
 //! A hash function in the midst of a message. Each algorithm stands in this file alone.
 ghost use Rattle.std.specs.Prelude.{◌≡◌, ℕ, List, [], ◌++◌, ◌≤◌, length, take};
 ghost use Rattle.bag_text.specs.declared.alg.Alg.{Alg as AlgValue};
-ghost use Rattle.bag_tree.specs.Digest.{hash, hash_len};
+ghost use Rattle.bag_tree.specs.Digest.{hash};
+ghost use Rattle.bag_tree.specs.DigestsOf.{hash_len};
 ghost use Rattle.bag_tree.specs.Hasher.{HoldsMessage};
 
 use bag_text::Alg;

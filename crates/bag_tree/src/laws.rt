@@ -1,8 +1,8 @@
 //! Laws of the definitions, each the contract of a function that does nothing.
-ghost use Rattle.bag_tree.specs.Listing.{ListingsAreOfTheBag};
+ghost use Rattle.bag_tree.specs.Laws.{ListingsAreOfTheBag};
 ghost use Rattle.std.specs.Prelude.{ℕ, List};
 ghost use Rattle.bag_tree.specs.LeftOutSyncs as left_out;
-ghost use Rattle.bag_tree.specs.Moved.{MovedIsThere};
+ghost use Rattle.bag_tree.specs.MovesAll.{MovedIsThere};
 
 /// A listing of a bag, in the order of its paths, has the files of the bag and their sizes, and
 /// nothing else.

@@ -1,7 +1,8 @@
 //! What takes the output.
 ghost use Rattle.std.specs.Prelude.{◌≡◌, ◌<◌, true, false, length, IfOk, OnOk, OnErr};
 ghost use Rattle.std.specs.Io.KnownBytes.{Keeps};
-ghost use Rattle.bag_tree.specs.Out.{OutState, Takes};
+ghost use Rattle.bag_tree.specs.Out.{OutState};
+ghost use Rattle.bag_tree.specs.Heard.{Takes};
 
 use bag_text::said;
 use thiserror::Error;

@@ -2,7 +2,7 @@
 ghost use Rattle.std.specs.Prelude.{◌≡◌, ◌≤◌, ◌↔◌, length, Some, None, MatchOption, IsTrue, IfOk};
 ghost use Rattle.std.specs.Prelude.{IsErrOf, string_bytes};
 ghost use Rattle.hex.specs.Hex.{encode_lower};
-ghost use Rattle.bag_tree.specs.Digest.{sum_at};
+ghost use Rattle.bag_tree.specs.DigestsOf.{sum_at};
 ghost use Rattle.bag_tree.specs.Sums.{hex_digests};
 ghost use Rattle.bag_tree.specs.declared.sums.HexFault.TheVariants.{NotAsked};
 

@@ -4,8 +4,9 @@ ghost use Rattle.std.specs.Prelude.{OnErr, MatchResult, length, ◌+◌};
 ghost use Rattle.bag_text.specs.Path.{is_path};
 ghost use Rattle.bag_tree.specs.Bag.{IsBag, file};
 ghost use Rattle.bag_tree.specs.Listing.{IsOrdered, IsListingOf};
-ghost use Rattle.bag_tree.specs.Tree.{TreeState, Keeps, MayRefuse, HasOpen, IsOpen, ReadsNext};
-ghost use Rattle.bag_tree.specs.Tree.{answer_of_read, MayRefuseListing};
+ghost use Rattle.bag_tree.specs.Tree.{TreeState, Keeps, MayRefuse, HasOpen};
+ghost use Rattle.bag_tree.specs.FileReads.{IsOpen, ReadsNext, answer_of_read};
+ghost use Rattle.bag_tree.specs.Tree.{MayRefuseListing};
 ghost use Rattle.bag_tree.specs.declared.answer.Answer.TheVariants.{Given, Refused, Unlisted};
 
 use crate::{Listing, TreeFault};

@@ -1,7 +1,7 @@
 //! Why a tree refused a call.
 ghost use Rattle.std.specs.Prelude.{◌≡◌, []};
 ghost use Rattle.bag_tree.specs.declared.tree_fault.TreeFault.TheVariants.{Memory};
-ghost use Rattle.bag_tree.specs.Cause as spec;
+ghost use Rattle.bag_tree.specs.Tree as spec;
 
 use bag_text::{Text, said};
 use std::alloc::{AllocError, AllocFailed, Global};

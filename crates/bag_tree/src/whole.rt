@@ -2,9 +2,9 @@
 ghost use Rattle.std.specs.Prelude.{◌≡◌, ◌≢◌, ◌<◌, ◌∷◌, ◌++◌, [], Some, IsTrue, IfOk, IfErr, OnOk};
 ghost use Rattle.std.specs.Prelude.{OnErr, length, vec_len};
 ghost use Rattle.bag_tree.specs.Bag.{file};
-ghost use Rattle.bag_tree.specs.NothingFailed.{MayReportMemory, NothingFailed};
-ghost use Rattle.bag_tree.specs.Tree.{Keeps, OpensAtMost};
-ghost use Rattle.bag_tree.specs.Whole.{IsRefusedAt, MayRefuseWhole};
+ghost use Rattle.bag_tree.specs.Tree.{Keeps, MayReportMemory, NothingFailed, IsRefusedAt};
+ghost use Rattle.bag_tree.specs.FileReads.{OpensAtMost};
+ghost use Rattle.bag_tree.specs.Whole.{MayRefuseWhole};
 ghost use Rattle.bag_tree.specs.declared.tree_fault.TreeFault.TheVariants.{Memory};
 
 use crate::{FileEntry, Tree, TreeFault};

@@ -1,7 +1,7 @@
 //! A tree of files that can be changed.
 ghost use Rattle.std.specs.Prelude.{◌≢◌, IsTrue};
 ghost use Rattle.bag_text.specs.Path.{is_base_name};
-ghost use Rattle.bag_tree.specs.Changes.{Creates, MakesFolder, MovesIn, RenamesFolder};
+ghost use Rattle.bag_tree.specs.ChangeCalls.{Creates, MakesFolder, MovesIn, RenamesFolder};
 
 use crate::{Tree, TreeFault};
 

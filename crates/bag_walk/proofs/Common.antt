@@ -40,12 +40,15 @@ pub use Rattle.bag_facts.proofs.Opens.{all_along, front_ascends, opens_all_first
 pub use Rattle.bag_facts.proofs.Ordered.{fault_cmp_total}
 pub use Rattle.bag_facts.proofs.Reading.{keeps_itself, keeps_on, later_refusal}
 pub use Rattle.bag_facts.proofs.Refusing.{came_from, has_entry, path_some, refused_file, told_memory}
-pub use Rattle.bag_facts.specs.Facts.{IsFactsOf, OfBag}
-pub use Rattle.bag_facts.specs.FaultLine.{IsLineOf, field}
+pub use Rattle.bag_facts.specs.FactsOfBag.{IsFactsOf, OfBag}
+pub use Rattle.bag_facts.specs.FaultLine.{field}
+pub use Rattle.bag_facts.specs.LineOf.{IsLineOf}
 pub use Rattle.bag_facts.specs.FaultOrder.{fault_cmp}
 pub use Rattle.bag_facts.specs.Options.{reaches}
-pub use Rattle.bag_facts.specs.Stops.{IsOutOfMemory, IsRefusalOf, MayRefuseFacts, MayStopReading}
-pub use Rattle.bag_facts.specs.Wanted.{AreWanted, ForListing, IsWanted, OpensAll, OpensUpTo, OpensWanted, paths_of}
+pub use Rattle.bag_facts.specs.Stops.{IsOutOfMemory, MayRefuseFacts}
+pub use Rattle.bag_facts.specs.TagReader.{IsRefusalOf, MayStopReading, OpensAll}
+pub use Rattle.bag_facts.specs.Wanted.{AreWanted, ForListing, IsWanted, OpensUpTo, OpensWanted}
+pub use Rattle.bag_facts.specs.Wanted.{paths_of}
 pub use Rattle.bag_facts.specs.declared.facts.Facts.{Facts}
 pub use Rattle.bag_facts.specs.declared.fault.Fault.{Fault}
 pub use Rattle.bag_facts.specs.declared.options.Depth.{Depth}
@@ -57,7 +60,8 @@ pub use Rattle.bag_report.proofs.Asked.{asked_at_full, asked_clash, asked_is_rea
 pub use Rattle.bag_report.proofs.Asked.{seven_not_reached}
 pub use Rattle.bag_report.proofs.Filtered.{filtered_list}
 pub use Rattle.bag_report.proofs.Found.{is_of_completeness, is_of_validity, of_completeness, of_validity}
-pub use Rattle.bag_report.specs.Report.{Check, IsReport, IsReported, IsStageOf, above, first, is_above}
+pub use Rattle.bag_report.specs.Report.{Check, IsReport, IsReported, above, first, is_above}
+pub use Rattle.bag_report.specs.Stages.{IsStageOf}
 pub use Rattle.bag_stages.proofs.ByItem.{OfSome, before_next, of_last_or_before, of_one_more}
 pub use Rattle.bag_stages.proofs.InFile.{less_by_path}
 pub use Rattle.bag_stages.proofs.NamesByKind.{names_by_kind}
@@ -65,10 +69,11 @@ pub use Rattle.bag_stages.proofs.ValidityFaults.{validity_of_stage_seven}
 pub use Rattle.bag_stages.specs.ClashStage.{IsSoughtClash}
 pub use Rattle.bag_stages.specs.CompletenessFaults.{IsIncomplete, IsMissing, IsV10LeftOutByOne, IsV097LeftOutByAll}
 pub use Rattle.bag_stages.specs.CompletenessFaults.{IsWrong}
-pub use Rattle.bag_stages.specs.SumFaults.{AreSumsBy, differing, differing_code, faults_of_bytes, sum_differs}
+pub use Rattle.bag_stages.specs.SumFaults.{AreSumsBy, differing, differing_code, faults_of_bytes}
+pub use Rattle.bag_stages.specs.SumFaults.{sum_differs, IsFaultOfFile}
 pub use Rattle.bag_stages.specs.SummedFiles.{IsNamed, IsSummed}
 pub use Rattle.bag_stages.specs.TagFiles.{Names, named_in}
-pub use Rattle.bag_stages.specs.ValidityStage.{IsFaultOfFile, IsOfValidity}
+pub use Rattle.bag_stages.specs.ValidityStage.{IsOfValidity}
 pub use Rattle.bag_stages.specs.declared.expected.Expected.{Expected}
 pub use Rattle.bag_text.proofs.ListOf.{contains_back, contains_behind, contains_cases, contains_either, contains_first}
 pub use Rattle.bag_text.proofs.ListOf.{contains_front, contains_nothing, each_from_members, joined, member_has}
@@ -82,10 +87,10 @@ pub use Rattle.bag_text.specs.declared.code.Code.{Code}
 pub use Rattle.bag_text.specs.declared.code.Code.TheVariants.{NameClash}
 pub use Rattle.bag_tree.proofs.Calm.{memory_then, nothing_asked, nothing_then}
 pub use Rattle.bag_tree.specs.Bag.{Bag, HasFile, IsBag, file, has_file}
-pub use Rattle.bag_tree.specs.NothingFailed.{MayReportMemory, NothingFailed}
 pub use Rattle.bag_tree.specs.Out.{OutState}
-pub use Rattle.bag_tree.specs.Tree.{IsEntryOf, Keeps, OpensAtMost, TreeState}
-pub use Rattle.bag_tree.specs.Whole.{IsRefusedAt, MayRefuseWhole}
+pub use Rattle.bag_tree.specs.Tree.{Keeps, TreeState, MayReportMemory, NothingFailed, IsRefusedAt}
+pub use Rattle.bag_tree.specs.FileReads.{IsEntryOf, OpensAtMost}
+pub use Rattle.bag_tree.specs.Whole.{MayRefuseWhole}
 pub use Rattle.bag_tree.specs.declared.listing.FileEntry.{FileEntry}
 pub use Rattle.bag_tree.specs.declared.tree_fault.Stop.{Stop}
 pub use Rattle.bag_tree.specs.declared.tree_fault.TreeFault.{TreeFault}
@@ -98,13 +103,17 @@ pub use Rattle.bag_walk.specs.Files.{AreToSum, IsNamedAhead, IsToSum, HasItsFaul
 pub use Rattle.bag_walk.specs.Filled.{awaits_second, is_both}
 pub use Rattle.bag_walk.specs.Lines.{IsLastLine, IsLastOf, cursor_after}
 pub use Rattle.bag_walk.specs.Merge.{fronts, least_of, union, union_is}
-pub use Rattle.bag_walk.specs.Openings.{IsBeforeFile, IsReached, NoFaultBefore, NoFaultBeforeStop, Opens, OpensAgain}
-pub use Rattle.bag_walk.specs.Openings.{OpensNoFileEarly, StillWait}
+pub use Rattle.bag_walk.specs.Openings.{IsBeforeFile, NoFaultBefore, IsToOpen, is_passed}
+pub use Rattle.bag_walk.specs.SourceOpenings.{IsReached, NoFaultBeforeStop, Opens, OpensAgain}
+pub use Rattle.bag_walk.specs.SourceOpenings.{OpensNoFileEarly, StillWait}
 pub use Rattle.bag_walk.specs.Run.{AreFirst, EndsAt, IsAsked, IsRun, IsRunByReport, SeesOneBag, check_of}
 pub use Rattle.bag_walk.specs.RunOpenings.{AreEarly, IsListed, LooksNoFurther, OpensInRun, OpensInTurn, OpensListed}
 pub use Rattle.bag_walk.specs.RunOpenings.{OpensNonePassed, OpensUpToSummed, StopsInTurn, written_before}
-pub use Rattle.bag_walk.specs.Segment.{ClosesSegment, EndsSegment, IfUnread, IsRead, IsSegment, MayStopRun, MayStopWalk}
-pub use Rattle.bag_walk.specs.Segment.{StopsAt, WritesWithoutFailure, WroteFirst, looked_past, still_to_come}
+pub use Rattle.bag_walk.specs.Segment.{MayStopRun}
+pub use Rattle.bag_walk.specs.SegmentEnds.{ClosesSegment, EndsSegment, IfUnread, IsRead, IsSegment}
+pub use Rattle.bag_walk.specs.SegmentEnds.{MayStopWalk, StopsAt, WroteFirst, looked_past}
+pub use Rattle.bag_walk.specs.SegmentEnds.{still_to_come}
+pub use Rattle.bag_walk.specs.Segment.{WritesWithoutFailure}
 pub use Rattle.bag_walk.specs.SegmentOpenings.{AreListed, EachBagHasListedFiles, IsListedFile, OpensFew, OpensInSegment}
 pub use Rattle.bag_walk.specs.SegmentOpenings.{not_passed}
 pub use Rattle.bag_walk.specs.SegmentChain.{Chain, Progress, RunsInSegments, RunsSegment, before_segments}
@@ -112,15 +121,17 @@ pub use Rattle.bag_walk.specs.Segments.{AreSegments, ForReport, ForReportFrom, C
 pub use Rattle.bag_walk.specs.Segments.{RunsOfSegments, SegmentsFrom, SegmentsJoin, WroteSegments, cost, is_last}
 pub use Rattle.bag_walk.specs.Segments.{outcome_at}
 pub use Rattle.bag_walk.specs.Shown.{front_is, none_is}
-pub use Rattle.bag_walk.specs.Source.{AllBelow, MayStopAnyway, MayStopFilling, Sees, Where, first_of, rest_of}
-pub use Rattle.bag_walk.specs.Start.{AreAheadBefore, IsListedToOpen, IsStarted, IsToOpen}
+pub use Rattle.bag_walk.specs.Source.{Sees, rest_of}
+pub use Rattle.bag_walk.specs.Filling.{AllBelow, MayStopAnyway, MayStopFilling, Where, first_of}
+pub use Rattle.bag_walk.specs.Start.{AreAheadBefore, IsListedToOpen, IsStarted}
 pub use Rattle.bag_walk.specs.Steps.{Gives, IsAhead, IsNextOf, LendsNext, MayStopStep, IsReportAfter, left, shown}
 pub use Rattle.bag_walk.specs.Steps.{shown_by, to_give, went}
 pub use Rattle.bag_walk.specs.Stops.{IfRunUnread, MayStop}
 pub use Rattle.bag_walk.specs.ToSum.{faults_at, faults_in, faults_of_files, paths_to_sum}
 pub use Rattle.bag_walk.specs.Union.{first_of_union, rest_alone, rest_equal, rest_greater, rest_less, rest_other}
-pub use Rattle.bag_walk.specs.Validity.{AreFilesOf, IsOfBag, is_passed}
-pub use Rattle.bag_walk.specs.Write.{IsCut, IsTaken, Writes, joined_pieces}
+pub use Rattle.bag_walk.specs.Validity.{AreFilesOf, IsOfBag}
+pub use Rattle.bag_walk.specs.Write.{IsCut}
+pub use Rattle.bag_walk.specs.Pieces.{IsTaken, Writes, joined_pieces}
 pub use Rattle.bag_walk.specs.Writer.{Closes, WritesReport}
 pub use Rattle.bag_walk.specs.declared.outcome.Outcome.{Outcome}
 pub use Rattle.bag_walk.specs.declared.outcome.Outcome.TheVariants.{Stopped, Unread, Unwritten}

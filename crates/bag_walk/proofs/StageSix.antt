@@ -10,7 +10,7 @@ use Rattle.bag_walk.proofs.Common.{cases_Bool}
 use Rattle.bag_text.specs.declared.alg.Alg.{Alg}
 use Rattle.bag_text.proofs.AlgSets.{each_is_listed}
 use Rattle.bag_stages.proofs.ByPath.{take_whole}
-use Rattle.bag_stages.specs.CompletenessStage.{IsSoughtInStageSix}
+use Rattle.bag_stages.specs.CompletenessFaults.{IsSoughtInStageSix}
 use Rattle.bag_stages.specs.PayloadNamed.{IsNamedExactly}
 use Rattle.bag_stages.proofs.CompletenessFaults.{completeness_of_stage_six, is_sought, sought_is}
 use Rattle.bag_stages.proofs.PayloadNamed.{nothing_wrong}

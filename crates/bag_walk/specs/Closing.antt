@@ -1,13 +1,13 @@
 -- The line that ends a report, and the exit status.
 use Rattle.std.specs.Prelude.{ℕ, List, [], ◌++◌, codes, decimal, if◌then◌else◌}
-use Rattle.bag_tree.specs.Cause.{cause_word}
+use Rattle.bag_tree.specs.Tree.{cause_word}
 use Rattle.bag_tree.specs.declared.tree_fault.Stop.{Stop}
 use Rattle.bag_facts.specs.FaultLine.{field}
 use Rattle.bag_facts.specs.declared.options.Depth.{Depth}
 use Rattle.bag_facts.specs.declared.options.Depth.TheVariants.{Declaration, Fast, Complete, Full}
 use Rattle.bag_walk.specs.declared.outcome.Outcome.{Outcome}
-use Rattle.bag_walk.specs.declared.outcome.Outcome.TheVariants.{Clean, Faults, Stopped}
-use Rattle.bag_walk.specs.declared.outcome.Outcome.TheVariants.{Rest, Unread, Unwritten}
+use Rattle.bag_walk.specs.declared.outcome.Outcome.TheVariants.{Clean, Faults, Stopped, Rest}
+use Rattle.bag_walk.specs.declared.outcome.Outcome.TheVariants.{Unread, Unwritten}
 use Rattle.bag_walk.specs.declared.outcome.Request.{Request}
 
 -- what is said of a bag without faults
@@ -53,12 +53,3 @@ count_of (Stopped n) = n
 count_of (Rest n) = n
 count_of (Unread n stop) = n
 count_of (Unwritten n) = n
-
--- the exit status of a run
-abbrev pub status : Outcome → ℕ
-status Clean = 0
-status (Faults n) = 1
-status (Stopped n) = 1
-status (Rest n) = 1
-status (Unread n stop) = 3
-status (Unwritten n) = 3

@@ -10,13 +10,13 @@ use Rattle.bag_facts.specs.FaultOrder.{fault_cmp}
 use Rattle.bag_facts.specs.Options.{reaches}
 use Rattle.bag_facts.specs.declared.facts.Facts.{Facts}
 use Rattle.bag_facts.specs.declared.fault.Fault.{Fault}
-use Rattle.bag_stages.specs.CompletenessFaults.{IsMissing, IsWrong}
-use Rattle.bag_stages.specs.CompletenessStage.{IsSoughtInStageSix}
+use Rattle.bag_stages.specs.CompletenessFaults.{IsMissing, IsWrong, IsSoughtInStageSix}
 use Rattle.bag_profile.specs.Profile.{Profile}
 use Rattle.bag_report.specs.Report.{Check, IsReported, is_above}
 use Rattle.bag_walk.specs.FactsOf.{ForBagOf, ForCheckOf}
 use Rattle.bag_walk.specs.Merge.{union}
-use Rattle.bag_walk.specs.Source.{first_of, rest_of}
+use Rattle.bag_walk.specs.Source.{rest_of}
+use Rattle.bag_walk.specs.Filling.{first_of}
 
 -- one of these faults, above a cursor
 abbrev pub IsAbove : Option Fault → (Fault → Type 0) → Fault → Type 0

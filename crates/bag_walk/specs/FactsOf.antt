@@ -1,16 +1,12 @@
 -- What is said of each bag of which facts were read.
 use Rattle.std.specs.Prelude.{◌≡◌, Option}
 use Rattle.bag_tree.specs.Bag.{Bag}
-use Rattle.bag_facts.specs.Facts.{IsFactsOf}
+use Rattle.bag_facts.specs.FactsOfBag.{IsFactsOf}
 use Rattle.bag_facts.specs.declared.facts.Facts.{Facts}
 use Rattle.bag_facts.specs.declared.options.Depth.TheVariants.{Full}
-use Rattle.bag_facts.specs.declared.options.Options.{Options}
 use Rattle.bag_profile.specs.Profile.{Profile}
 use Rattle.bag_report.specs.Report.{Check}
-
--- a bag, checked by a profile or without one, with these options
-abbrev pub check_with : Bag → Option Profile → Options → Check
-check_with bag profile options = record { bag = bag; profile = profile; options = options }
+use Rattle.bag_walk.specs.Run.{check_with}
 
 -- so it is for each bag of which these are the facts
 abbrev pub ForBagOf : Facts → (Bag → Type 0) → Type 0

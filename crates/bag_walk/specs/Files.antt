@@ -8,9 +8,9 @@ use Rattle.bag_facts.specs.FaultOrder.{fault_cmp}
 use Rattle.bag_facts.specs.declared.fault.Fault.{Fault}
 use Rattle.bag_facts.specs.Wanted.{paths_of}
 use Rattle.bag_stages.specs.SummedFiles.{IsNamed}
-use Rattle.bag_stages.specs.ValidityStage.{IsFaultOfFile}
+use Rattle.bag_stages.specs.SumFaults.{IsFaultOfFile}
 use Rattle.bag_walk.specs.ToSum.{faults_in, paths_to_sum}
-use Rattle.bag_walk.specs.Validity.{is_passed}
+use Rattle.bag_walk.specs.Openings.{is_passed}
 use Rattle.bag_walk.specs.declared.to_sum.ToSum.{ToSum}
 
 -- a manifest names the path, and a cursor hasn't passed it

@@ -1,6 +1,6 @@
 -- The line that was written last.
 use Rattle.std.specs.Prelude.{zero, suc, ℕ, ◌≡◌, List, [], Option, None, Some, slice_get}
-use Rattle.bag_facts.specs.FaultOrder.{IsFault}
+use Rattle.bag_facts.specs.LineOf.{IsFault}
 use Rattle.bag_facts.specs.declared.fault.Fault.{Fault}
 use Rattle.bag_walk.specs.Ending.{written_line}
 

@@ -5,7 +5,7 @@ use Rattle.std.specs.List.Sorted.{IsStrictlySortedBy}
 use Rattle.bag_text.proofs.ListOf.{ascending_joined}
 use Rattle.bag_facts.specs.FaultOrder.{fault_cmp}
 use Rattle.bag_facts.specs.declared.fault.Fault.{Fault}
-use Rattle.bag_walk.specs.Source.{first_of, AllBelow, Where}
+use Rattle.bag_walk.specs.Filling.{first_of, AllBelow, Where}
 
 pub first_of_both : (in_first : Bool) (a b : Option Fault) (fs gs : List Fault) (f : Fault)
     (IsOf Behind : Type 0)

@@ -9,8 +9,7 @@ use Rattle.bag_text.specs.Text.{text_cmp}
 use Rattle.bag_text.specs.declared.alg.Alg.{Alg}
 use Rattle.bag_read.specs.declared.kind.Kind.TheVariants.{Payload}
 use Rattle.bag_tree.specs.Bag.{Bag}
-use Rattle.bag_tree.specs.Tree.{TreeState}
-use Rattle.bag_tree.specs.Whole.{IsRefusedAt}
+use Rattle.bag_tree.specs.Tree.{TreeState, IsRefusedAt}
 use Rattle.bag_facts.specs.FaultOrder.{fault_cmp}
 use Rattle.bag_facts.specs.declared.fault.Fault.{Fault}
 use Rattle.bag_facts.specs.Wanted.{AreWanted, ForListing, IsWanted, OpensUpTo, OpensWanted}
@@ -24,9 +23,7 @@ use Rattle.bag_walk.specs.Closing.{count_of}
 use Rattle.bag_walk.specs.Ending.{limit_of}
 use Rattle.bag_walk.specs.declared.outcome.Outcome.{Outcome}
 use Rattle.bag_walk.specs.declared.outcome.Request.{Request}
-use Rattle.bag_walk.specs.Openings.{NoFaultBefore}
-use Rattle.bag_walk.specs.Start.{AreToOpen}
-use Rattle.bag_walk.specs.Validity.{is_passed}
+use Rattle.bag_walk.specs.Openings.{NoFaultBefore, AreToOpen, is_passed}
 use Rattle.bag_walk.specs.Run.{check_of, ForReportAsked, IsAsked}
 use Rattle.bag_walk.specs.Stops.{IfRunUnread}
 

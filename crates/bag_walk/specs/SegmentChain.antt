@@ -1,12 +1,11 @@
 -- Segments of a report, each a run of its own between two states of the tree and of the output.
 use Rattle.std.specs.Prelude.{ℕ, ◌≡◌, ◌⊎◌, ◌+◌, true, false, List, [], ◌∷◌, Option, drop}
-use Rattle.bag_tree.specs.NothingFailed.{NothingFailed}
 use Rattle.bag_tree.specs.Out.{OutState}
-use Rattle.bag_tree.specs.Tree.{Keeps, TreeState}
+use Rattle.bag_tree.specs.Tree.{Keeps, TreeState, NothingFailed}
 use Rattle.bag_facts.specs.declared.fault.Fault.{Fault}
 use Rattle.bag_facts.specs.declared.options.Options.{Options}
 use Rattle.bag_profile.specs.Profile.{Profile}
-use Rattle.bag_walk.specs.Segment.{IfUnread, IsRead, IsSegment}
+use Rattle.bag_walk.specs.SegmentEnds.{IfUnread, IsRead, IsSegment}
 use Rattle.bag_walk.specs.SegmentOpenings.{AreListed, OpensInSegment}
 use Rattle.bag_walk.specs.Segments.{ForReport, is_last, outcome_at}
 use Rattle.bag_walk.specs.Stops.{MayStop}

@@ -10,10 +10,9 @@ use Rattle.bag_facts.specs.declared.fault.Fault.{Fault}
 use Rattle.bag_facts.specs.declared.options.Depth.TheVariants.{Full}
 use Rattle.bag_facts.specs.declared.options.Options.{Options}
 use Rattle.bag_walk.specs.Lines.{cursor_after}
-use Rattle.bag_walk.specs.Openings.{NoFaultBefore}
-use Rattle.bag_walk.specs.Validity.{is_passed}
+use Rattle.bag_walk.specs.Openings.{NoFaultBefore, is_passed}
 use Rattle.bag_walk.specs.RunOpenings.{IsListed}
-use Rattle.bag_walk.specs.Segment.{still_to_come}
+use Rattle.bag_walk.specs.SegmentEnds.{still_to_come}
 use Rattle.bag_walk.specs.declared.segment.Segment.{Segment}
 
 -- A payload file whose digests are compared: at depth Full one that is there and that a payload

@@ -2,15 +2,15 @@
 use Rattle.std.specs.Prelude.{ℕ, ◌+◌, ◌-◌, ◌<◌, ◌≤◌, ◌≡◌, ◌⊎◌, ◌++◌, Bool, true, false, IsTrue}
 use Rattle.std.specs.Prelude.{List, [], ◌∷◌, length, drop, sum, Option, None}
 use Rattle.std.specs.List.Sorted.{IsStrictlySortedBy}
-use Rattle.bag_tree.specs.NothingFailed.{MayReportMemory}
 use Rattle.bag_tree.specs.Out.{OutState}
-use Rattle.bag_tree.specs.Tree.{TreeState}
+use Rattle.bag_tree.specs.Tree.{TreeState, MayReportMemory}
 use Rattle.bag_tree.specs.declared.tree_fault.Stop.{Stop}
 use Rattle.bag_tree.specs.declared.tree_fault.TreeFault.{TreeFault}
 use Rattle.bag_tree.specs.declared.tree_fault.TreeFault.TheVariants.{Device, Special, Name, Memory}
 use Rattle.bag_facts.specs.FaultOrder.{fault_cmp}
 use Rattle.bag_facts.specs.declared.fault.Fault.{Fault}
-use Rattle.bag_facts.specs.Stops.{IsRefusedFile, MayRefuseFacts, ReportsAnswer}
+use Rattle.bag_facts.specs.Stops.{MayRefuseFacts, ReportsAnswer}
+use Rattle.bag_facts.specs.Wanted.{IsRefusedFile}
 use Rattle.bag_facts.specs.declared.options.Options.{Options}
 use Rattle.bag_profile.specs.Profile.{Profile}
 use Rattle.bag_report.specs.Report.{IsReport, above, first}
@@ -18,7 +18,7 @@ use Rattle.bag_walk.specs.Ending.{ended, written, TookAll, TookPart}
 use Rattle.bag_walk.specs.declared.outcome.Outcome.{Outcome}
 use Rattle.bag_walk.specs.declared.outcome.Outcome.TheVariants.{Stopped, Unread, Unwritten}
 use Rattle.bag_walk.specs.Lines.{IsLastLine, cursor_after}
-use Rattle.bag_walk.specs.Segment.{IsSegment}
+use Rattle.bag_walk.specs.SegmentEnds.{IsSegment}
 use Rattle.bag_walk.specs.SegmentOpenings.{AreListed, OpensFew}
 use Rattle.bag_walk.specs.Stops.{IfRunUnread, IsOfSummed}
 use Rattle.bag_walk.specs.declared.segment.Segment.{Segment}

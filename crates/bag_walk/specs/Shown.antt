@@ -1,7 +1,8 @@
 -- The first of a list.
 use Rattle.std.proofs.Common.{◌≡◌, ◌++◌, ◌∷◌, List, [], None, Some, refl, ap}
 use Rattle.bag_facts.specs.declared.fault.Fault.{Fault}
-use Rattle.bag_walk.specs.Source.{first_of, rest_of}
+use Rattle.bag_walk.specs.Source.{rest_of}
+use Rattle.bag_walk.specs.Filling.{first_of}
 
 pub first_shown : (fs gs : List Fault) (f : Fault)
     → first_of fs ≡ Some f → first_of (fs ++ gs) ≡ Some f

@@ -1,6 +1,6 @@
 -- A walk that was started.
-use Rattle.std.specs.Prelude.{ℕ, ◌≡◌, ◌≢◌, ◌⊎◌, ◌<◌, false, true, List, [], filter}
-use Rattle.std.specs.Prelude.{Option, Result, Ok, Err, IsTrue}
+use Rattle.std.specs.Prelude.{ℕ, ◌≡◌, ◌≢◌, ◌⊎◌, ◌<◌, false, true, List, [], filter, Option, Result}
+use Rattle.std.specs.Prelude.{Ok, Err, IsTrue}
 use Rattle.bag_text.specs.Code.{stage}
 use Rattle.bag_text.specs.Order.{IsListOf}
 use Rattle.bag_text.specs.Path.{is_payload_path}
@@ -8,13 +8,12 @@ use Rattle.bag_text.specs.Text.{text_cmp}
 use Rattle.bag_text.specs.declared.alg.Alg.{Alg}
 use Rattle.bag_read.specs.declared.kind.Kind.TheVariants.{Payload}
 use Rattle.bag_tree.specs.Bag.{Bag, HasFile, IsBag}
-use Rattle.bag_tree.specs.NothingFailed.{NothingFailed}
-use Rattle.bag_tree.specs.Tree.{TreeState}
+use Rattle.bag_tree.specs.Tree.{NothingFailed, TreeState}
 use Rattle.bag_tree.specs.declared.tree.Tree as Tree
 use Rattle.bag_tree.specs.declared.tree_fault.Stop.{Stop}
 use Rattle.bag_facts.specs.FaultOrder.{fault_cmp}
-use Rattle.bag_facts.specs.Stops.{MayStopReading}
-use Rattle.bag_facts.specs.Wanted.{ForListing, OpensAll, OpensFirst, OpensUpTo}
+use Rattle.bag_facts.specs.TagReader.{MayStopReading, OpensAll, OpensFirst}
+use Rattle.bag_facts.specs.Wanted.{ForListing, OpensUpTo}
 use Rattle.bag_facts.specs.declared.facts.Facts.{Facts}
 use Rattle.bag_facts.specs.declared.fault.Fault.{Fault}
 use Rattle.bag_facts.specs.declared.options.Depth.TheVariants.{Full}
@@ -22,27 +21,17 @@ use Rattle.bag_facts.specs.declared.options.Options.{Options}
 use Rattle.bag_profile.specs.Profile.{Profile}
 use Rattle.bag_report.specs.Report.{Check}
 use Rattle.bag_stages.specs.TagFiles.{Names}
-use Rattle.bag_stages.specs.SummedFiles.{IsSummed}
-use Rattle.bag_walk.specs.FactsOf.{check_with, ForBagOf, ForCheckOf}
+use Rattle.bag_walk.specs.Run.{check_with}
+use Rattle.bag_walk.specs.FactsOf.{ForBagOf, ForCheckOf}
 use Rattle.bag_walk.specs.declared.source.Source as Source
 use Rattle.bag_walk.specs.declared.steps.Steps.{Steps}
 use Rattle.bag_walk.specs.Steps.{left, to_open, IsAhead, IsReportAfter}
-use Rattle.bag_walk.specs.Validity.{is_passed}
+use Rattle.bag_walk.specs.Openings.{is_passed, AreToOpen}
 
 -- the part of a report that is of the stages before this one and above a cursor
 abbrev pub AreAheadBefore : Check → ℕ → Option Fault → List Fault → Type 0
 AreAheadBefore check k after faults =
     IsListOf fault_cmp (λ f. IsAhead check after f × (stage f.code < k)) faults
-
--- A file whose digests are still to be compared: at depth Full one that is there and that a
--- manifest names, and that the cursor hasn't passed.
-abbrev pub IsToOpen : Check → Option Fault → List ℕ → Type 0
-IsToOpen check after path =
-    (check.options.depth ≡ Full) × IsSummed check.bag path × (is_passed after path ≡ false)
-
--- these are they, in path order
-abbrev pub AreToOpen : Check → Option Fault → List (List ℕ) → Type 0
-AreToOpen check after files = IsListOf text_cmp (IsToOpen check after) files
 
 -- and of the payload one that a payload manifest names (RFC 8493, 2.1.3)
 abbrev pub IsListedToOpen : Check → Option Fault → List ℕ → Type 0

@@ -1,23 +1,22 @@
 -- A walk over the faults of a source.
-use Rattle.std.specs.Prelude.{ℕ, ◌≡◌, ◌⊎◌, Bool, true, List, [], Option, None, Some}
-use Rattle.std.specs.Prelude.{Result, Ok, Err, IfErr, IfOk, IsTrue, MatchResult, OnErr, OnOk}
-use Rattle.std.specs.Prelude.{if◌then◌else◌}
+use Rattle.std.specs.Prelude.{ℕ, ◌≡◌, ◌⊎◌, Bool, true, List, [], Option, None, Some, Result, Ok}
+use Rattle.std.specs.Prelude.{Err, IfErr, IfOk, IsTrue, MatchResult, OnErr, OnOk, if◌then◌else◌}
 use Rattle.std.specs.Borrow.{Bor}
 use Rattle.std.specs.Option.{option_copied}
 use Rattle.std.specs.declared.cmp.Ordering.TheVariants.{Less}
 use Rattle.bag_text.specs.Order.{IsListOf}
 use Rattle.bag_tree.specs.Bag.{Bag}
-use Rattle.bag_tree.specs.NothingFailed.{NothingFailed}
-use Rattle.bag_tree.specs.Tree.{TreeState, Keeps}
+use Rattle.bag_tree.specs.Tree.{TreeState, Keeps, NothingFailed}
 use Rattle.bag_tree.specs.declared.tree.Tree as Tree
 use Rattle.bag_tree.specs.declared.tree_fault.Stop.{Stop}
 use Rattle.bag_facts.specs.FaultOrder.{fault_cmp}
 use Rattle.bag_facts.specs.declared.fault.Fault.{Fault}
 use Rattle.bag_report.specs.Report.{Check, IsReported, is_above}
 use Rattle.bag_facts.specs.Stops.{IsOutOfMemory}
-use Rattle.bag_walk.specs.Openings.{IsReached, NoFaultBeforeStop, Opens, OpensAgain}
-use Rattle.bag_walk.specs.Openings.{OpensNoFileEarly, StillWait}
-use Rattle.bag_walk.specs.Source.{first_of, rest_of, MayStopAnyway, MayStopFilling, Sees}
+use Rattle.bag_walk.specs.SourceOpenings.{IsReached, NoFaultBeforeStop, Opens, OpensAgain}
+use Rattle.bag_walk.specs.SourceOpenings.{OpensNoFileEarly, StillWait}
+use Rattle.bag_walk.specs.Source.{rest_of, Sees}
+use Rattle.bag_walk.specs.Filling.{first_of, MayStopAnyway, MayStopFilling}
 use Rattle.bag_walk.specs.declared.source.Source as Source
 use Rattle.bag_walk.specs.declared.steps.Steps.{Steps}
 

@@ -2,14 +2,14 @@
 use Rattle.std.specs.Prelude.{ℕ, ◌≡◌, ◌⊎◌, List, [], ◌∷◌, ◌++◌, map, flat_map}
 use Rattle.std.specs.Prelude.{Option, None, Some, IsTrue}
 use Rattle.bag_tree.specs.Bag.{Bag, file}
-use Rattle.bag_tree.specs.Tree.{TreeState, IsEntryOf}
-use Rattle.bag_tree.specs.Whole.{IsRefusedAt}
+use Rattle.bag_tree.specs.Tree.{TreeState, IsRefusedAt}
+use Rattle.bag_tree.specs.FileReads.{IsEntryOf}
 use Rattle.bag_tree.specs.declared.tree_fault.Stop.{Stop}
 use Rattle.bag_facts.specs.Stops.{IsOutOfMemory}
 use Rattle.bag_facts.specs.declared.fault.Fault.{Fault}
 use Rattle.bag_stages.specs.SumFaults.{faults_of_bytes}
 use Rattle.bag_report.specs.Report.{above}
-use Rattle.bag_walk.specs.Source.{MayStopAnyway, MayStopFilling}
+use Rattle.bag_walk.specs.Filling.{MayStopAnyway, MayStopFilling}
 use Rattle.bag_walk.specs.declared.to_sum.ToSum.{ToSum}
 
 -- the faults of a file with these bytes, and none of one that isn't there

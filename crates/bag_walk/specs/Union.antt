@@ -15,7 +15,8 @@ use Rattle.bag_facts.specs.declared.fault.Fault.{Fault}
 use Rattle.bag_facts.proofs.Ascending.{not_both, not_less_than_itself}
 use Rattle.bag_facts.proofs.Ordered.{fault_cmp_same, fault_cmp_total}
 use Rattle.bag_walk.specs.Merge.{least_of, union, union_is}
-use Rattle.bag_walk.specs.Source.{first_of, rest_of, Where}
+use Rattle.bag_walk.specs.Source.{rest_of}
+use Rattle.bag_walk.specs.Filling.{first_of, Where}
 
 -- a fault is another, or less than it
 abbrev IsUpTo : Fault → Fault → Type 0

@@ -2,7 +2,7 @@
 ghost use Rattle.std.specs.Prelude.{◌≡◌, ◌++◌};
 ghost use Rattle.bag_facts.specs.FaultLine.{field};
 ghost use Rattle.bag_walk.specs.Closing as spec;
-ghost use Rattle.bag_walk.specs.Write.{Writes, joined_pieces};
+ghost use Rattle.bag_walk.specs.Pieces.{Writes, joined_pieces};
 
 use crate::segment::{put_all, put_pieces};
 use crate::{Outcome, Request};

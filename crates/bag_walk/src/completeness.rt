@@ -3,12 +3,12 @@ ghost use Rattle.std.specs.Prelude.{◌≡◌, ⊤, [], false, IfOk};
 ghost use Rattle.std.specs.List.Sorted.{IsStrictlySortedBy};
 ghost use Rattle.std.specs.Option.{option_copied};
 ghost use Rattle.bag_facts.specs.FaultOrder.{fault_cmp};
-ghost use Rattle.bag_facts.specs.Facts.{OfBag};
+ghost use Rattle.bag_facts.specs.FactsOfBag.{OfBag};
 ghost use Rattle.bag_facts.specs.Options.{reaches};
 ghost use Rattle.bag_stages.specs.CompletenessFaults.{IsIncomplete, IsWrong};
 ghost use Rattle.bag_walk.specs.Completeness.{AreAbove, AreSought};
 ghost use Rattle.bag_walk.specs.Completeness.{AreOfStageSix, IsOfAlg, IsOfSomeAlg};
-ghost use Rattle.bag_walk.specs.Source.{first_of};
+ghost use Rattle.bag_walk.specs.Filling.{first_of};
 
 use crate::fixed::{above, merged};
 use crate::{Fixed, InOrder, Quiet, Source};

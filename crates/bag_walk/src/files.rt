@@ -4,7 +4,7 @@ ghost use Rattle.std.specs.Option.{option_copied};
 ghost use Rattle.bag_facts.specs.declared.options.Depth.TheVariants as depth_of;
 ghost use Rattle.bag_walk.specs.FactsOf.{ForBagAtFull};
 ghost use Rattle.bag_walk.specs.Files.{AreToSum, IsToSum};
-ghost use Rattle.bag_walk.specs.Validity.{is_passed};
+ghost use Rattle.bag_walk.specs.Openings.{is_passed};
 
 use crate::to_sum::ToSum;
 use bag_facts::{Depth, Facts, Fault};

@@ -4,7 +4,8 @@ ghost use Rattle.std.specs.Prelude.{IsTrue, IsSome, IfOk, OnSome, if◌then◌el
 ghost use Rattle.std.specs.List.Sorted.{IsStrictlySortedBy};
 ghost use Rattle.std.specs.Option.{option_copied};
 ghost use Rattle.bag_facts.specs.FaultOrder.{fault_cmp};
-ghost use Rattle.bag_walk.specs.Source.{first_of, rest_of, AllBelow, Where};
+ghost use Rattle.bag_walk.specs.Source.{rest_of};
+ghost use Rattle.bag_walk.specs.Filling.{first_of, AllBelow, Where};
 ghost use Rattle.bag_report.specs.Report.{above};
 ghost use Rattle.bag_walk.specs.Completeness.{TakesLeast};
 ghost use Rattle.bag_walk.specs.Merge.{union, IfBothAscend};

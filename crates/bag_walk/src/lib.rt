@@ -37,6 +37,7 @@ mod source;
 mod steps;
 mod to_sum;
 mod validity;
+mod walk_run;
 
 pub use closing::put_line;
 pub use completeness::Completeness;

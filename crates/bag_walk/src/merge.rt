@@ -1,13 +1,12 @@
 //! Two sources at once.
 ghost use Rattle.std.specs.Prelude.{◌≡◌, ◌++◌, [], None, false, IfErr, OnOk, OnErr, if◌then◌else◌};
 ghost use Rattle.std.specs.Option.{option_copied};
-ghost use Rattle.bag_tree.specs.NothingFailed.{NothingFailed};
-ghost use Rattle.bag_tree.specs.Tree.{Keeps};
+ghost use Rattle.bag_tree.specs.Tree.{Keeps, NothingFailed};
 ghost use Rattle.bag_walk.specs.Filled.{awaits_second, is_both};
 ghost use Rattle.bag_walk.specs.declared.merge.Filled.TheVariants.{Neither};
 ghost use Rattle.bag_walk.specs.Merge.{fronts, least_of, union};
-ghost use Rattle.bag_walk.specs.Source.{first_of, ForEachSeen, IsOfHonest, Where};
-ghost use Rattle.bag_walk.specs.Source.{MayStopAnyway, MayStopFilling};
+ghost use Rattle.bag_walk.specs.Source.{ForEachSeen, IsOfHonest};
+ghost use Rattle.bag_walk.specs.Filling.{first_of, Where, MayStopAnyway, MayStopFilling};
 ghost use Rattle.bag_walk.specs.Union.{first_of_merged, union_ascends};
 
 use crate::{InOrder, Quiet, Source};

@@ -1,6 +1,7 @@
 //! What a run is asked for, and how it ends.
 ghost use Rattle.std.specs.Prelude.{◌≡◌};
 ghost use Rattle.bag_walk.specs.Closing as spec;
+ghost use Rattle.bag_walk.specs.ExitStatus as exit_status;
 
 use bag_facts::{Fault, Options};
 use bag_text::Text;
@@ -57,7 +58,7 @@ impl Outcome {
 
 /// The exit status of a run: 0 for `Clean` alone, 3 where something was refused, and else 1.
 pub fn status(outcome: &Outcome) -> u8
-    ensures { result ≡ spec.status outcome.now }
+    ensures { result ≡ exit_status.status outcome.now }
 {
     match outcome {
         Outcome::Clean => 0,

@@ -2,22 +2,21 @@
 ghost use Rattle.std.specs.Prelude.{ℕ, ◌≡◌, List, [], drop, string_bytes};
 ghost use Rattle.std.specs.Prelude.{IfOk, IsTrue, OnOk, Option};
 ghost use Rattle.std.specs.Option.{option_copied};
-ghost use Rattle.bag_tree.specs.NothingFailed.{NothingFailed};
 ghost use Rattle.bag_tree.specs.Out.{OutState};
-ghost use Rattle.bag_tree.specs.Tree.{Keeps};
+ghost use Rattle.bag_tree.specs.Tree.{Keeps, NothingFailed};
 ghost use Rattle.bag_facts.specs.declared.fault.Fault.{Fault as FaultValue};
 ghost use Rattle.bag_facts.specs.Stops.{IsOutOfMemory};
 ghost use Rattle.bag_walk.specs.Closing.{count_of};
 ghost use Rattle.bag_walk.specs.Ending.{limit_of, written_line, ended};
-ghost use Rattle.bag_walk.specs.Openings.{NoFaultBeforeStop, OpensNoFileEarly};
+ghost use Rattle.bag_walk.specs.SourceOpenings.{NoFaultBeforeStop, OpensNoFileEarly};
 ghost use Rattle.bag_walk.specs.Steps.{left, to_open, ForEachBag, WalkIsOfHonest, MayReopenLast};
 ghost use Rattle.bag_walk.specs.Lines.{IsLastOf, IsLastLine};
-ghost use Rattle.bag_walk.specs.Segment.{ClosesSegment, IfUnread, IsRead, IsSegment};
-ghost use Rattle.bag_walk.specs.Segment.{MayStopWalk, StopsAt, still_to_come};
+ghost use Rattle.bag_walk.specs.SegmentEnds.{ClosesSegment, IfUnread, IsRead, IsSegment};
+ghost use Rattle.bag_walk.specs.SegmentEnds.{MayStopWalk, StopsAt, still_to_come};
 ghost use Rattle.bag_walk.specs.Stops.{IfRunUnread};
-ghost use Rattle.bag_facts.specs.FaultOrder.{IsFault};
+ghost use Rattle.bag_facts.specs.LineOf.{IsFault};
 ghost use Rattle.bag_walk.specs.Writer.{Closes};
-ghost use Rattle.bag_walk.specs.Write.{Writes, joined_pieces};
+ghost use Rattle.bag_walk.specs.Pieces.{Writes, joined_pieces};
 
 use crate::closing::put_closing;
 use crate::{InOrder, Outcome, Request, Steps};

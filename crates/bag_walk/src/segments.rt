@@ -1,13 +1,13 @@
 //! A report in segments, each with a limit of its own.
 ghost use Rattle.std.specs.Prelude.{◌≡◌, ◌<◌, ◌≤◌, ◌^◌, ℕ, List, sum, string_bytes};
 ghost use Rattle.std.specs.Option.{option_copied};
-ghost use Rattle.bag_tree.specs.NothingFailed.{NothingFailed};
-ghost use Rattle.bag_tree.specs.Tree.{Keeps};
+ghost use Rattle.bag_tree.specs.Tree.{Keeps, NothingFailed};
 ghost use Rattle.bag_facts.specs.declared.fault.Fault.{Fault as FaultValue};
-ghost use Rattle.bag_walk.specs.Openings.{OpensAgain, OpensNoFileEarly};
+ghost use Rattle.bag_walk.specs.SourceOpenings.{OpensAgain, OpensNoFileEarly};
 ghost use Rattle.bag_walk.specs.Steps.{left, to_open, ForEachBag, WalkIsOfHonest};
 ghost use Rattle.bag_walk.specs.Lines.{IsLastOf};
-ghost use Rattle.bag_walk.specs.Segment.{IfUnread, IsRead, IsSegment, MayStopRun, still_to_come};
+ghost use Rattle.bag_walk.specs.Segment.{MayStopRun};
+ghost use Rattle.bag_walk.specs.SegmentEnds.{IfUnread, IsRead, IsSegment, still_to_come};
 ghost use Rattle.bag_walk.specs.SegmentChain.{RunsInSegments};
 ghost use Rattle.bag_walk.specs.SegmentOpenings.{AreListed, OpensInSegment};
 ghost use Rattle.bag_walk.specs.Stops.{MayStop};

@@ -2,9 +2,8 @@
 ghost use Rattle.std.specs.Prelude.{◌≡◌, ◌≢◌, false, IfErr, IfOk, OnErr, OnOk};
 ghost use Rattle.std.specs.Option.{option_copied};
 ghost use Rattle.bag_tree.specs.Bag.{Bag};
-ghost use Rattle.bag_tree.specs.NothingFailed.{NothingFailed};
-ghost use Rattle.bag_tree.specs.Tree.{Keeps};
-ghost use Rattle.bag_facts.specs.Facts.{IsFactsOf};
+ghost use Rattle.bag_tree.specs.Tree.{Keeps, NothingFailed};
+ghost use Rattle.bag_facts.specs.FactsOfBag.{IsFactsOf};
 ghost use Rattle.bag_facts.specs.Wanted.{OpensWanted};
 ghost use Rattle.bag_walk.specs.Completeness.{IsStageAbove};
 ghost use Rattle.bag_walk.specs.FactsOf.{ForCheckOf};

@@ -1,8 +1,8 @@
 //! A file whose digests are to be compared.
 ghost use Rattle.std.specs.Prelude.{◌≡◌, Contains, length, IsTrue, IfOk, IfErr, OnOk, OnErr};
 ghost use Rattle.std.specs.Option.{option_copied};
-ghost use Rattle.bag_tree.specs.NothingFailed.{NothingFailed};
-ghost use Rattle.bag_tree.specs.Tree.{Keeps, OpensAtMost};
+ghost use Rattle.bag_tree.specs.Tree.{Keeps, NothingFailed};
+ghost use Rattle.bag_tree.specs.FileReads.{OpensAtMost};
 ghost use Rattle.bag_stages.specs.declared.expected.Expected.{Expected as Given};
 ghost use Rattle.bag_report.specs.Report.{above};
 ghost use Rattle.bag_walk.specs.ToSum.{faults_in, MayStopAtIt, MayStopAtItAnyway};

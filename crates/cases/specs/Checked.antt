@@ -3,7 +3,7 @@ use Rattle.std.specs.Prelude.{ℕ, ◌≡◌, List, [], Option, Some}
 use Rattle.bag_store.specs.Out.{OutState}
 use Rattle.bag_store.specs.Tree.{TreeState}
 use Rattle.bag_profile.specs.Profile.{Profile}
-use Rattle.bag_walk.specs.Closing as spec
+use Rattle.bag_walk.specs.ExitStatus as spec
 use Rattle.bag_walk.specs.declared.outcome.Outcome.{Outcome}
 use Rattle.bag_walk.specs.declared.outcome.Request.{Request}
 use Rattle.bag_walk.specs.Run.{IsRun}

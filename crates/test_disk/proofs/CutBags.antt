@@ -16,7 +16,8 @@ use Rattle.bag_tree.specs.Moved.{moved}
 use Rattle.bag_tree.specs.Steps.{create, has_within}
 use Rattle.bag_tree.specs.declared.event.DeviceEvent.TheVariants as event
 use Rattle.bag_disk.specs.BagBelow.{file_of_disk, folder_of_disk}
-use Rattle.bag_disk.specs.Disk.{IsDisk, Node, Nodes, bytes_of, is_folder_node, node}
+use Rattle.bag_disk.specs.Disk.{Node, Nodes, bytes_of, is_folder_node}
+use Rattle.bag_disk.specs.DiskNodes.{IsDisk, node}
 use Rattle.bag_disk.specs.Disk.Node.{File, Folder}
 use Rattle.bag_disk.specs.DiskBag.{bag_of}
 use Rattle.bag_disk.specs.WritableDisk.{Appends, Moves, with_file_node, with_folder_node}

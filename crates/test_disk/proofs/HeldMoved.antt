@@ -14,8 +14,10 @@ use Rattle.std.proofs.Math.Dec.{T}
 use Rattle.std.proofs.lemmas.Bool.{and_from}
 use Rattle.bag_text.specs.Text.{text_cmp}
 use Rattle.bag_tree.proofs.SameText.{exact_texts}
-use Rattle.bag_tree.specs.Moved.{KeepsOthers, moved, with_renamed}
-use Rattle.bag_disk.specs.Disk.{Nodes, node}
+use Rattle.bag_tree.specs.Moved.{moved, with_renamed}
+use Rattle.bag_tree.specs.MovesAll.{KeepsOthers}
+use Rattle.bag_disk.specs.Disk.{Nodes}
+use Rattle.bag_disk.specs.DiskNodes.{node}
 use Rattle.bag_disk.proofs.Moving.{nodes_move}
 use Rattle.test_disk.specs.Held.{Held, entries_of, nodes_of}
 use Rattle.test_disk.specs.Placing.{PassesAsDisk}

@@ -17,7 +17,8 @@ use Rattle.std.specs.Ordering.{eq_by_cmp}
 use Rattle.bag_text.specs.Text.{text_cmp, after_prefix}
 use Rattle.bag_text.specs.Path.{slash, under}
 use Rattle.bag_tree.proofs.SameText.{one_text, text_itself}
-use Rattle.bag_disk.specs.Disk.{AreNamesIn, HasUnnamed, IsName, Node}
+use Rattle.bag_disk.specs.Disk.{Node}
+use Rattle.bag_disk.specs.DiskNodes.{AreNamesIn, HasUnnamed, IsName}
 use Rattle.bag_disk.specs.Location.{path_in}
 use Rattle.test_disk.specs.Held.{Held, entries_of, nodes_of, node_of, name_in, names_in, as_name, after_folder}
 

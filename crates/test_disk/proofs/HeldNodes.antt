@@ -8,6 +8,7 @@ use Rattle.std.specs.Option.{option_map, option_copied}
 use Rattle.std.specs.BTreeMap.{is_at}
 use Rattle.bag_text.specs.Text.{text_cmp}
 use Rattle.bag_disk.specs.Disk as disk
+use Rattle.bag_disk.specs.DiskNodes as standing
 use Rattle.test_disk.specs.Held.{Held, entries_of, nodes_of, node_of}
 use Rattle.test_disk.specs.declared.held.Node.{Node}
 
@@ -25,7 +26,7 @@ find_held (e ∷ held) q =
 
 -- what stands at a path is what a lookup finds
 pub found_at : (held : Held) (q : List ℕ)
-    → disk.node (nodes_of held) q ≡ option_map node_of (lookup (is_at (λ k. text_cmp q k.items)) held)
+    → standing.node (nodes_of held) q ≡ option_map node_of (lookup (is_at (λ k. text_cmp q k.items)) held)
 found_at held q = get-from_entries nat_list_cmp_total (entries_of held) q ∙ find_held held q
 
 pub match_copied : (r : Option (Bor Node)) (o : Option Node) (p : Option disk.Node) → option_copied r ≡ o

@@ -9,7 +9,8 @@ use Rattle.std.specs.Cmp.Lexicographic.{nat_list_cmp_total}
 use Rattle.std.specs.Ordering.{eq_by_cmp}
 use Rattle.bag_text.specs.Text.{text_cmp}
 use Rattle.bag_tree.proofs.SameText.{one_text}
-use Rattle.bag_disk.specs.Disk.{Nodes, Node, node, IsDisk, is_folder_node, is_plain_found}
+use Rattle.bag_disk.specs.Disk.{Nodes, Node, is_folder_node}
+use Rattle.bag_disk.specs.DiskNodes.{node, IsDisk, is_plain_found}
 use Rattle.bag_disk.specs.Disk.Node.{File, Folder, Other}
 use Rattle.test_disk.specs.Held.{Held, entries_of, nodes_of, node_of}
 use Rattle.test_disk.specs.Placing.{IsPlaced, PassesAsDisk, are_bytes, has_bytes}

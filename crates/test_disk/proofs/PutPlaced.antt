@@ -11,7 +11,8 @@ use Rattle.std.specs.Str.{is_utf8}
 use Rattle.bag_text.specs.Text.{text_cmp}
 use Rattle.bag_text.specs.Path.{is_path, slash, under}
 use Rattle.bag_tree.proofs.SameText.{one_text}
-use Rattle.bag_disk.specs.Disk.{Nodes, Node, node, IsReachedByFolders, is_folder_node, is_plain_found}
+use Rattle.bag_disk.specs.Disk.{Nodes, Node, is_folder_node}
+use Rattle.bag_disk.specs.DiskNodes.{node, IsReachedByFolders, is_plain_found}
 use Rattle.bag_disk.specs.Disk.Node.{File}
 use Rattle.bag_disk.specs.WritableDisk.{Appends}
 use Rattle.test_disk.specs.Placing.{PassesAsDisk, are_bytes, has_bytes}

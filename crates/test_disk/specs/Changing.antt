@@ -1,6 +1,7 @@
 -- When a disk in memory refuses a change.
 use Rattle.std.specs.Prelude.{ℕ, ◌≡◌, ◌⊎◌, List, Option, None, Some}
-use Rattle.bag_disk.specs.Disk.{Nodes, Has, IsDisk, IsFolder, IsReachedByFolders, node, bytes_of}
+use Rattle.bag_disk.specs.Disk.{Nodes, bytes_of}
+use Rattle.bag_disk.specs.DiskNodes.{Has, IsDisk, IsFolder, IsReachedByFolders, node}
 use Rattle.bag_tree.specs.Moved.{moved}
 use Rattle.bag_disk.specs.declared.disk.DiskFault.{DiskFault}
 use Rattle.bag_disk.specs.declared.disk.DiskFault.TheVariants.{NotFound, Exists, Name, Memory}

@@ -4,11 +4,11 @@ use Rattle.std.specs.Prelude.{◌≡◌, ◌<◌, ◌≤◌, ◌∷◌, ◌++◌
 use Rattle.std.specs.Prelude.{IfOk, IsErrOf, IsTrue, MatchOption, OnErr, OnOk, Result, length, take}
 use Rattle.std.specs.Prelude.{⊤}
 use Rattle.std.specs.Option.{option_map}
-use Rattle.bag_tree.specs.Moved.{KeepsOthers}
-use Rattle.bag_tree.specs.Tree.{ReadsNext}
-use Rattle.bag_disk.specs.Disk.{AreNamesIn, DiskState, Has, HasUnnamed, IsFileWith, IsFolder}
-use Rattle.bag_disk.specs.Disk.{IsReachedByFolders, OnlyLooks, OnlySyncs, SameDisk, entry_of_node}
-use Rattle.bag_disk.specs.Disk.{node}
+use Rattle.bag_tree.specs.MovesAll.{KeepsOthers}
+use Rattle.bag_tree.specs.FileReads.{ReadsNext}
+use Rattle.bag_disk.specs.Disk.{DiskState}
+use Rattle.bag_disk.specs.DiskNodes.{AreNamesIn, Has, HasUnnamed, IsReachedByFolders, entry_of_node}
+use Rattle.bag_disk.specs.DiskNodes.{IsFileWith, IsFolder, OnlyLooks, OnlySyncs, SameDisk, node}
 use Rattle.bag_text.specs.Path.{is_path}
 use Rattle.bag_disk.specs.Refusal.{IsCountedAs, at_known, of_making, of_name, refusal_at_path}
 use Rattle.bag_disk.specs.WritableDisk.{Appends, ClosesOpenFile, HasFileNode, MakesFile}

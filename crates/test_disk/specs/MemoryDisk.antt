@@ -3,7 +3,8 @@ use Rattle.std.specs.Prelude.{ℕ, ◌≡◌, Bool, true, false, List, [], Optio
 use Rattle.std.specs.Prelude.{Err, drop, bytes_eq, if◌then◌else◌}
 use Rattle.std.specs.List.{list_any}
 use Rattle.std.specs.Option.{option_map}
-use Rattle.bag_disk.specs.Disk.{DiskState, Nodes, Node, entry_of_node, node, bytes_of}
+use Rattle.bag_disk.specs.Disk.{DiskState, Nodes, Node, bytes_of}
+use Rattle.bag_disk.specs.DiskNodes.{entry_of_node, node}
 use Rattle.bag_disk.specs.Failures.{failures_counted}
 use Rattle.bag_disk.specs.declared.disk.Entry.{Entry}
 use Rattle.bag_disk.specs.declared.disk.DiskFault.{DiskFault}

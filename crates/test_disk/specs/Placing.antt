@@ -4,8 +4,8 @@ use Rattle.std.specs.Prelude.{nat_lt}
 use Rattle.std.specs.List.{list_all}
 use Rattle.std.specs.Str.{is_utf8}
 use Rattle.bag_text.specs.Path.{is_path, under}
-use Rattle.bag_disk.specs.Disk.{Nodes, Node, node, Has, IsReachedByFolders, is_folder_node}
-use Rattle.bag_disk.specs.Disk.{is_plain_found}
+use Rattle.bag_disk.specs.Disk.{Nodes, Node, is_folder_node}
+use Rattle.bag_disk.specs.DiskNodes.{node, Has, IsReachedByFolders, is_plain_found}
 use Rattle.bag_disk.specs.Disk.Node.{File, Folder, Other}
 
 -- what is no Other has a name in UTF-8

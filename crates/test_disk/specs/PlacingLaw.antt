@@ -4,7 +4,8 @@ use Rattle.std.proofs.Common.{refl, ap, sym, ◌∙◌}
 use Rattle.std.proofs.lemmas.Bool.{and_parts, ltb-true, false≢true}
 use Rattle.std.proofs.lemmas.List.Elements.{All-nil, All-cons}
 use Rattle.std.proofs.lemmas.Str.{IsUtf8-from_is_utf8}
-use Rattle.bag_disk.specs.Disk.{Nodes, Node, IsDisk, is_plain_node, is_plain_found, is_folder_node}
+use Rattle.bag_disk.specs.Disk.{Nodes, Node, is_plain_node, is_folder_node}
+use Rattle.bag_disk.specs.DiskNodes.{IsDisk, is_plain_found}
 use Rattle.bag_disk.specs.Disk.Node.{File, Folder, Other}
 use Rattle.test_disk.specs.Placing.{PassesAsDisk, are_bytes, has_bytes}
 

@@ -3,7 +3,7 @@ ghost use Rattle.std.specs.Prelude.{◌≡◌, ◌∷◌, ◌++◌, [], IfErr, I
 ghost use Rattle.std.specs.FinMap as map;
 ghost use Rattle.bag_text.specs.Path.{slash};
 ghost use Rattle.bag_tree.specs.Moved as moving;
-ghost use Rattle.bag_disk.specs.Disk.{IsDisk, IsReachedByFolders, node};
+ghost use Rattle.bag_disk.specs.DiskNodes.{IsDisk, IsReachedByFolders, node};
 ghost use Rattle.bag_disk.specs.WritableDisk.{Appends, Moves};
 ghost use Rattle.test_disk.specs.Changing.{MayRefuseAdding, MayRefuseMoving, MayRefuseWriting};
 ghost use Rattle.test_disk.specs.Held.{node_of, nodes_of};

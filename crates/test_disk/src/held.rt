@@ -1,6 +1,7 @@
 //! What a disk in memory holds, by its paths.
 ghost use Rattle.std.specs.Prelude.{◌≡◌, IfOk, MatchOption, None, Some, map};
-ghost use Rattle.bag_disk.specs.Disk.{entry_of_node, node, is_folder_node};
+ghost use Rattle.bag_disk.specs.Disk.{is_folder_node};
+ghost use Rattle.bag_disk.specs.DiskNodes.{entry_of_node, node};
 ghost use Rattle.test_disk.specs.Held.{below, name_in, names_in, node_of, nodes_of};
 
 use bag_disk::Entry;

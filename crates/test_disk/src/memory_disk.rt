@@ -37,7 +37,7 @@ pub struct MemoryDisk {
 
 impl MemoryDisk {
     ghost use Rattle.std.specs.Prelude.{◌≡◌, ◌++◌, ◌∷◌, [], IfOk, MatchOption, OnOk, OnErr};
-    ghost use Rattle.bag_disk.specs.Disk.{IsDisk};
+    ghost use Rattle.bag_disk.specs.DiskNodes.{IsDisk};
     ghost use Rattle.test_disk.specs.MemoryDisk.{fresh, not_honest, barred_of, state_of};
 
     /// A disk that holds this at these paths; none where that can't stand on a disk: a key isn't a
@@ -129,7 +129,7 @@ impl MemoryDisk {
 
 impl MemoryDisk {
     ghost use Rattle.std.specs.Prelude.{◌≡◌, IfErr, IfOk, IsErrOf, None, Some};
-    ghost use Rattle.bag_disk.specs.Disk.{node};
+    ghost use Rattle.bag_disk.specs.DiskNodes.{node};
     ghost use Rattle.bag_disk.specs.declared.disk.DiskFault.TheVariants.{NotFound};
     ghost use Rattle.test_disk.specs.MemoryDisk.{MayRefuse, bytes_with, content_of, is_barred};
 
@@ -172,10 +172,11 @@ impl Disk for MemoryDisk {
     ghost use Rattle.std.specs.Prelude.{length, ℕ, ⊤};
     ghost use Rattle.std.specs.Option.{option_map};
     ghost use Rattle.bag_text.specs.Path.{is_path};
-    ghost use Rattle.bag_tree.specs.Tree.{ReadsNext};
-    ghost use Rattle.bag_disk.specs.Disk.{AreNamesIn, HasUnnamed, IsFileWith, IsFolder};
-    ghost use Rattle.bag_disk.specs.Disk.{IsReachedByFolders, OnlyLooks, SameDisk, entry_of_node};
-    ghost use Rattle.bag_disk.specs.Disk.{node};
+    ghost use Rattle.bag_tree.specs.FileReads.{ReadsNext};
+    ghost use Rattle.bag_disk.specs.DiskNodes.{AreNamesIn, HasUnnamed, IsFileWith, IsFolder};
+    ghost use Rattle.bag_disk.specs.DiskNodes.{IsReachedByFolders, OnlyLooks, SameDisk};
+    ghost use Rattle.bag_disk.specs.DiskNodes.{entry_of_node};
+    ghost use Rattle.bag_disk.specs.DiskNodes.{node};
     ghost use Rattle.bag_disk.specs.Refusal.{IsCountedAs, at_known, of_name, refusal_at_path};
     ghost use Rattle.bag_disk.specs.declared.disk.DiskFault.TheVariants.{Memory, Name, NotFound};
     ghost use Rattle.test_disk.specs.MemoryDisk.{IsEntry, MayRefuse, barred_of, content_of};
@@ -331,11 +332,12 @@ impl WritableDisk for MemoryDisk {
     ghost use Rattle.std.specs.Prelude.{◌≡◌, ◌<◌, ◌≤◌, IfErr, IfOk, IsErrOf, IsTrue, List, None};
     ghost use Rattle.std.specs.Prelude.{OnErr, OnOk, Some, is_some, length, take, ℕ};
     ghost use Rattle.bag_text.specs.Path.{is_path};
-    ghost use Rattle.bag_disk.specs.Disk.{Has, IsFolder, IsReachedByFolders, OnlyLooks, OnlySyncs};
-    ghost use Rattle.bag_disk.specs.Disk.{node};
+    ghost use Rattle.bag_disk.specs.DiskNodes.{Has, IsFolder, IsReachedByFolders, OnlyLooks};
+    ghost use Rattle.bag_disk.specs.DiskNodes.{OnlySyncs};
+    ghost use Rattle.bag_disk.specs.DiskNodes.{node};
     ghost use Rattle.bag_disk.specs.WritableDisk.{Appends, ClosesOpenFile, HasFileNode, MakesFile};
     ghost use Rattle.bag_disk.specs.WritableDisk.{MakesFolderNode, Moves, Notes};
-    ghost use Rattle.bag_tree.specs.Moved.{KeepsOthers};
+    ghost use Rattle.bag_tree.specs.MovesAll.{KeepsOthers};
     ghost use Rattle.bag_tree.specs.declared.event.DeviceEvent.TheVariants.{MakeFolder, Rename};
     ghost use Rattle.bag_tree.specs.declared.event.DeviceEvent.TheVariants.{Create, Write, Sync};
     ghost use Rattle.bag_tree.specs.declared.event.DeviceEvent.TheVariants.{SyncFolder};

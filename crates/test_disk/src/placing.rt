@@ -1,7 +1,7 @@
 //! Whether what is held can stand on a disk.
 ghost use Rattle.std.specs.Prelude.{◌≡◌, ◌↔◌, IsTrue, All, Some, true};
 ghost use Rattle.bag_text.specs.Path as spec;
-ghost use Rattle.bag_disk.specs.Disk.{IsDisk, IsReachedByFolders, node};
+ghost use Rattle.bag_disk.specs.DiskNodes.{IsDisk, IsReachedByFolders, node};
 ghost use Rattle.test_disk.specs.Held.{node_of, nodes_of};
 ghost use Rattle.test_disk.specs.Placing.{IsPlaced, HasTextPath, are_bytes, has_bytes};
 

@@ -4,7 +4,8 @@ ghost use Rattle.bag_text.specs.Path.{is_base_name};
 ghost use Rattle.bag_tree.specs.Cut as cut;
 ghost use Rattle.bag_tree.specs.declared.event.DeviceEvent.TheVariants.{Create, MakeFolder, Rename};
 ghost use Rattle.bag_tree.specs.declared.event.DeviceEvent.TheVariants.{Write};
-ghost use Rattle.bag_disk.specs.Disk.{bytes_of, node};
+ghost use Rattle.bag_disk.specs.Disk.{bytes_of};
+ghost use Rattle.bag_disk.specs.DiskNodes.{node};
 ghost use Rattle.test_disk.specs.Held.{nodes_of};
 ghost use Rattle.test_disk.specs.Cuts.{AddsLeft, AreLeftBy, MayBeLeft, bag_in};
 

@@ -1,6 +1,6 @@
 //! Reads of bytes in memory.
 ghost use Rattle.std.specs.Prelude.{◌<◌, ◌≤◌, ◌+◌, ◌-◌, Some, drop, length};
-ghost use Rattle.bag_tree.specs.Tree.{ReadsNext};
+ghost use Rattle.bag_tree.specs.FileReads.{ReadsNext};
 
 /// Copies into a buffer what follows a place, as much as there is room for.
 pub(crate) fn read_at(bytes: &[u8], at: usize, buffer: &mut [u8]) -> usize

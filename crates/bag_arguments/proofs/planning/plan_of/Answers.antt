@@ -1,6 +1,6 @@
 use Rattle.std.proofs.lemmas.Grind.{common_steps}
 use Rattle.bag_arguments.proofs.Common.{arith, ◌≡◌, ◌≢◌, ◌==◌, List, [], Bool, false, map, length, Bor, Text}
-use Rattle.bag_arguments.specs.Given.{rows_in}
+use Rattle.bag_arguments.specs.GivenRows.{rows_in}
 use Rattle.bag_arguments.proofs.Answering.{declined_answered, plans_not_refused, taken_answered}
 use Rattle.bag_arguments.proofs.planning.plan_of.Goals as goal
 

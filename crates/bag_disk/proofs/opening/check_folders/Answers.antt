@@ -4,7 +4,7 @@ use Rattle.bag_disk.proofs.DiskPaths.{slash_passed, other_passed, slash_reached,
 use Rattle.bag_disk.proofs.DiskSteps.{looks_at_first, looks_on}
 use Rattle.bag_disk.proofs.Looked.{had_before}
 use Rattle.bag_disk.proofs.Refusals.{due_for}
-use Rattle.bag_disk.specs.Disk.{WhereReached}
+use Rattle.bag_disk.specs.DiskNodes.{WhereReached}
 use Rattle.bag_disk.proofs.opening.check_folders.Goals as goal
 use Rattle.bag_disk.proofs.opening.check_folders.Goals.{then-byte-eq47+in_ok-check_is_folder, else-byte-eq47}
 

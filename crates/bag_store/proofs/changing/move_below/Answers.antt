@@ -2,7 +2,7 @@ use Rattle.bag_store.proofs.Common.{arith, ◌≡◌, ◌∙◌, true, false, ha
 use Rattle.bag_store.proofs.Common.{due_in_step, err_from_is_err_and, move_due_for, Folder, HasSpecial, IsTrue}
 use Rattle.bag_store.proofs.Common.{IsReachedByFolders, MeetsSpecial, Some, is_taken, node}
 use Rattle.bag_store.proofs.BagSteps.{special_met, file_in_target, folder_in_target, lacks_place, lacks_top, moved_into}
-use Rattle.bag_disk.specs.Disk.{WhereReached}
+use Rattle.bag_disk.specs.DiskNodes.{WhereReached}
 use Rattle.bag_text.specs.Path.{under}
 use Rattle.bag_store.proofs.AskedOf.{move_noted}
 use Rattle.bag_store.proofs.BaseNames.{base_reached, path_in_is_under, target_is_path}

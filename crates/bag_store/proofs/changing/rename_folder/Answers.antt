@@ -1,7 +1,7 @@
 use Rattle.bag_store.proofs.AskedOf.{rename_asked, rename_refused, syncs_refused}
 use Rattle.bag_store.proofs.Common.{arith, looks_on, had_before, due_in_step, err_from_is_err_and}
 use Rattle.bag_store.proofs.Common.{◌≡◌, ◌∙◌, Folder, HasSpecial, Some, node}
-use Rattle.bag_disk.specs.Disk.{WhereReached}
+use Rattle.bag_disk.specs.DiskNodes.{WhereReached}
 use Rattle.bag_store.proofs.BagSteps.{lacks_it}
 use Rattle.bag_store.proofs.BaseNames.{base_reached}
 use Rattle.bag_disk.proofs.Mapped.{either_mapped, on_ok_mapped}

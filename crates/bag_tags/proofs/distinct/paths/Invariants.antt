@@ -1,5 +1,5 @@
 use Rattle.bag_tags.proofs.Common.{◌≡◌, take, lent_texts}
-use Rattle.bag_tags.specs.Entry as spec
+use Rattle.bag_tags.specs.Writable as spec
 use Rattle.bag_tags.proofs.distinct.paths.Given as goal
 
 abbrev pub invariant-loop-entry : goal.invariant-loop-entry

@@ -1,4 +1,4 @@
-use Rattle.bag_disk.specs.Disk.{IsReachedTo}
+use Rattle.bag_disk.specs.DiskNodes.{IsReachedTo}
 use Rattle.test_disk.specs.Held.{nodes_of}
 use Rattle.test_disk.proofs.placing.is_reached.Given as goal
 

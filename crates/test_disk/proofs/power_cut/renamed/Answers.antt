@@ -2,7 +2,8 @@ use Rattle.std.proofs.Common.{◌≡◌, Some, arith, true, lit<}
 use Rattle.std.proofs.lemmas.Slice.Eq.{bytes_eq-Decides}
 use Rattle.std.proofs.lemmas.Str.Pattern.{split_once_first}
 use Rattle.bag_text.specs.Path.{is_base_name, under}
-use Rattle.bag_disk.specs.Disk.{is_folder_node, node}
+use Rattle.bag_disk.specs.Disk.{is_folder_node}
+use Rattle.bag_disk.specs.DiskNodes.{node}
 use Rattle.test_disk.specs.Held.{nodes_of}
 use Rattle.test_disk.proofs.CutBags.{moved_left}
 use Rattle.test_disk.proofs.CutPaths.{parted_at}

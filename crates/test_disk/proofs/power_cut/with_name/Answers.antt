@@ -1,6 +1,7 @@
 use Rattle.std.proofs.Common.{◌≡◌, arith, true}
 use Rattle.bag_text.specs.Path.{is_base_name}
-use Rattle.bag_disk.specs.Disk.{is_folder_node, node}
+use Rattle.bag_disk.specs.Disk.{is_folder_node}
+use Rattle.bag_disk.specs.DiskNodes.{node}
 use Rattle.test_disk.specs.Held.{nodes_of}
 use Rattle.test_disk.proofs.CutBags.{renamed_left}
 use Rattle.test_disk.proofs.power_cut.with_name.Goals as goal

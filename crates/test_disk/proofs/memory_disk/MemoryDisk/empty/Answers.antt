@@ -1,5 +1,5 @@
 use Rattle.std.proofs.Common.{sym, subst}
-use Rattle.bag_disk.specs.Disk.{empty_disk, IsDisk}
+use Rattle.bag_disk.specs.DiskNodes.{empty_disk, IsDisk}
 use Rattle.test_disk.specs.Held.{nodes_of}
 use Rattle.test_disk.proofs.memory_disk.MemoryDisk.empty.Goals as goal
 

@@ -1,5 +1,5 @@
 use Rattle.std.proofs.Common.{subst, sym, ap, ◌∙◌}
-use Rattle.bag_disk.specs.Disk.{IsDisk}
+use Rattle.bag_disk.specs.DiskNodes.{IsDisk}
 use Rattle.test_disk.specs.Held.{nodes_of}
 use Rattle.test_disk.specs.MemoryDisk.{fresh}
 use Rattle.test_disk.specs.PlacingLaw.{passing_is_disk}

@@ -1,5 +1,5 @@
 use Rattle.std.proofs.Common.{subst, sym, ap, ◌∙◌}
-use Rattle.bag_disk.specs.Disk.{AreNamesIn}
+use Rattle.bag_disk.specs.DiskNodes.{AreNamesIn}
 use Rattle.test_disk.specs.Held.{names_in, nodes_of}
 use Rattle.test_disk.proofs.HeldNames.{names_are_in}
 use Rattle.test_disk.proofs.memory_disk.MemoryDiskDisk.enter.Goals as goal

@@ -1,6 +1,6 @@
 use Rattle.std.proofs.Common.{◌≡◌, None, arith}
 use Rattle.std.proofs.lemmas.Grind.{common_steps}
-use Rattle.bag_disk.specs.Disk.{node}
+use Rattle.bag_disk.specs.DiskNodes.{node}
 use Rattle.bag_tree.specs.Moved.{moved}
 use Rattle.test_disk.specs.Held.{nodes_of}
 use Rattle.test_disk.proofs.HeldMoved.{others_stay}

@@ -1,7 +1,7 @@
 use Rattle.bag_walk.proofs.Common.{◌∙◌, ap, drop, List, IsTrue, min, ◌-◌, Bag, Fault, limit_of, NoFaultBeforeStop, Sees}
 use Rattle.bag_walk.proofs.Common.{shown_by, to_give}
 use Rattle.bag_walk.proofs.Running.{calmly, looked_before, stopped_run, stopped_when}
-use Rattle.bag_walk.proofs.runner.run_of_walk.Goals as goal
+use Rattle.bag_walk.proofs.walk_run.run_of_walk.Goals as goal
 
 pub returns : goal.returns
 returns g c =

@@ -1,7 +1,7 @@
 use Rattle.bag_make.proofs.Common.{◌∙◌, All, IsTrue, subst, sym, IfOk-weaker, files_of, listings_are_of_the_bag}
 use Rattle.bag_make.proofs.Common.{is_base_name, File}
 use Rattle.bag_make.proofs.OfTheBag.{tag_files_in_base}
-use Rattle.bag_make.proofs.making.steps_of.Goals as goal
+use Rattle.bag_make.proofs.reading.steps_of.Goals as goal
 
 pub returns-clause-of_bag : goal.returns-clause-of_bag
 returns-clause-of_bag c =

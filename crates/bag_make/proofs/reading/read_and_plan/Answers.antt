@@ -2,7 +2,7 @@ use Rattle.bag_make.proofs.Common.{◌∙◌, inr, sym}
 use Rattle.std.proofs.lemmas.Result.{err_from_is_err_and}
 use Rattle.bag_make.proofs.ReadFolder.{nothing_refused, files_are, listing_refused, opens_folder, opened_folder}
 use Rattle.bag_make.proofs.ReadFolder.{files_refused}
-use Rattle.bag_make.proofs.making.read_and_plan.Goals as goal
+use Rattle.bag_make.proofs.reading.read_and_plan.Goals as goal
 
 pub returns-in-Err-clause-refused : goal.returns-in-Err-clause-refused
 returns-in-Err-clause-refused g c =

@@ -1,0 +1,19 @@
+-- Laws of stage 8: its faults are of it, and each bag has a list of them.
+use Rattle.std.specs.Prelude.{◌≡◌, Option}
+use Rattle.bag_text.specs.Code.{stage}
+use Rattle.bag_tree.specs.Bag.{Bag}
+use Rattle.bag_facts.specs.declared.fault.Fault.{Fault}
+use Rattle.bag_profile.specs.Profile.{Profile}
+use Rattle.bag_stages.specs.HasList.{HasList}
+use Rattle.bag_conformance.specs.ConformanceStage.{IsOfConformance}
+
+-- the law: every bag and every profile have a list of these faults
+abbrev pub ConformanceFaultsAreListed : Type 0
+ConformanceFaultsAreListed = (bag : Bag) (profile : Option Profile)
+    → HasList (IsOfConformance bag profile)
+
+-- the law: these faults are of the eighth stage
+abbrev pub ConformanceFaultsAreOfStageEight : Type 0
+ConformanceFaultsAreOfStageEight =
+    (bag : Bag) (profile : Option Profile) (f : Fault) → IsOfConformance bag profile f
+    → stage f.code ≡ 8

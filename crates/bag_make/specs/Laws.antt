@@ -1,0 +1,47 @@
+-- Laws about makings.
+use Rattle.std.specs.Prelude.{ℕ, ◌≡◌, false, List, [], ◌≢◌, All, ◌^◌, ◌<◌, None, length, sum_by}
+use Rattle.std.specs.List.{list_any}
+use Rattle.bag_text.specs.Text.{IsText}
+use Rattle.bag_text.specs.declared.alg.Alg.{Alg}
+use Rattle.bag_tree.specs.Bag.{Bag, IsBag, files_of, has_folder}
+use Rattle.bag_tags.specs.Element.{NewElement}
+use Rattle.bag_make.specs.Made.{made}
+use Rattle.bag_make.specs.Steps.{new_folder, after_steps}
+use Rattle.bag_tree.specs.Tree.{TreeState}
+use Rattle.bag_make.specs.Plan.{is_in_the_way, steps}
+use Rattle.std.specs.List.Sorted.{IsStrictlySortedBy}
+use Rattle.bag_text.specs.Alg.{rank_cmp}
+use Rattle.bag_report.specs.Report.{IsReport}
+use Rattle.bag_make.specs.Request.{is_refused}
+use Rattle.bag_make.specs.Make.{full}
+use Rattle.bag_make.specs.Stops.{IsAtFile}
+
+-- what a bag is made of: files that can be counted, a set of algorithms that isn't empty, and
+-- elements that can be written
+pub record CanMake (bag : Bag) (algs : List Alg) (info : List NewElement) : Type 0 where
+  pub is_bag : IsBag bag
+  pub some_alg : algs ≢ []
+  pub ascending : IsStrictlySortedBy rank_cmp algs
+  pub texts : All (λ element. IsText element.0 × IsText element.1) info
+  pub good : list_any is_refused info ≡ false
+  pub count : length (files_of bag) < 2 ^ 64
+  pub size : sum_by (λ e. length e.1) (files_of bag) < 2 ^ 64
+
+-- the law: a bag that was made has no fault
+abbrev pub MadeIsValid : Type 0
+MadeIsValid =
+    (bag : Bag) (algs : List Alg) (info : List NewElement) → CanMake bag algs info
+    → IsReport (record { bag = made bag algs info; profile = None; options = full }) []
+
+-- the law: a refusal can be reported of one file alone
+abbrev pub RefusesOneFile : Type 0
+RefusesOneFile =
+    (paths : List (List ℕ)) (old new : TreeState) (one other : List ℕ) → IsAtFile paths old new one
+    → IsAtFile paths old new other → one ≡ other
+
+-- the law: all steps make the bag
+abbrev pub StepsMake : Type 0
+StepsMake =
+    (bag : Bag) (algs : List Alg) (info : List NewElement)
+    → IsBag bag → is_in_the_way bag ≡ false → has_folder bag new_folder ≡ false
+    → after_steps (steps bag algs info) bag ≡ made bag algs info

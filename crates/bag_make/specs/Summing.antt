@@ -1,0 +1,58 @@
+-- What summing files promises.
+use Rattle.std.specs.Prelude.{ℕ, ◌≡◌, ◌⊎◌, ◌++◌, IsTrue, List, Some, All, map, take, [], Option}
+use Rattle.std.specs.Prelude.{None, length}
+use Rattle.bag_text.specs.Path.{under}
+use Rattle.bag_tree.specs.Bag.{file}
+use Rattle.bag_tree.specs.Tree.{MayReportMemory, TreeState, CameFromFile}
+use Rattle.bag_tree.specs.FileReads.{IsEntryOf}
+use Rattle.bag_tree.specs.declared.listing.FileEntry.{FileEntry}
+use Rattle.bag_tree.specs.declared.tree_fault.Stop.{Stop}
+use Rattle.bag_tree.specs.declared.tree_fault.TreeFault.TheVariants.{Memory}
+use Rattle.bag_facts.specs.Stops.{IsOutOfMemory, MayRefuseFacts}
+use Rattle.bag_facts.specs.Wanted.{paths_of}
+use Rattle.bag_text.specs.declared.alg.Alg.{Alg}
+use Rattle.bag_tree.specs.DigestsOf.{AreSumsOf, sum_at}
+use Rattle.bag_tags.specs.Entry.{NewEntry}
+use Rattle.bag_make.specs.Made.{File, data_folder, new_payload}
+use Rattle.bag_make.specs.declared.summed.SummedFile.{SummedFile}
+use Rattle.bag_make.specs.Stops.{IsAtFile}
+use Rattle.bag_make.specs.Summed.{AreSummed, entry_of_file}
+
+-- the first of these files were opened, one after another, and no other
+abbrev pub OpensFirstOf : List (List ℕ) → TreeState → TreeState → Type 0
+OpensFirstOf paths old new = (count : ℕ) × (new.openings ≡ old.openings ++ take count paths)
+
+abbrev pub text_or_none : Option (List ℕ) → List ℕ
+text_or_none (Some text) = text
+text_or_none None = []
+
+-- what a manifest of an algorithm says of a file
+abbrev pub summed_entry : Alg → SummedFile → NewEntry
+summed_entry alg one = (text_or_none (sum_at one.sums alg), one.path)
+
+-- The files that are listed so, under data/, each with its digests. Of an honest tree they are
+-- files of the bag.
+pub record AreSummedFiles (state : TreeState) (entries : List FileEntry) (algs : List Alg)
+    (summed : List SummedFile) : Type 0 where
+  pub files : List File
+  pub listed : map entry_of_file files ≡ entries
+  pub are : AreSummed algs (new_payload files) summed
+  pub honest : IsTrue state.honest → All (λ e. file state.bag e.0 ≡ Some e.1) files
+
+-- A file that is listed so, under data/, with its digests. Of an honest tree it is a file of the
+-- bag.
+pub record IsSummedEntry (state : TreeState) (entry : FileEntry) (algs : List Alg)
+    (one : SummedFile) : Type 0 where
+  pub content : List ℕ
+  pub size : length content ≡ entry.size
+  pub path : one.path ≡ under data_folder entry.path
+  pub sums : AreSumsOf algs content one.sums
+  pub honest : IsTrue state.honest → file state.bag entry.path ≡ Some content
+
+-- Summing listed files stopped at one of them, or when out of memory.
+pub record StopsSumming (files : List FileEntry) (old new : TreeState) (stop : Stop) : Type 0 where
+  pub cause : (IsTrue old.honest → All (IsEntryOf old.bag) files)
+      → MayRefuseFacts old new stop.cause
+  pub answered : CameFromFile new stop.cause
+  pub path : IsOutOfMemory stop ⊎ IsAtFile (paths_of files) old new stop.path
+  pub out_of_memory : stop.cause ≡ Memory → MayReportMemory old new
