@@ -151,5 +151,8 @@ pub(crate) fn rename_folder<D: WritableDisk>(
     check_is_folder(disk, from)?;
     sync_with_base(disk, from)?;
     check_free(disk, to)?;
-    disk.rename(from, to).map_err(Refusal::at_known)
+    match disk.rename(from, to) {
+        Ok(()) => Ok(()),
+        Err(fault) => Err(Refusal::at_known(fault)),
+    }
 }
