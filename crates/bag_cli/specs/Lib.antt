@@ -15,6 +15,7 @@ pub mod Reported
 pub mod Sample
 pub mod Saying
 pub mod Status
+pub mod StoredEvent
 pub mod SystemFile
 pub mod UncheckedKeys
 pub mod Visits

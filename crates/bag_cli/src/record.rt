@@ -2,7 +2,8 @@
 ghost use Rattle.std.specs.Prelude.{◌≡◌, ◌∷◌, ◌++◌, [], List};
 ghost use Rattle.std.specs.Borrow.{ftrue};
 ghost use Rattle.std.specs.Coded.{coded_list};
-ghost use Rattle.bag_cli.specs.Visits.{Event, coded_event};
+ghost use Rattle.bag_cli.specs.StoredEvent.{coded_event};
+ghost use Rattle.bag_cli.specs.Visits.{Event};
 
 use std::marker::{Model, PhantomData};
 

@@ -3,13 +3,7 @@
 use Rattle.std.specs.Prelude.{ℕ, ◌≡◌, ◌≢◌, true, false, List, [], Option, None, Some, Contains}
 use Rattle.std.specs.Prelude.{codes}
 use Rattle.bag_text.specs.declared.code.Code.{Code}
-use Rattle.bag_text.specs.declared.code.Code.TheVariants.{ProfileIdentifier, LabelRequired}
-use Rattle.bag_text.specs.declared.code.Code.TheVariants.{LabelRepeated, ValueNotAllowed}
-use Rattle.bag_text.specs.declared.code.Code.TheVariants.{ManifestRequired, ManifestNotAllowed}
-use Rattle.bag_text.specs.declared.code.Code.TheVariants.{TagmanifestRequired}
-use Rattle.bag_text.specs.declared.code.Code.TheVariants.{TagmanifestNotAllowed, TagFileRequired}
-use Rattle.bag_text.specs.declared.code.Code.TheVariants.{TagFileNotAllowed, FetchNotAllowed}
-use Rattle.bag_text.specs.declared.code.Code.TheVariants.{VersionNotAccepted, SerializationRequired}
+use Rattle.bag_text.specs.declared.code.Code.TheVariants as code
 use Rattle.bag_read.specs.declared.info.Element.{Element}
 use Rattle.bag_read.specs.Declaration.{declared_version}
 use Rattle.bag_read.specs.ManifestName.{manifest_name}
@@ -20,11 +14,7 @@ use Rattle.bag_facts.specs.declared.fault.Fault.{Fault}
 use Rattle.bag_profile.specs.Profile.{Profile}
 use Rattle.bag_profile.specs.declared.label.LabelRule.{LabelRule}
 use Rattle.bag_profile.specs.declared.rule.ListRule.{ListRule}
-use Rattle.bag_profile.specs.declared.rule.ListRule.TheVariants.{TagManifestsRequired}
-use Rattle.bag_profile.specs.declared.rule.ListRule.TheVariants.{TagManifestsAllowed}
-use Rattle.bag_profile.specs.declared.rule.ListRule.TheVariants.{AcceptBagItVersion}
-use Rattle.bag_profile.specs.declared.rule.ListRule.TheVariants.{ManifestsRequired, TagFilesAllowed}
-use Rattle.bag_profile.specs.declared.rule.ListRule.TheVariants.{ManifestsAllowed, TagFilesRequired}
+use Rattle.bag_profile.specs.declared.rule.ListRule.TheVariants as list
 use Rattle.bag_profile.specs.declared.terms.Serialization.TheVariants.{Required}
 use Rattle.bag_stages.specs.FaultFields.{At}
 use Rattle.bag_stages.specs.MetadataStage.{bag_info_txt, HasElement, HasLater, pair}
@@ -38,12 +28,12 @@ identifier_label = codes "BagIt-Profile-Identifier"
 
 -- the lists of manifests that a bag must have, and that it may have
 abbrev pub required_manifests : Kind → ListRule
-required_manifests Payload = ManifestsRequired
-required_manifests Tag = TagManifestsRequired
+required_manifests Payload = list.ManifestsRequired
+required_manifests Tag = list.TagManifestsRequired
 
 abbrev pub allowed_manifests : Kind → ListRule
-allowed_manifests Payload = ManifestsAllowed
-allowed_manifests Tag = TagManifestsAllowed
+allowed_manifests Payload = list.ManifestsAllowed
+allowed_manifests Tag = list.TagManifestsAllowed
 
 -- what the other fields of a fault say of a bag and a profile
 module _ (bag : Bag) (profile : Profile) (f : Fault) where
@@ -89,13 +79,13 @@ module _ (bag : Bag) (profile : Profile) (f : Fault) where
   -- a file must be there, and isn't
   abbrev pub LacksTagFile : Type 0
   LacksTagFile =
-      At f f.path None 0 [] × Lists profile TagFilesRequired f.path × ¬ (HasFile bag f.path)
+      At f f.path None 0 [] × Lists profile list.TagFilesRequired f.path × ¬ (HasFile bag f.path)
 
   -- a tag file is there that no pattern allows
   abbrev pub HasOtherTagFile : Type 0
   HasOtherTagFile =
       At f f.path None 0 [] × HasFile bag f.path × IsFreeTagFile f.path
-      × MatchesNone profile TagFilesAllowed f.path
+      × MatchesNone profile list.TagFilesAllowed f.path
 
   -- fetch.txt is there, and may not be
   abbrev pub HasFetchFile : Type 0
@@ -106,7 +96,8 @@ module _ (bag : Bag) (profile : Profile) (f : Fault) where
   abbrev pub HasOtherVersion : Type 0
   HasOtherVersion =
       (bytes version : List ℕ) × At f bagit_txt None 1 version × (file bag bagit_txt ≡ Some bytes)
-      × (declared_version bytes ≡ Some version) × Excludes profile AcceptBagItVersion version
+      × (declared_version bytes ≡ Some version)
+      × Excludes profile list.AcceptBagItVersion version
 
   -- the profile asks for one file, and a bag in a folder is none
   abbrev pub IsToBeSerialized : Type 0
@@ -114,22 +105,22 @@ module _ (bag : Bag) (profile : Profile) (f : Fault) where
 
   unfoldable pub ConformanceHolds : Code → Type 0
   -- bag-info.txt
-  ConformanceHolds ProfileIdentifier = LacksIdentifier
-  ConformanceHolds LabelRequired = LacksLabel
-  ConformanceHolds LabelRepeated = RepeatsLabel
-  ConformanceHolds ValueNotAllowed = HasOtherValue
+  ConformanceHolds code.ProfileIdentifier = LacksIdentifier
+  ConformanceHolds code.LabelRequired = LacksLabel
+  ConformanceHolds code.LabelRepeated = RepeatsLabel
+  ConformanceHolds code.ValueNotAllowed = HasOtherValue
   -- manifests, of any algorithm
-  ConformanceHolds ManifestRequired = LacksManifest Payload
-  ConformanceHolds ManifestNotAllowed = HasOtherManifest Payload
-  ConformanceHolds TagmanifestRequired = LacksManifest Tag
-  ConformanceHolds TagmanifestNotAllowed = HasOtherManifest Tag
+  ConformanceHolds code.ManifestRequired = LacksManifest Payload
+  ConformanceHolds code.ManifestNotAllowed = HasOtherManifest Payload
+  ConformanceHolds code.TagmanifestRequired = LacksManifest Tag
+  ConformanceHolds code.TagmanifestNotAllowed = HasOtherManifest Tag
   -- tag files
-  ConformanceHolds TagFileRequired = LacksTagFile
-  ConformanceHolds TagFileNotAllowed = HasOtherTagFile
-  ConformanceHolds FetchNotAllowed = HasFetchFile
+  ConformanceHolds code.TagFileRequired = LacksTagFile
+  ConformanceHolds code.TagFileNotAllowed = HasOtherTagFile
+  ConformanceHolds code.FetchNotAllowed = HasFetchFile
   -- the bag as a whole
-  ConformanceHolds VersionNotAccepted = HasOtherVersion
-  ConformanceHolds SerializationRequired = IsToBeSerialized
+  ConformanceHolds code.VersionNotAccepted = HasOtherVersion
+  ConformanceHolds code.SerializationRequired = IsToBeSerialized
   -- codes of other stages
   ConformanceHolds other = ⊥
 

@@ -5,9 +5,7 @@ use Rattle.std.specs.Prelude.{ℕ, List, Option, Some, None, Result, Ok, option_
 use Rattle.serde_json.specs.Data.{Data}
 use Rattle.bag_profile.specs.declared.fault.ProfileFault.{ProfileFault}
 use Rattle.bag_profile.specs.declared.key.Key.{Key}
-use Rattle.bag_profile.specs.declared.key.Key.TheVariants.{ManifestsRequired, TagManifestsRequired}
-use Rattle.bag_profile.specs.declared.key.Key.TheVariants.{ManifestsAllowed, TagManifestsAllowed}
-use Rattle.bag_profile.specs.declared.key.Key.TheVariants.{TagFilesRequired, TagFilesAllowed}
+use Rattle.bag_profile.specs.declared.key.Key.TheVariants as key
 use Rattle.bag_profile.specs.declared.name_lists.NameRules.{NameRules}
 use Rattle.bag_profile.specs.declared.name_lists.NameLists.{NameLists}
 use Rattle.bag_profile.specs.Answer.{at}
@@ -28,7 +26,7 @@ name_rules required_key allowed_key d = do
 -- the six lists, in the order of their keys
 abbrev pub name_lists_of : Data → Result NameLists ProfileFault
 name_lists_of d = do
-  manifests ← name_rules ManifestsRequired ManifestsAllowed d
-  tag_manifests ← name_rules TagManifestsRequired TagManifestsAllowed d
-  tag_files ← name_rules TagFilesRequired TagFilesAllowed d
+  manifests ← name_rules key.ManifestsRequired key.ManifestsAllowed d
+  tag_manifests ← name_rules key.TagManifestsRequired key.TagManifestsAllowed d
+  tag_files ← name_rules key.TagFilesRequired key.TagFilesAllowed d
   Ok record { manifests = manifests; tag_manifests = tag_manifests; tag_files = tag_files }

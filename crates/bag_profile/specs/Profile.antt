@@ -3,11 +3,7 @@ use Rattle.std.specs.Prelude.{ℕ, List, Option}
 use Rattle.bag_profile.specs.declared.label.LabelRule.{LabelRule}
 use Rattle.bag_profile.specs.declared.name_lists.NameLists.{NameLists}
 use Rattle.bag_profile.specs.declared.rule.ListRule.{ListRule}
-use Rattle.bag_profile.specs.declared.rule.ListRule.TheVariants.{TagManifestsRequired}
-use Rattle.bag_profile.specs.declared.rule.ListRule.TheVariants.{TagManifestsAllowed}
-use Rattle.bag_profile.specs.declared.rule.ListRule.TheVariants.{AcceptBagItVersion}
-use Rattle.bag_profile.specs.declared.rule.ListRule.TheVariants.{ManifestsRequired, TagFilesAllowed}
-use Rattle.bag_profile.specs.declared.rule.ListRule.TheVariants.{ManifestsAllowed, TagFilesRequired}
+use Rattle.bag_profile.specs.declared.rule.ListRule.TheVariants as list
 use Rattle.bag_profile.specs.declared.terms.Terms.{Terms}
 
 pub record Profile : Type 0 where
@@ -21,10 +17,10 @@ pub record Profile : Type 0 where
   pub unchecked : List (List ℕ)
 
 abbrev pub names : Profile → ListRule → Option (List (List ℕ))
-names profile ManifestsRequired = profile.names.manifests.required
-names profile ManifestsAllowed = profile.names.manifests.allowed
-names profile TagManifestsRequired = profile.names.tag_manifests.required
-names profile TagManifestsAllowed = profile.names.tag_manifests.allowed
-names profile TagFilesRequired = profile.names.tag_files.required
-names profile TagFilesAllowed = profile.names.tag_files.allowed
-names profile AcceptBagItVersion = profile.terms.versions
+names profile list.ManifestsRequired = profile.names.manifests.required
+names profile list.ManifestsAllowed = profile.names.manifests.allowed
+names profile list.TagManifestsRequired = profile.names.tag_manifests.required
+names profile list.TagManifestsAllowed = profile.names.tag_manifests.allowed
+names profile list.TagFilesRequired = profile.names.tag_files.required
+names profile list.TagFilesAllowed = profile.names.tag_files.allowed
+names profile list.AcceptBagItVersion = profile.terms.versions

@@ -8,9 +8,7 @@ use Rattle.bag_text.specs.Text.{IsText, IsNoText, after_prefix, has_mark, is_bla
 use Rattle.bag_text.specs.Text.{is_digits}
 use Rattle.bag_text.specs.Lines.{lines_of_file, IsLine}
 use Rattle.bag_text.specs.declared.code.Code.{Code}
-use Rattle.bag_text.specs.declared.code.Code.TheVariants.{DeclarationNotUtf8, DeclarationLineCount}
-use Rattle.bag_text.specs.declared.code.Code.TheVariants.{DeclarationLine, VersionUnsupported}
-use Rattle.bag_text.specs.declared.code.Code.TheVariants.{EncodingUnsupported}
+use Rattle.bag_text.specs.declared.code.Code.TheVariants as code
 use Rattle.bag_read.specs.declared.line_fault.LineFault.{LineFault}
 
 abbrev pub when : (List ℕ → Bool) → List ℕ → Option (List ℕ)
@@ -52,19 +50,19 @@ IsUnreadLine reading bytes k =
 
 -- what is wrong with the file: by cases on the fault's code
 abbrev pub DeclarationFault : Code → List ℕ → LineFault → Type 0
-DeclarationFault DeclarationNotUtf8 bytes f =
+DeclarationFault code.DeclarationNotUtf8 bytes f =
     ((f.line ≡ 0) × (f.detail ≡ codes "utf8") × IsNoText bytes)
     ⊎ ((f.line ≡ 0) × (f.detail ≡ codes "bom") × IsText bytes × (has_mark bytes ≡ true))
-DeclarationFault DeclarationLineCount bytes f =
+DeclarationFault code.DeclarationLineCount bytes f =
     let count = length (lines_of_file bytes) in
     (f.line ≡ 0) × (f.detail ≡ decimal count) × IsText bytes × (count ≢ 2)
-DeclarationFault DeclarationLine bytes f =
+DeclarationFault code.DeclarationLine bytes f =
     ((f.line ≡ 1) × (f.detail ≡ []) × IsUnreadLine version_of bytes 1)
     ⊎ ((f.line ≡ 2) × (f.detail ≡ []) × IsUnreadLine encoding_of bytes 2)
-DeclarationFault VersionUnsupported bytes f =
+DeclarationFault code.VersionUnsupported bytes f =
     (f.line ≡ 1) × (declared_version bytes ≡ Some f.detail)
     × (is_supported_version f.detail ≡ false)
-DeclarationFault EncodingUnsupported bytes f =
+DeclarationFault code.EncodingUnsupported bytes f =
     (f.line ≡ 2) × (declared_encoding bytes ≡ Some f.detail)
     × (same_label f.detail (codes "UTF-8") ≡ false)
 DeclarationFault other bytes f = ⊥

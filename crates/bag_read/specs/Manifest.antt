@@ -13,10 +13,7 @@ use Rattle.bag_text.specs.Alg.{hex_len}
 use Rattle.bag_text.specs.declared.rules.Rules.{Rules}
 use Rattle.bag_text.specs.declared.alg.Alg.{Alg}
 use Rattle.bag_text.specs.declared.code.Code.{Code}
-use Rattle.bag_text.specs.declared.code.Code.TheVariants.{ManifestLine, TagmanifestNamesTagmanifest}
-use Rattle.bag_text.specs.declared.code.Code.TheVariants.{ManifestEscape, TagmanifestNamesPayload}
-use Rattle.bag_text.specs.declared.code.Code.TheVariants.{DigestLength, ManifestOutsidePayload}
-use Rattle.bag_text.specs.declared.code.Code.TheVariants.{NotUtf8, ManifestUnsafePath, NamedAgain}
+use Rattle.bag_text.specs.declared.code.Code.TheVariants as code
 use Rattle.bag_read.specs.ManifestName.{is_manifest_name}
 use Rattle.bag_read.specs.declared.kind.Kind.{Kind}
 use Rattle.bag_read.specs.declared.kind.Kind.TheVariants.{Payload, Tag}
@@ -29,8 +26,8 @@ use Rattle.bag_read.specs.declared.manifest.ManifestEntry.{ManifestEntry}
 abbrev pub checked_digest : Alg → List ℕ → List ℕ → Result (List ℕ) Reason
 checked_digest alg digest rest =
     if bytes_eq digest [] || not (list_all is_ascii_hexdigit digest) || bytes_eq rest []
-    then Err (ManifestLine, [])
-    else if not (length digest == hex_len alg) then Err (DigestLength, digest)
+    then Err (code.ManifestLine, [])
+    else if not (length digest == hex_len alg) then Err (code.DigestLength, digest)
     else Ok (str_to_ascii_lowercase digest)
 
 -- the digest at the front of a line
@@ -47,14 +44,16 @@ spelled_path line = without_marks (after_blanks line)
 
 -- a payload manifest names payload files, and a tag manifest other files, but no tag manifest
 abbrev pub placed : Kind → List ℕ → Result (List ℕ) Reason
-placed Payload path = if is_payload_path path then Ok path else Err (ManifestOutsidePayload, path)
+placed Payload path =
+    if is_payload_path path then Ok path else Err (code.ManifestOutsidePayload, path)
 placed Tag path =
-    if is_payload_path path then Err (TagmanifestNamesPayload, path)
-    else if is_manifest_name Tag path then Err (TagmanifestNamesTagmanifest, path)
+    if is_payload_path path then Err (code.TagmanifestNamesPayload, path)
+    else if is_manifest_name Tag path then Err (code.TagmanifestNamesTagmanifest, path)
     else Ok path
 
 abbrev pub named_path : Kind → List ℕ → Result (List ℕ) Reason
-named_path kind path = if is_path path then placed kind path else Err (ManifestUnsafePath, path)
+named_path kind path =
+    if is_path path then placed kind path else Err (code.ManifestUnsafePath, path)
 
 -- a line of which the digest is good, by the path that is written in it, and by how that is spelled
 abbrev pub line_by_path : Kind → List ℕ → List ℕ → Result (List ℕ × List ℕ) Reason
@@ -64,7 +63,7 @@ line_by_path kind digest path = do
 
 abbrev pub line_by_spelling : Rules → Kind → List ℕ → List ℕ → Result (List ℕ × List ℕ) Reason
 line_by_spelling rules kind digest spelling = do
-  path ← decoded_or ManifestEscape (unescaped rules spelling) spelling
+  path ← decoded_or code.ManifestEscape (unescaped rules spelling) spelling
   line_by_path kind digest path
 
 -- the digest and the path of a line that isn't blank, or the first reason why it doesn't read
@@ -104,8 +103,9 @@ IsEntry rules kind alg all e =
 
 -- what is wrong with the file: by cases on the fault's code
 abbrev pub ManifestFault : Code → Rules → Kind → Alg → List ℕ → LineFault → Type 0
-ManifestFault NotUtf8 rules kind alg bytes f = (f.line ≡ 0) × (f.detail ≡ []) × IsNoText bytes
-ManifestFault NamedAgain rules kind alg bytes f =
+ManifestFault code.NotUtf8 rules kind alg bytes f =
+    (f.line ≡ 0) × (f.detail ≡ []) × IsNoText bytes
+ManifestFault code.NamedAgain rules kind alg bytes f =
     let all = lines_of_file bytes in
     (line : List ℕ) × (digest : List ℕ) × IsLine all f.line line
     × ReadsManifest rules kind alg line digest f.detail

@@ -4,8 +4,7 @@ use Rattle.std.specs.Prelude.{ℕ, ◌≡◌, ◌⊎◌, true, List, [], None, S
 use Rattle.bag_text.specs.Path.{is_payload_path}
 use Rattle.bag_text.specs.declared.alg.Alg.{Alg}
 use Rattle.bag_text.specs.declared.code.Code.{Code}
-use Rattle.bag_text.specs.declared.code.Code.TheVariants.{PayloadFileMissing, TagFileMissing}
-use Rattle.bag_text.specs.declared.code.Code.TheVariants.{PayloadFileNotListed, NameClash}
+use Rattle.bag_text.specs.declared.code.Code.TheVariants as code
 use Rattle.bag_read.specs.declared.kind.Kind.{Kind}
 use Rattle.bag_read.specs.declared.kind.Kind.TheVariants.{Payload, Tag}
 use Rattle.bag_tree.specs.Bag.{Bag, HasFile, LacksFile}
@@ -33,13 +32,13 @@ module _ (bag : Bag) (f : Fault) where
 
   unfoldable pub CompletenessHolds : Code → Type 0
   -- every file that a manifest names is there
-  CompletenessHolds PayloadFileMissing = Missing Payload
-  CompletenessHolds TagFileMissing = Missing Tag
+  CompletenessHolds code.PayloadFileMissing = Missing Payload
+  CompletenessHolds code.TagFileMissing = Missing Tag
   -- payload manifests leave out no payload file
-  CompletenessHolds PayloadFileNotListed =
+  CompletenessHolds code.PayloadFileNotListed =
       At f f.path f.alg 0 [] × IsPayloadFile bag f.path × IsLeftOut (rules_in bag) bag f.alg f.path
   -- a name that isn't the least of those with its NFC form
-  CompletenessHolds NameClash =
+  CompletenessHolds code.NameClash =
       (least : List ℕ) × At f f.path None 0 least × Clashes (IsPayloadName bag) f.path least
   -- codes of other stages
   CompletenessHolds other = ⊥

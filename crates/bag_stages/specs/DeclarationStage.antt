@@ -1,9 +1,7 @@
 -- Stage 1: what is a fault of the declaration (RFC 8493, 2.1.1).
 use Rattle.std.specs.Prelude.{[], None}
 use Rattle.bag_text.specs.declared.code.Code.{Code}
-use Rattle.bag_text.specs.declared.code.Code.TheVariants.{NoDeclaration, DeclarationNotUtf8}
-use Rattle.bag_text.specs.declared.code.Code.TheVariants.{DeclarationLineCount, DeclarationLine}
-use Rattle.bag_text.specs.declared.code.Code.TheVariants.{VersionUnsupported, EncodingUnsupported}
+use Rattle.bag_text.specs.declared.code.Code.TheVariants as code
 use Rattle.bag_read.specs.Declaration.{IsDeclarationFault}
 use Rattle.bag_tree.specs.Bag.{Bag, LacksFile}
 use Rattle.bag_facts.specs.declared.fault.Fault.{Fault}
@@ -18,14 +16,14 @@ module _ (bag : Bag) (f : Fault) where
 
   unfoldable pub DeclarationHolds : Code → Type 0
   -- bagit.txt isn't there
-  DeclarationHolds NoDeclaration = At f bagit_txt None 0 [] × LacksFile bag bagit_txt
+  DeclarationHolds code.NoDeclaration = At f bagit_txt None 0 [] × LacksFile bag bagit_txt
   -- its bytes
-  DeclarationHolds DeclarationNotUtf8 = InDeclaration
-  DeclarationHolds DeclarationLineCount = InDeclaration
+  DeclarationHolds code.DeclarationNotUtf8 = InDeclaration
+  DeclarationHolds code.DeclarationLineCount = InDeclaration
   -- its two lines
-  DeclarationHolds DeclarationLine = InDeclaration
-  DeclarationHolds VersionUnsupported = InDeclaration
-  DeclarationHolds EncodingUnsupported = InDeclaration
+  DeclarationHolds code.DeclarationLine = InDeclaration
+  DeclarationHolds code.VersionUnsupported = InDeclaration
+  DeclarationHolds code.EncodingUnsupported = InDeclaration
   -- codes of other stages
   DeclarationHolds other = ⊥
 

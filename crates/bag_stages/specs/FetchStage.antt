@@ -1,8 +1,7 @@
 -- Stage 4: what is a fault of the list of files to fetch (RFC 8493, 2.2.3).
 use Rattle.std.specs.Prelude.{ℕ, List, None}
 use Rattle.bag_text.specs.declared.code.Code.{Code}
-use Rattle.bag_text.specs.declared.code.Code.TheVariants.{FetchLine, FetchEscape, FetchUnsafePath}
-use Rattle.bag_text.specs.declared.code.Code.TheVariants.{FetchOutsidePayload, FetchNotInManifest}
+use Rattle.bag_text.specs.declared.code.Code.TheVariants as code
 use Rattle.bag_read.specs.Fetch.{IsFetch, IsFetchFault}
 use Rattle.bag_read.specs.declared.fetch.FetchEntry.{FetchEntry}
 use Rattle.bag_read.specs.ManifestName.{tag_path}
@@ -29,12 +28,12 @@ module _ (bag : Bag) (f : Fault) where
 
   unfoldable pub FetchHolds : Code → Type 0
   -- the form of a line, and the path in it
-  FetchHolds FetchLine = InFetch
-  FetchHolds FetchEscape = InFetch
-  FetchHolds FetchUnsafePath = InFetch
-  FetchHolds FetchOutsidePayload = InFetch
+  FetchHolds code.FetchLine = InFetch
+  FetchHolds code.FetchEscape = InFetch
+  FetchHolds code.FetchUnsafePath = InFetch
+  FetchHolds code.FetchOutsidePayload = InFetch
   -- payload manifests leave out the file that is to be fetched
-  FetchHolds FetchNotInManifest =
+  FetchHolds code.FetchNotInManifest =
       (e : FetchEntry) × At f fetch_txt f.alg e.line e.path × HasFetch bag e
       × IsLeftOut (rules_in bag) bag f.alg e.path
   -- codes of other stages

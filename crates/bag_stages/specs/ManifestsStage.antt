@@ -3,11 +3,7 @@
 use Rattle.std.specs.Prelude.{ℕ, List, Some}
 use Rattle.bag_text.specs.declared.alg.Alg.{Alg}
 use Rattle.bag_text.specs.declared.code.Code.{Code}
-use Rattle.bag_text.specs.declared.code.Code.TheVariants.{ManifestLine, TagmanifestNamesTagmanifest}
-use Rattle.bag_text.specs.declared.code.Code.TheVariants.{ManifestEscape, PayloadManifestNotListed}
-use Rattle.bag_text.specs.declared.code.Code.TheVariants.{DigestLength, TagmanifestNamesPayload}
-use Rattle.bag_text.specs.declared.code.Code.TheVariants.{ManifestOutsidePayload, NamedAgain}
-use Rattle.bag_text.specs.declared.code.Code.TheVariants.{ManifestUnsafePath}
+use Rattle.bag_text.specs.declared.code.Code.TheVariants as code
 use Rattle.bag_read.specs.Manifest.{IsManifestFault}
 use Rattle.bag_read.specs.ManifestName.{manifest_name}
 use Rattle.bag_read.specs.declared.kind.Kind.{Kind}
@@ -28,18 +24,18 @@ module _ (bag : Bag) (f : Fault) where
 
   unfoldable pub ManifestHolds : Code → Type 0
   -- the form of a line (2.1.3)
-  ManifestHolds ManifestLine = InManifest
-  ManifestHolds DigestLength = InManifest
-  ManifestHolds ManifestEscape = InManifest
+  ManifestHolds code.ManifestLine = InManifest
+  ManifestHolds code.DigestLength = InManifest
+  ManifestHolds code.ManifestEscape = InManifest
   -- the path in it (2.1.3 and 2.2.1)
-  ManifestHolds ManifestUnsafePath = InManifest
-  ManifestHolds ManifestOutsidePayload = InManifest
-  ManifestHolds TagmanifestNamesPayload = InManifest
-  ManifestHolds TagmanifestNamesTagmanifest = InManifest
-  ManifestHolds NamedAgain = InManifest
+  ManifestHolds code.ManifestUnsafePath = InManifest
+  ManifestHolds code.ManifestOutsidePayload = InManifest
+  ManifestHolds code.TagmanifestNamesPayload = InManifest
+  ManifestHolds code.TagmanifestNamesTagmanifest = InManifest
+  ManifestHolds code.NamedAgain = InManifest
   -- a tag manifest names the payload manifests that are there (2.2.1); the rules of 0.97 don't ask
   -- it
-  ManifestHolds PayloadManifestNotListed =
+  ManifestHolds code.PayloadManifestNotListed =
       IsByV10 bag × (alg : Alg) × (other : List ℕ)
       × At f (manifest_of Tag alg) (Some alg) 0 (manifest_name Payload other)
       × HasSupported bag Tag alg × HasManifest bag Payload other

@@ -1,8 +1,7 @@
 -- Stage 3: what is a fault of the metadata and of its Payload-Oxum (RFC 8493, 2.2.2).
 use Rattle.std.specs.Prelude.{ℕ, ◌≡◌, ◌≢◌, ◌++◌, List, [], None, Some, codes, ◌<◌, ◌≤◌, true}
 use Rattle.bag_text.specs.declared.code.Code.{Code}
-use Rattle.bag_text.specs.declared.code.Code.TheVariants.{InfoLine, OxumMalformed, OxumAgain}
-use Rattle.bag_text.specs.declared.code.Code.TheVariants.{OxumDiffers, NoOxum}
+use Rattle.bag_text.specs.declared.code.Code.TheVariants as code
 use Rattle.bag_read.specs.Info.{IsInfoFault, IsElement}
 use Rattle.bag_read.specs.Oxum.{oxum_of}
 use Rattle.bag_read.specs.declared.info.Element.{Element}
@@ -46,21 +45,21 @@ HasFirst bag label e =
 module _ (bag : Bag) (f : Fault) where
   unfoldable pub MetadataHolds : Code → Type 0
   -- a line that should begin an element and doesn't, or goes on with none
-  MetadataHolds InfoLine = InFile bag f bag_info_txt None (IsInfoFault (rules_in bag))
+  MetadataHolds code.InfoLine = InFile bag f bag_info_txt None (IsInfoFault (rules_in bag))
   -- the first Payload-Oxum doesn't read
-  MetadataHolds OxumMalformed =
+  MetadataHolds code.OxumMalformed =
       (e : Element) × At f bag_info_txt None e.line e.value × HasFirst bag oxum_label e
       × (oxum_of e.value ≡ None)
   -- there is a second one
-  MetadataHolds OxumAgain =
+  MetadataHolds code.OxumAgain =
       (e : Element) × At f bag_info_txt None e.line e.value × HasLater bag oxum_label e
   -- the first one reads, and the payload has another size
-  MetadataHolds OxumDiffers =
+  MetadataHolds code.OxumDiffers =
       (e : Element) × (sums : Oxum)
       × At f bag_info_txt None e.line (pair e.value (oxum_text (oxum bag)))
       × HasFirst bag oxum_label e × (oxum_of e.value ≡ Some sums) × (sums ≢ oxum bag)
   -- there is none
-  MetadataHolds NoOxum =
+  MetadataHolds code.NoOxum =
       At f bag_info_txt None 0 [] × ((e : Element) → ¬ (HasElement bag oxum_label e))
   -- codes of other stages
   MetadataHolds other = ⊥

@@ -2,8 +2,7 @@
 use Rattle.std.specs.Prelude.{ℕ, ◌≡◌, false, List, [], None, codes}
 use Rattle.bag_text.specs.Alg.{alg_named}
 use Rattle.bag_text.specs.declared.code.Code.{Code}
-use Rattle.bag_text.specs.declared.code.Code.TheVariants.{NoPayloadFolder, NoPayloadManifest}
-use Rattle.bag_text.specs.declared.code.Code.TheVariants.{AlgorithmUnsupported, NotUtf8}
+use Rattle.bag_text.specs.declared.code.Code.TheVariants as code
 use Rattle.bag_read.specs.ManifestName.{manifest_name}
 use Rattle.bag_read.specs.declared.kind.Kind.{Kind}
 use Rattle.bag_read.specs.declared.kind.Kind.TheVariants.{Payload}
@@ -16,16 +15,16 @@ use Rattle.bag_stages.specs.TagFiles.{HasManifest, HasNoText}
 module _ (bag : Bag) (f : Fault) where
   unfoldable pub PartHolds : Code → Type 0
   -- there is no folder data (2.1.2)
-  PartHolds NoPayloadFolder = At f [] None 0 [] × (has_folder bag (codes "data") ≡ false)
+  PartHolds code.NoPayloadFolder = At f [] None 0 [] × (has_folder bag (codes "data") ≡ false)
   -- there is no payload manifest, of any algorithm (2.1.3)
-  PartHolds NoPayloadManifest =
+  PartHolds code.NoPayloadManifest =
       At f [] None 0 [] × ((alg : List ℕ) → ¬ (HasManifest bag Payload alg))
   -- a manifest of an algorithm that isn't supported (2.4)
-  PartHolds AlgorithmUnsupported =
+  PartHolds code.AlgorithmUnsupported =
       (kind : Kind) × (alg : List ℕ) × At f (manifest_name kind alg) None 0 alg
       × HasManifest bag kind alg × (alg_named alg ≡ None)
   -- a tag file that isn't UTF-8, but for the declaration (2.3)
-  PartHolds NotUtf8 = At f f.path None 0 [] × HasNoText bag f.path
+  PartHolds code.NotUtf8 = At f f.path None 0 [] × HasNoText bag f.path
   -- codes of other stages
   PartHolds other = ⊥
 
