@@ -1,5 +1,5 @@
 -- What the file of a profile is read as.
-use Rattle.std.specs.Prelude.{ℕ, ◌≡◌, ◌≤◌, ◌⊎◌, List, [], ◌∷◌, ◌++◌, length}
+use Rattle.std.specs.Prelude.{ℕ, ◌≡◌, ◌≤◌, ◌⊎◌, List, [], ◌∷◌, ◌++◌, length, ⊤}
 use Rattle.std.specs.Prelude.{Option, Some, Result, Ok, Err}
 use Rattle.bag_cli.specs.SystemFile.{MayBeUnread}
 use Rattle.bag_cli.specs.Visits.{Event, Read}
@@ -21,7 +21,7 @@ most_bytes = 16777216
 abbrev pub IsAnswer : (Option (List ℕ) → Type 0) → Result (List ℕ) ReadFault → Type 0
 IsAnswer file (Ok bytes) = file (Some bytes) × (length bytes ≤ most_bytes)
 IsAnswer file (Err none.Unread) = MayBeUnread file most_bytes
-IsAnswer file (Err none.Memory) = Unit {0}
+IsAnswer file (Err none.Memory) = ⊤
 
 -- What is read of that answer: the profile that the bytes are, or the cause for which they are
 -- none, or memory ran out; and where there are no bytes, why.

@@ -12,7 +12,7 @@ use Rattle.bag_text.specs.declared.code.Code.TheVariants.{VersionNotAccepted, Se
 use Rattle.bag_read.specs.declared.kind.Kind.{Kind}
 use Rattle.bag_read.specs.declared.kind.Kind.TheVariants.{Payload, Tag}
 use Rattle.bag_tree.specs.Bag.{Bag}
-use Rattle.bag_facts.specs.FactsOfBag.{OfBag}
+use Rattle.bag_facts.specs.FactsOfBag.{IfBagRead}
 use Rattle.bag_facts.specs.declared.facts.Facts.{Facts}
 use Rattle.bag_facts.specs.declared.fault.Fault.{Fault}
 use Rattle.bag_profile.specs.Profile.{Profile}
@@ -28,7 +28,7 @@ AreAll Member faults = (f : Fault) → Contains faults f ↔ Member f
 -- the members of a list are exactly the faults of the bag of which this holds; the facts were read
 -- beyond the declaration
 abbrev pub AreAllOf : Facts → (Bag → Fault → Type 0) → List Fault → Type 0
-AreAllOf facts IsSo faults = OfBag facts (λ bag. AreAll (IsSo bag) faults)
+AreAllOf facts IsSo faults = IfBagRead facts (λ bag. AreAll (IsSo bag) faults)
 
 -- what a manifest of this kind is that must be there, and one that may not
 abbrev pub required_code : Kind → Code

@@ -5,7 +5,7 @@ ghost use Rattle.std.specs.Ordering.{nat_cmp, on};
 ghost use Rattle.bag_text.specs.Order.{IsListOf};
 ghost use Rattle.bag_read.specs.Info.{IsElement};
 ghost use Rattle.bag_facts.specs.Facts.{rules_in};
-ghost use Rattle.bag_facts.specs.FactsOfBag.{OfBag};
+ghost use Rattle.bag_facts.specs.FactsOfBag.{IfBagRead};
 ghost use Rattle.bag_profile.specs.TextSet.{IsAscending};
 ghost use Rattle.bag_stages.specs.MetadataStage.{bag_info_txt};
 ghost use Rattle.bag_stages.specs.TagFiles.{lines_in};
@@ -45,7 +45,7 @@ pub(crate) fn element_faults(
 
 /// The elements in line order; none where the file isn't there.
 fn elements_of(facts: &Facts) -> &[Element]
-    ensures { OfBag facts.now (λ bag. IsListOf (on (λ e. e.line) nat_cmp)
+    ensures { IfBagRead facts.now (λ bag. IsListOf (on (λ e. e.line) nat_cmp)
         (IsElement (rules_in bag) (lines_in bag bag_info_txt)) result.now) }
 {
     match facts.metadata() {

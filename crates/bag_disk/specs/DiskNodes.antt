@@ -1,5 +1,5 @@
 -- What stands where on a disk, and what its calls promise.
-use Rattle.std.specs.Prelude.{ℕ, ◌≡◌, ◌≢◌, ◌<◌, Bool, true, false, IsTrue, IsUtf8, List, [], ◌∷◌}
+use Rattle.std.specs.Prelude.{ℕ, ◌≡◌, ◌≢◌, ◌<◌, Bool, true, false, IsTrue, IsUtf8, List, [], ◌∷◌, ⊤}
 use Rattle.std.specs.Prelude.{length, All, Contains, MatchOption, Option, Some, None, is_some}
 use Rattle.std.specs.Option.{option_map}
 use Rattle.std.proofs.Common.{◌∙◌, ap, sym}
@@ -67,7 +67,7 @@ pub record AreNamesIn (nodes : Nodes) (folder : List ℕ) (names : List (List �
 
 -- the folder is there; the empty path is the base folder
 abbrev pub IsFolder : Nodes → List ℕ → Type 0
-IsFolder nodes [] = Unit {0}
+IsFolder nodes [] = ⊤
 IsFolder nodes (c ∷ path) = node nodes (c ∷ path) ≡ Some Folder
 
 -- the names that are left of the folder that was entered are those of what stands in it, where the

@@ -1,6 +1,6 @@
 -- What a walk over the folders of a disk has found.
 use Rattle.std.specs.Prelude.{ℕ, ◌≡◌, ◌⊎◌, ◌+◌, ◌<◌, true, List, [], ◌∷◌, ◌++◌, map, Some, length}
-use Rattle.std.specs.Prelude.{All, Contains, IsTrue, vec_len}
+use Rattle.std.specs.Prelude.{All, Contains, IsTrue, vec_len, ⊤}
 use Rattle.std.specs.List.Sorted.{IsPermutation, IsSortedByKey, IsStrictlySortedBy}
 use Rattle.bag_text.specs.Text.{text_cmp}
 use Rattle.bag_text.specs.Path.{is_path, under}
@@ -19,7 +19,7 @@ use Rattle.bag_tree.specs.declared.listing.FileEntry.{FileEntry}
 
 -- what stands below a folder; all does below the base folder
 abbrev pub IsBelow : List ℕ → List ℕ → Type 0
-IsBelow [] path = Unit {0}
+IsBelow [] path = ⊤
 IsBelow (c ∷ folder) path = (rest : List ℕ) × (path ≡ under (c ∷ folder) rest)
 
 -- what stands at a path, or below it

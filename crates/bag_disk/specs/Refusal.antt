@@ -1,5 +1,5 @@
 -- When a disk may refuse, what a fault of it means, and which refusals it counts.
-use Rattle.std.specs.Prelude.{◌≡◌, ℕ, ◌+◌, Bool, true, false, IsTrue, Result, MatchResult}
+use Rattle.std.specs.Prelude.{◌≡◌, ℕ, ◌+◌, Bool, true, false, IsTrue, Result, MatchResult, ⊤}
 use Rattle.bag_disk.specs.Disk.{DiskState}
 use Rattle.bag_disk.specs.DiskNodes.{HasSpecial, HasUnnamedPath}
 use Rattle.bag_disk.specs.declared.disk.DiskFault.{DiskFault}
@@ -21,12 +21,12 @@ MeetsUnnamed disk = IsTrue disk.honest → HasUnnamedPath disk.nodes
 -- `unnamed` when over a name that isn't UTF-8, `absent` when there is no such file, and `many` when
 -- there is too much.
 abbrev pub IsDue : Type 0 → Type 0 → Type 0 → Type 0 → Refusal → Type 0
-IsDue special unnamed absent many Device = Unit {0}
+IsDue special unnamed absent many Device = ⊤
 IsDue special unnamed absent many Special = special
 IsDue special unnamed absent many Name = unnamed
 IsDue special unnamed absent many NotFound = absent
 IsDue special unnamed absent many TooMany = many
-IsDue special unnamed absent many Memory = Unit {0}
+IsDue special unnamed absent many Memory = ⊤
 IsDue special unnamed absent many Exists = ⊥
 IsDue special unnamed absent many Contradicts = ⊥
 IsDue special unnamed absent many InTheWay = ⊥
@@ -122,4 +122,4 @@ IsCounted answer old new = MatchResult answer
 
 -- where these calls are refused, it isn't by the device
 abbrev pub IsNoFailure : {T : Type 0} → Result T Refusal → Type 0
-IsNoFailure answer = MatchResult answer (λ _. Unit {0}) (λ refusal. is_device refusal ≡ false)
+IsNoFailure answer = MatchResult answer (λ _. ⊤) (λ refusal. is_device refusal ≡ false)

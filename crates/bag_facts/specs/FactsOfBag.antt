@@ -1,5 +1,5 @@
 -- What the facts of a bag are, as they are read.
-use Rattle.std.specs.Prelude.{◌≡◌, ◌≢◌, ◌⊎◌, ℕ, List, [], ◌∷◌, true, Some, Any, Contains, map}
+use Rattle.std.specs.Prelude.{◌≡◌, ◌≢◌, ◌⊎◌, ℕ, List, [], ◌∷◌, true, Some, Any, Contains, map, ⊤}
 use Rattle.bag_text.specs.Text.{text_cmp}
 use Rattle.bag_text.specs.Order.{IsListOf}
 use Rattle.bag_text.specs.Path.{is_payload_path}
@@ -22,7 +22,7 @@ use Rattle.bag_facts.specs.Facts.{rules_in}
 
 -- what is known of tag files, one for each that was read, is what their bytes say by the rules
 abbrev pub AreParsed : Rules → List TagBytes → List TagFacts → Type 0
-AreParsed rules [] [] = Unit {0}
+AreParsed rules [] [] = ⊤
 AreParsed rules (file ∷ read) (tag ∷ tags) = IsParsed rules file tag × AreParsed rules read tags
 AreParsed rules [] (tag ∷ tags) = ⊥
 AreParsed rules (file ∷ read) [] = ⊥
@@ -55,9 +55,9 @@ pub record IsFactsOf (bag : Bag) (facts : Facts) : Type 0 where
   pub said : (tag : TagFacts) → Contains facts.tags tag → IsSaidOfTagFile bag tag
 
 -- of facts that were read beyond the declaration: this holds of each bag whose facts they are
-abbrev pub OfBag : Facts → (Bag → Type 0) → Type 0
-OfBag facts IsSo = (bag : Bag) → IsFactsOf bag facts → facts.options.depth ≢ depth_of.Declaration
-    → IsSo bag
+abbrev pub IfBagRead : Facts → (Bag → Type 0) → Type 0
+IfBagRead facts IsSo =
+    (bag : Bag) → IsFactsOf bag facts → facts.options.depth ≢ depth_of.Declaration → IsSo bag
 
 -- a payload file is listed only where the payload folder is
 abbrev pub HasItsFolder : Listing → Type 0

@@ -1,5 +1,5 @@
 -- Why listing a tree and reading its tag files may stop.
-use Rattle.std.specs.Prelude.{◌≡◌, ◌≢◌, ◌⊎◌, ◌<◌, [], IsTrue}
+use Rattle.std.specs.Prelude.{◌≡◌, ◌≢◌, ◌⊎◌, ◌<◌, [], IsTrue, ⊤}
 use Rattle.bag_tree.specs.Tree.{TreeState, MayRefuseListing, FailsOver, CameFromFile, most_entries}
 use Rattle.bag_tree.specs.declared.answer.Answer.TheVariants.{Unlisted}
 use Rattle.bag_tree.specs.declared.tree_fault.Stop.{Stop}
@@ -23,7 +23,7 @@ MayRefuseFacts old new NotFound = ¬ (IsTrue old.honest)
 MayRefuseFacts old new TooMany = IsTrue old.honest → most_entries < old.entries
 MayRefuseFacts old new Changed = ¬ (IsTrue old.honest)
 MayRefuseFacts old new NoneOpen = ⊥
-MayRefuseFacts old new Memory = Unit {0}
+MayRefuseFacts old new Memory = ⊤
 MayRefuseFacts old new Exists = ⊥
 
 -- the listing was refused, and no other call since: no file is named, none was opened, and what was

@@ -1,5 +1,5 @@
 -- What is known of one tag file is what its bytes say.
-use Rattle.std.specs.Prelude.{◌≡◌, ℕ, Bool, List, [], Option, None, Some, map}
+use Rattle.std.specs.Prelude.{◌≡◌, ℕ, Bool, List, [], Option, None, Some, map, ⊤}
 use Rattle.std.specs.List.Sorted.{IsStrictlySortedBy}
 use Rattle.std.specs.Ordering.{nat_cmp, on}
 use Rattle.std.specs.Str.{is_utf8}
@@ -85,7 +85,7 @@ text_test (facts.Manifest manifest) = Some manifest.is_text
 
 -- what was read of a file is what its bytes say, and nothing was read where it isn't there
 abbrev pub IsReadOf : {A : Type 0} → (List ℕ → A → Type 0) → Option (List ℕ) → Option A → Type 0
-IsReadOf IsOf None None = Unit {0}
+IsReadOf IsOf None None = ⊤
 IsReadOf IsOf (Some bytes) (Some x) = IsOf bytes x
 IsReadOf IsOf None (Some x) = ⊥
 IsReadOf IsOf (Some bytes) None = ⊥

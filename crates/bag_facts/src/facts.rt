@@ -40,7 +40,7 @@ pub struct Facts {
 }
 
 impl Facts {
-    ghost use Rattle.bag_facts.specs.FactsOfBag.{IsFactsOf, OfBag};
+    ghost use Rattle.bag_facts.specs.FactsOfBag.{IsFactsOf, IfBagRead};
 
     /// Lists the tree, and reads its tag files whole, in path order and each once: at every depth
     /// `bagit.txt`, and at the depths above `Declaration` also `bag-info.txt`, `fetch.txt` and the
@@ -130,7 +130,7 @@ impl Facts {
     /// What is known of `bag-info.txt`, where it is there and the facts were read for more than the
     /// declaration.
     pub fn metadata(&self) -> Option<&Metadata>
-        ensures { OfBag self.now (λ bag.
+        ensures { IfBagRead self.now (λ bag.
             IsReadOf (IsMetadataOf (rules_in bag)) (file bag (tag_path file_of.Info))
             (option_copied result)) }
     {
@@ -143,7 +143,7 @@ impl Facts {
     /// What is known of `fetch.txt`, where it is there and the facts were read for more than the
     /// declaration.
     pub fn fetch_list(&self) -> Option<&FetchList>
-        ensures { OfBag self.now (λ bag.
+        ensures { IfBagRead self.now (λ bag.
             IsReadOf (IsFetchListOf (rules_in bag)) (file bag (tag_path file_of.Fetch))
             (option_copied result)) }
     {
@@ -156,7 +156,7 @@ impl Facts {
     /// What is known of a manifest, where it is there and the facts were read for more than the
     /// declaration.
     pub fn manifest(&self, kind: Kind, alg: Alg) -> Option<&Manifest>
-        ensures { OfBag self.now (λ bag.
+        ensures { IfBagRead self.now (λ bag.
             IsReadOf (IsManifestNamed (rules_in bag) kind alg)
             (file bag (tag_path (file_of.Manifest kind alg))) (option_copied result)) }
     {
@@ -200,7 +200,7 @@ impl Facts {
     /// The entries of a manifest, in the order of their paths by bytes: none where it isn't there,
     /// or the facts were read for the declaration alone.
     pub fn entries(&self, kind: Kind, alg: Alg) -> &[ManifestEntry]
-        ensures entries { OfBag self.now (λ bag.
+        ensures entries { IfBagRead self.now (λ bag.
             AreEntriesOf (rules_in bag) kind alg (file bag (tag_path (file_of.Manifest kind alg)))
             result.now) }
         ensures none { (bag : Bag) → IsFactsOf bag self.now

@@ -1,6 +1,6 @@
 -- The steps in which a bag is made, and what they leave.
 use Rattle.std.specs.Prelude.{ℕ, ◌≡◌, ◌⊎◌, ◌≤◌, ◌-◌, ◌++◌, true, IsTrue, List, [], ◌∷◌, Some, codes}
-use Rattle.std.specs.Prelude.{fold, take, slice_get}
+use Rattle.std.specs.Prelude.{fold, take, slice_get, ⊤}
 use Rattle.bag_text.specs.Path.{under}
 use Rattle.bag_tree.specs.Asked.{Adds, Asking, AsksFile, AsksFolder, AsksMove, AsksRename}
 use Rattle.bag_tree.specs.Asked.{AsksSyncs, MayBegin}
@@ -42,7 +42,7 @@ CanTake (Create name bytes) bag = ¬ (is_taken bag name ≡ true)
 
 -- each of these steps can be taken after those before it
 abbrev pub CanTakeAll : List Step → Bag → Type 0
-CanTakeAll [] bag = Unit {0}
+CanTakeAll [] bag = ⊤
 CanTakeAll (step ∷ steps) bag = CanTake step bag × CanTakeAll steps (change step bag)
 
 -- how many files and folders more there may be after the step

@@ -1,5 +1,5 @@
 -- What taking steps promises.
-use Rattle.std.specs.Prelude.{◌≢◌, IsTrue, Result, MatchResult}
+use Rattle.std.specs.Prelude.{◌≢◌, IsTrue, Result, MatchResult, ⊤}
 use Rattle.bag_text.specs.Path.{is_base_name}
 use Rattle.bag_tree.specs.Asked.{Adds}
 use Rattle.bag_tree.specs.Tree.{TreeState}
@@ -11,9 +11,9 @@ use Rattle.bag_make.specs.Steps.{new_folder, change, more, StepAsks, RefusedAsks
 
 -- its names are names in the base folder, and the folder for the files isn't moved into itself
 abbrev pub IsStep : Step → Type 0
-IsStep MakeFolder = Unit {0}
+IsStep MakeFolder = ⊤
 IsStep (MoveIn top) = IsTrue (is_base_name top) × (top ≢ new_folder)
-IsStep Rename = Unit {0}
+IsStep Rename = ⊤
 IsStep (Create name bytes) = IsTrue (is_base_name name)
 
 -- what a step asked of a device that notes what it does

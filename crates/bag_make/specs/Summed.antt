@@ -1,5 +1,5 @@
 -- Files with their digests.
-use Rattle.std.specs.Prelude.{◌≡◌, List, [], ◌∷◌, length}
+use Rattle.std.specs.Prelude.{◌≡◌, List, [], ◌∷◌, length, ⊤}
 use Rattle.bag_text.specs.declared.alg.Alg.{Alg}
 use Rattle.bag_tree.specs.declared.listing.FileEntry.{FileEntry}
 use Rattle.bag_tree.specs.DigestsOf.{AreSumsOf}
@@ -12,7 +12,7 @@ HasItsSums algs e one = (one.path ≡ e.0) × AreSumsOf algs e.1 one.sums
 
 -- these files in their order, each with its digests
 abbrev pub AreSummed : List Alg → List File → List SummedFile → Type 0
-AreSummed algs [] [] = Unit {0}
+AreSummed algs [] [] = ⊤
 AreSummed algs (e ∷ files) (one ∷ summed) = HasItsSums algs e one × AreSummed algs files summed
 AreSummed algs files summed = ⊥
 

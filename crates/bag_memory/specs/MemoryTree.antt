@@ -1,6 +1,6 @@
 -- What the calls of a tree in memory promise.
 use Rattle.std.specs.Prelude.{ℕ, ◌≡◌, ◌&&◌, Bool, true, List, length, map, Option, Some, None, drop}
-use Rattle.std.specs.Prelude.{nat_lt}
+use Rattle.std.specs.Prelude.{nat_lt, ⊤}
 use Rattle.std.specs.List.{list_all}
 use Rattle.std.specs.Option.{option_map}
 use Rattle.std.specs.Str.{is_utf8}
@@ -38,7 +38,7 @@ pub record PassesAsBag (bag : Bag) : Type 0 where
 -- a file isn't opened where there is none, or when out of memory
 abbrev pub IsOpeningFault : Option (List ℕ) → TreeFault → Type 0
 IsOpeningFault content NotFound = content ≡ None
-IsOpeningFault content Memory = Unit {0}
+IsOpeningFault content Memory = ⊤
 IsOpeningFault content fault = ⊥
 
 -- what follows the part of the open file that was read

@@ -1,6 +1,6 @@
 -- What the first line of an element is made of (RFC 8493, 2.2.2), the law that its definition
 -- keeps, and what a line of bag-info.txt is.
-use Rattle.std.specs.Prelude.{ℕ, ◌≡◌, ◌≢◌, ◌⊎◌, ◌↔◌, true, not, List, [], ◌∷◌, ◌++◌, Some, codes}
+use Rattle.std.specs.Prelude.{ℕ, ◌≡◌, ◌≢◌, ◌⊎◌, ◌↔◌, true, not, List, [], ◌∷◌, ◌++◌, Some, codes, ⊤}
 use Rattle.std.specs.Prelude.{IsTrue, None}
 use Rattle.std.specs.List.{list_all}
 use Rattle.bag_text.specs.Text.{is_blank, trim, is_blank_line}
@@ -21,7 +21,7 @@ IsLabelIn V097 before label = label ≡ trim before
 abbrev pub MayFollow : Rules → List ℕ → Type 0
 MayFollow V10 part = (part ≡ [])
     ⊎ ((c : ℕ) × (more : List ℕ) × (part ≡ c ∷ more) × (is_blank c ≡ true))
-MayFollow V097 part = Unit {0}
+MayFollow V097 part = ⊤
 
 -- the line is a label, its first colon, and what may follow; the label isn't empty and doesn't end
 -- with a blank

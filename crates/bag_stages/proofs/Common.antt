@@ -34,7 +34,7 @@ pub use Rattle.bag_facts.proofs.ListedFiles.{file_listed, listed_file}
 pub use Rattle.bag_facts.proofs.Mapped.{contains_mapped, kept, mapped_contains, passed, take_one_more, taken_cases}
 pub use Rattle.bag_facts.proofs.Ordered.{fault_cmp_same, fault_cmp_total}
 pub use Rattle.bag_facts.specs.Facts.{IsByV10, rules_in}
-pub use Rattle.bag_facts.specs.FactsOfBag.{IsByV097, IsFactsOf, IsSaidOfTagFile, OfBag}
+pub use Rattle.bag_facts.specs.FactsOfBag.{IsByV097, IsFactsOf, IsSaidOfTagFile, IfBagRead}
 pub use Rattle.bag_facts.specs.FaultAt.{of_line, of_path}
 pub use Rattle.bag_facts.specs.FaultOrder.{fault_cmp}
 pub use Rattle.bag_facts.specs.TagFacts.{AreByPath, AreEntriesOf, IsDeclarationOf, IsFetchListOf, IsManifestNamed}

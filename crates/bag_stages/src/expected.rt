@@ -4,7 +4,7 @@ ghost use Rattle.std.specs.Option.{option_copied};
 ghost use Rattle.bag_text.specs.Order.{IsListOf};
 ghost use Rattle.bag_tree.specs.Bag.{file};
 ghost use Rattle.bag_facts.specs.FaultOrder.{fault_cmp};
-ghost use Rattle.bag_facts.specs.FactsOfBag.{OfBag};
+ghost use Rattle.bag_facts.specs.FactsOfBag.{IfBagRead};
 ghost use Rattle.bag_facts.specs.TagFacts.{entry_paths, AreByPath};
 ghost use Rattle.bag_stages.specs.Given.{AreNaming, IsGivenBy, kind_of};
 ghost use Rattle.bag_stages.specs.SumFaults.{faults_of_bytes, IsFaultOfFile};
@@ -36,9 +36,9 @@ pub fn expected_of(
     places: &mut Places,
 ) -> Result<Items<Expected>, AllocError>
     ensures algs { IfOk result (λ expected.
-        OfBag facts.now (λ bag. AreNaming bag path.now (map (λ one. one.alg) expected))) }
+        IfBagRead facts.now (λ bag. AreNaming bag path.now (map (λ one. one.alg) expected))) }
     ensures faults { IfOk result (λ expected.
-        OfBag facts.now (λ bag. (content : List ℕ) → file bag path.now ≡ Some content
+        IfBagRead facts.now (λ bag. (content : List ℕ) → file bag path.now ≡ Some content
         → IsListOf fault_cmp (IsFaultOfFile bag path.now)
         (faults_of_bytes path.now content expected))) }
     ensures count { IfOk result (λ expected. places.new.count ≡ length expected) }
@@ -64,7 +64,7 @@ fn expected_by(
     alg: Alg,
     place: &mut usize,
 ) -> Option<Expected>
-    ensures { OfBag facts.now (λ bag. IsGivenBy bag path.now kind alg result) }
+    ensures { IfBagRead facts.now (λ bag. IsGivenBy bag path.now kind alg result) }
 {
     let Some(entry) = entry_near(facts.entries(kind, alg), path, place) else {
         return None;

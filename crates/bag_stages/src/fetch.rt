@@ -2,7 +2,7 @@
 ghost use Rattle.std.specs.Prelude.{◌≡◌, IfOk};
 ghost use Rattle.bag_text.specs.Order.{IsListOf};
 ghost use Rattle.bag_facts.specs.FaultOrder.{fault_cmp};
-ghost use Rattle.bag_facts.specs.FactsOfBag.{OfBag};
+ghost use Rattle.bag_facts.specs.FactsOfBag.{IfBagRead};
 ghost use Rattle.bag_facts.specs.TagFacts.{AreByPath};
 ghost use Rattle.bag_stages.specs.FetchFaults.{not_in_manifest, AreByLine};
 ghost use Rattle.bag_stages.specs.FetchFaults.{IsNamedByNoneAmong, IsFetchLeftOutByAll};
@@ -136,7 +136,7 @@ fn named_by_none(
     path: &Text,
     entries: &[FetchEntry],
 ) -> Result<Vec<Fault>, AllocError>
-    ensures { IfOk result (λ faults. OfBag facts.now (λ bag. AreByLine entries.now
+    ensures { IfOk result (λ faults. IfBagRead facts.now (λ bag. AreByLine entries.now
         → IsListOf fault_cmp (IsNamedByNoneAmong bag path.now entries.now) faults.items)) }
 {
     let mut faults = Vec::new(alloc);

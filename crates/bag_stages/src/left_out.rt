@@ -6,7 +6,7 @@ ghost use Rattle.bag_text.specs.Path.{is_payload_path};
 ghost use Rattle.bag_text.specs.Text.{text_cmp};
 ghost use Rattle.bag_text.specs.declared.alg.Alg.{Alg as AlgValue};
 ghost use Rattle.bag_facts.specs.FaultOrder.{fault_cmp};
-ghost use Rattle.bag_facts.specs.FactsOfBag.{OfBag};
+ghost use Rattle.bag_facts.specs.FactsOfBag.{IfBagRead};
 ghost use Rattle.bag_facts.specs.TagFacts.{AreByPath};
 ghost use Rattle.bag_facts.specs.Wanted.{paths_of};
 ghost use Rattle.bag_stages.specs.CompletenessFaults.{IsFileLeftOutByAll, IsFileLeftOutByOne};
@@ -123,7 +123,7 @@ fn named_by_none(alloc: Global, facts: &Facts) -> Result<Vec<Fault>, AllocError>
 
 /// Whether some payload manifest names the payload's files and no other.
 fn is_some_exact(facts: &Facts) -> bool
-    ensures { OfBag facts.now (λ bag. IsTrue result
+    ensures { IfBagRead facts.now (λ bag. IsTrue result
         → (alg : AlgValue) × IsNamedExactly bag alg) }
 {
     for alg in Alg::ALL {
@@ -151,8 +151,8 @@ fn named_by_none_among(alloc: Global, facts: &Facts) -> Result<Vec<Fault>, Alloc
 
 /// Whether a path is that of a payload file that no payload manifest names.
 fn is_named_by_none(facts: &Facts, path: &Text) -> bool
-    ensures yes { OfBag facts.now (λ bag. IsTrue result → IsPathNamedByNone bag path.now) }
-    ensures no { OfBag facts.now (λ bag. IsPathNamedByNone bag path.now → IsTrue result) }
+    ensures yes { IfBagRead facts.now (λ bag. IsTrue result → IsPathNamedByNone bag path.now) }
+    ensures no { IfBagRead facts.now (λ bag. IsPathNamedByNone bag path.now → IsTrue result) }
 {
     is_payload(path.as_str()) && !is_named(facts, path)
 }

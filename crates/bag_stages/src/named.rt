@@ -1,7 +1,7 @@
 //! Whether payload manifests name a path.
 ghost use Rattle.std.specs.Prelude.{◌↔◌, IsTrue};
 ghost use Rattle.bag_read.specs.declared.kind.Kind.TheVariants.{Payload};
-ghost use Rattle.bag_facts.specs.FactsOfBag.{OfBag};
+ghost use Rattle.bag_facts.specs.FactsOfBag.{IfBagRead};
 ghost use Rattle.bag_stages.specs.LeftOut.{IsNamedBySome};
 ghost use Rattle.bag_stages.specs.TagFiles.{Names};
 
@@ -12,8 +12,8 @@ use bag_text::{Alg, Text};
 /// Whether some payload manifest names a path, of facts read for more than the declaration. Takes
 /// no memory.
 pub(crate) fn is_named(facts: &Facts, path: &Text) -> bool
-    ensures named { OfBag facts.now (λ bag. IsTrue result → IsNamedBySome bag path.now) }
-    ensures unnamed { OfBag facts.now (λ bag. IsNamedBySome bag path.now → IsTrue result) }
+    ensures named { IfBagRead facts.now (λ bag. IsTrue result → IsNamedBySome bag path.now) }
+    ensures unnamed { IfBagRead facts.now (λ bag. IsNamedBySome bag path.now → IsTrue result) }
 {
     for alg in Alg::ALL {
         if is_named_by(facts, alg, path) {
@@ -25,7 +25,7 @@ pub(crate) fn is_named(facts: &Facts, path: &Text) -> bool
 
 /// Whether the payload manifest of an algorithm names a path.
 fn is_named_by(facts: &Facts, alg: Alg, path: &Text) -> bool
-    ensures { OfBag facts.now (λ bag. IsTrue result ↔ Names bag Payload alg path.now) }
+    ensures { IfBagRead facts.now (λ bag. IsTrue result ↔ Names bag Payload alg path.now) }
 {
     match facts.manifest(Kind::Payload, alg) {
         Some(manifest) => manifest.names(path),

@@ -5,7 +5,7 @@ ghost use Rattle.bag_text.specs.Order.{IsListOf};
 ghost use Rattle.bag_text.specs.Path.{is_payload_path};
 ghost use Rattle.bag_text.specs.Text.{text_cmp};
 ghost use Rattle.bag_read.specs.declared.kind.Kind.TheVariants.{Payload};
-ghost use Rattle.bag_facts.specs.FactsOfBag.{OfBag};
+ghost use Rattle.bag_facts.specs.FactsOfBag.{IfBagRead};
 ghost use Rattle.bag_facts.specs.TagFacts.{entry_paths};
 ghost use Rattle.bag_facts.specs.Wanted.{paths_of};
 ghost use Rattle.bag_stages.specs.TagFiles.{Names};
@@ -21,7 +21,7 @@ use std::alloc::{AllocError, Global};
 /// The paths of the payload's files, and those that payload manifests name, in no order, and some
 /// of them more than once.
 pub(crate) fn payload_names(alloc: Global, facts: &Facts) -> Result<Vec<&str>, AllocError>
-    ensures { IfOk result (λ names. OfBag facts.now (λ bag.
+    ensures { IfOk result (λ names. IfBagRead facts.now (λ bag.
         (path : List ℕ) → Contains (texts_of names.items) path ↔ IsPayloadName bag path)) }
 {
     let mut names = payload_files(alloc, facts.listing.files.as_slice())?;
@@ -58,7 +58,7 @@ fn payload_files(alloc: Global, files: &[FileEntry]) -> Result<Vec<&str>, AllocE
 
 /// Adds the paths that the payload manifest of an algorithm names, where it is there.
 fn push_named<'a>(names: &mut Vec<&'a str>, facts: &'a Facts, alg: Alg) -> Result<(), AllocError>
-    ensures { OnOk result (OfBag facts.now (λ bag.
+    ensures { OnOk result (IfBagRead facts.now (λ bag.
         (path : List ℕ) → Contains (texts_of names.new.items) path
         ↔ (Contains (texts_of names.old.items) path ⊎ Names bag Payload alg path))) }
 {

@@ -1,6 +1,6 @@
 //! What payload manifests say of the payload's files that isn't so.
 ghost use Rattle.std.specs.Prelude.{◌≡◌, ◌↔◌, IfOk, IsTrue, MatchOption};
-ghost use Rattle.bag_facts.specs.FactsOfBag.{OfBag};
+ghost use Rattle.bag_facts.specs.FactsOfBag.{IfBagRead};
 ghost use Rattle.bag_facts.specs.TagFacts.{entry_paths};
 ghost use Rattle.bag_facts.specs.Wanted.{paths_of};
 ghost use Rattle.bag_stages.specs.CompletenessFaults.{IsWrong, IsWrongOfSome};
@@ -48,7 +48,7 @@ fn faults_of(alloc: Global, facts: &Facts, alg: Alg) -> Result<Vec<Fault>, Alloc
 /// other, so that it has no fault of completeness. The facts are read for more than the
 /// declaration.
 pub fn is_exact(facts: &Facts, alg: Alg) -> bool
-    ensures { OfBag facts.now (λ bag. IsTrue result ↔ IsExact bag alg) }
+    ensures { IfBagRead facts.now (λ bag. IsTrue result ↔ IsExact bag alg) }
 {
     match facts.manifest(Kind::Payload, alg) {
         Some(manifest) => are_named(manifest.entries.as_slice(), facts.listing.files.as_slice()),

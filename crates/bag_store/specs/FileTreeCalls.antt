@@ -1,5 +1,5 @@
 -- What the calls of a tree of files promise.
-use Rattle.std.specs.Prelude.{◌<◌, ◌⊎◌}
+use Rattle.std.specs.Prelude.{◌<◌, ◌⊎◌, ⊤}
 use Rattle.bag_tree.specs.Tree.{TreeState}
 use Rattle.bag_tree.specs.declared.tree_fault.TreeFault.{TreeFault}
 use Rattle.bag_tree.specs.declared.tree_fault.TreeFault.TheVariants.{Device, Special, Name}
@@ -22,12 +22,12 @@ abbrev pub ReportsDisk : Type 0 → DiskState → DiskState → TreeFault → Ty
 ReportsDisk reason old new Device = HasFailed old new ⊎ reason
 ReportsDisk reason old new Special = MeetsSpecial old
 ReportsDisk reason old new Name = MeetsUnnamed old
-ReportsDisk reason old new NotFound = Unit {0}
-ReportsDisk reason old new TooMany = Unit {0}
-ReportsDisk reason old new Changed = Unit {0}
-ReportsDisk reason old new NoneOpen = Unit {0}
-ReportsDisk reason old new Memory = Unit {0}
-ReportsDisk reason old new Exists = Unit {0}
+ReportsDisk reason old new NotFound = ⊤
+ReportsDisk reason old new TooMany = ⊤
+ReportsDisk reason old new Changed = ⊤
+ReportsDisk reason old new NoneOpen = ⊤
+ReportsDisk reason old new Memory = ⊤
+ReportsDisk reason old new Exists = ⊤
 
 -- what a tree means whose disk means this
 abbrev pub state_of : {D : Type 0} {disk : Disk.Ghosts D} → (D → DiskState) → FileTree D disk

@@ -1,6 +1,6 @@
 -- What each change of a tree asks of its device.
 use Rattle.std.specs.Prelude.{ℕ, ◌≡◌, ◌++◌, ◌&&◌, ◌||◌, ◌⊎◌, not, Bool, true, false, List, [], ◌∷◌}
-use Rattle.std.specs.Prelude.{map}
+use Rattle.std.specs.Prelude.{map, ⊤}
 use Rattle.std.specs.List.{AllByRecursion}
 use Rattle.bag_text.specs.Path.{is_base_name, under}
 use Rattle.bag_tree.specs.Cut.{is_synced}
@@ -10,8 +10,8 @@ use Rattle.bag_tree.specs.declared.event.DeviceEvent.TheVariants.{Write, Sync, S
 
 -- the event is a sync, which changes nothing
 abbrev pub IsSync : DeviceEvent → Type 0
-IsSync (Sync name) = Unit {0}
-IsSync (SyncFolder folder) = Unit {0}
+IsSync (Sync name) = ⊤
+IsSync (SyncFolder folder) = ⊤
 IsSync event = ⊥
 
 abbrev pub AreSyncs : List DeviceEvent → Type 0

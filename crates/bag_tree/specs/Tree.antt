@@ -1,6 +1,6 @@
 -- What the calls of a tree answer, and what they change.
 use Rattle.std.specs.Prelude.{◌≡◌, ℕ, ◌<◌, ◌≤◌, ◌⊎◌, Bool, true, false, IsTrue, List, [], ◌∷◌, ◌++◌}
-use Rattle.std.specs.Prelude.{Option, None, Some, is_some, codes}
+use Rattle.std.specs.Prelude.{Option, None, Some, is_some, codes, ⊤}
 use Rattle.bag_tree.specs.Bag.{Bag}
 use Rattle.bag_tree.specs.declared.tree_fault.TreeFault.{TreeFault}
 use Rattle.bag_tree.specs.declared.tree_fault.TreeFault.TheVariants.{Device, Special, Name}
@@ -64,7 +64,7 @@ MayRefuse absent closed old new NotFound = IsTrue old.honest → absent
 MayRefuse absent closed old new TooMany = IsTrue old.honest → most_entries < old.entries
 MayRefuse absent closed old new Changed = ⊥
 MayRefuse absent closed old new NoneOpen = closed
-MayRefuse absent closed old new Memory = Unit {0}
+MayRefuse absent closed old new Memory = ⊤
 MayRefuse absent closed old new Exists = ⊥
 
 -- A listing may be refused so: by the device, for what stands there or how much, and when out of
@@ -92,7 +92,7 @@ refusal_of (Refused fault) = Some fault
 -- fewer bytes than a size. Out of memory may be the caller's own.
 abbrev pub CameFromFile : TreeState → TreeFault → Type 0
 CameFromFile state Changed = (size : ℕ) × IsOtherSize state size
-CameFromFile state Memory = Unit {0}
+CameFromFile state Memory = ⊤
 CameFromFile state fault = state.last ≡ Refused fault
 
 -- the word for a refusal

@@ -40,7 +40,7 @@ pub use Rattle.bag_facts.proofs.Opens.{all_along, front_ascends, opens_all_first
 pub use Rattle.bag_facts.proofs.Ordered.{fault_cmp_total}
 pub use Rattle.bag_facts.proofs.Reading.{keeps_itself, keeps_on, later_refusal}
 pub use Rattle.bag_facts.proofs.Refusing.{came_from, has_entry, path_some, refused_file, told_memory}
-pub use Rattle.bag_facts.specs.FactsOfBag.{IsFactsOf, OfBag}
+pub use Rattle.bag_facts.specs.FactsOfBag.{IsFactsOf, IfBagRead}
 pub use Rattle.bag_facts.specs.FaultLine.{field}
 pub use Rattle.bag_facts.specs.LineOf.{IsLineOf}
 pub use Rattle.bag_facts.specs.FaultOrder.{fault_cmp}

@@ -93,8 +93,8 @@ segments_add_up options report limits old new before after outcome runs none wri
     (from report (MayLose options old new) runs.lost runs.unread runs.count outcome limits 0 0 0 (omega arith) none
     written runs.segments)
 
-pub answers_tell_unread : AnswersReportUnread
-answers_tell_unread options report limits old new before after outcome runs =
+pub answers_report_unread : AnswersReportUnread
+answers_report_unread options report limits old new before after outcome runs =
     let Stops = MayLose options old new in
     let few = short report Stops runs.lost runs.unread runs.count outcome limits 0 0 0 (Stopped 0) runs.segments in
     record {

@@ -3,7 +3,7 @@ ghost use Rattle.std.specs.Prelude.{◌≡◌, ⊤, [], false, IfOk};
 ghost use Rattle.std.specs.List.Sorted.{IsStrictlySortedBy};
 ghost use Rattle.std.specs.Option.{option_copied};
 ghost use Rattle.bag_facts.specs.FaultOrder.{fault_cmp};
-ghost use Rattle.bag_facts.specs.FactsOfBag.{OfBag};
+ghost use Rattle.bag_facts.specs.FactsOfBag.{IfBagRead};
 ghost use Rattle.bag_facts.specs.Options.{reaches};
 ghost use Rattle.bag_stages.specs.CompletenessFaults.{IsIncomplete, IsWrong};
 ghost use Rattle.bag_walk.specs.Completeness.{AreAbove, AreSought};
@@ -66,7 +66,7 @@ fn sought(alloc: Global, facts: &Facts, after: Option<&Fault>) -> Result<Vec<Fau
 /// The faults above a cursor that files are missing or aren't listed: those of each manifest, and
 /// those of all payload manifests at once, which a bag has by the rules of 0.97.
 fn of_files(alloc: Global, facts: &Facts, after: Option<&Fault>) -> Result<Vec<Fault>, AllocError>
-    ensures { IfOk result (λ faults. OfBag facts.now (λ bag.
+    ensures { IfOk result (λ faults. IfBagRead facts.now (λ bag.
         AreAbove (option_copied after.entry) (IsIncomplete bag) faults.items)) }
 {
     let of_algs = of_algs(alloc, facts, after)?;
@@ -76,7 +76,7 @@ fn of_files(alloc: Global, facts: &Facts, after: Option<&Fault>) -> Result<Vec<F
 
 /// Those of the manifests of each algorithm.
 fn of_algs(alloc: Global, facts: &Facts, after: Option<&Fault>) -> Result<Vec<Fault>, AllocError>
-    ensures { IfOk result (λ faults. OfBag facts.now (λ bag.
+    ensures { IfOk result (λ faults. IfBagRead facts.now (λ bag.
         AreAbove (option_copied after.entry) (IsOfSomeAlg bag) faults.items)) }
 {
     let mut faults = Vec::new(alloc);
@@ -94,7 +94,7 @@ fn of_alg(
     alg: Alg,
     after: Option<&Fault>,
 ) -> Result<Vec<Fault>, AllocError>
-    ensures { IfOk result (λ faults. OfBag facts.now (λ bag.
+    ensures { IfOk result (λ faults. IfBagRead facts.now (λ bag.
         AreAbove (option_copied after.entry) (IsOfAlg bag alg) faults.items)) }
 {
     let of_payload = of_payload(alloc, facts, alg, after)?;
@@ -110,7 +110,7 @@ fn of_payload(
     alg: Alg,
     after: Option<&Fault>,
 ) -> Result<Vec<Fault>, AllocError>
-    ensures { IfOk result (λ faults. OfBag facts.now (λ bag.
+    ensures { IfOk result (λ faults. IfBagRead facts.now (λ bag.
         AreAbove (option_copied after.entry) (IsWrong bag alg) faults.items)) }
 {
     if is_exact(facts, alg) {

@@ -26,7 +26,7 @@ pub fn segments_add_up()
 {}
 
 /// No limit is unread where as many faults were written as all limits allow.
-pub fn answers_tell_unread()
+pub fn answers_report_unread()
     ensures { AnswersReportUnread }
 {}
 

@@ -1,5 +1,5 @@
 -- When a disk in memory refuses a change.
-use Rattle.std.specs.Prelude.{ℕ, ◌≡◌, ◌⊎◌, List, Option, None, Some}
+use Rattle.std.specs.Prelude.{ℕ, ◌≡◌, ◌⊎◌, List, Option, None, Some, ⊤}
 use Rattle.bag_disk.specs.Disk.{Nodes, bytes_of}
 use Rattle.bag_disk.specs.DiskNodes.{Has, IsDisk, IsFolder, IsReachedByFolders, node}
 use Rattle.bag_tree.specs.Moved.{moved}
@@ -13,7 +13,7 @@ abbrev pub MayRefuseAdding : Nodes → List ℕ → DiskFault → Type 0
 MayRefuseAdding nodes path NotFound = ¬ (IsReachedByFolders nodes path)
 MayRefuseAdding nodes path Exists = Has nodes path
 MayRefuseAdding nodes path Name = ⊥
-MayRefuseAdding nodes path Memory = Unit {0}
+MayRefuseAdding nodes path Memory = ⊤
 MayRefuseAdding nodes path Device = ⊥
 
 -- Nothing is moved where nothing stands, where the folder to move to isn't there, where something
@@ -22,7 +22,7 @@ abbrev pub MayRefuseMoving : Nodes → List ℕ → List ℕ → DiskFault → T
 MayRefuseMoving nodes from to NotFound = (node nodes from ≡ None) ⊎ ¬ (IsReachedByFolders nodes to)
 MayRefuseMoving nodes from to Exists = Has nodes to
 MayRefuseMoving nodes from to Name = ⊥
-MayRefuseMoving nodes from to Memory = Unit {0}
+MayRefuseMoving nodes from to Memory = ⊤
 MayRefuseMoving nodes from to Device = ¬ (IsDisk (moved from to nodes))
 
 -- Nothing is written where no file stands that is being written, or when out of memory.
@@ -30,7 +30,7 @@ abbrev pub MayRefuseWriting : Nodes → Option (List ℕ) → DiskFault → Type
 MayRefuseWriting nodes written NotFound = ⊥
 MayRefuseWriting nodes written Exists = ⊥
 MayRefuseWriting nodes written Name = ⊥
-MayRefuseWriting nodes written Memory = Unit {0}
+MayRefuseWriting nodes written Memory = ⊤
 MayRefuseWriting nodes written Device = (path : List ℕ) → written ≡ Some path
     → bytes_of (node nodes path) ≡ None
 
@@ -39,7 +39,7 @@ abbrev pub MayRefuseSync : Option (List ℕ) → DiskFault → Type 0
 MayRefuseSync written NotFound = ⊥
 MayRefuseSync written Exists = ⊥
 MayRefuseSync written Name = ⊥
-MayRefuseSync written Memory = Unit {0}
+MayRefuseSync written Memory = ⊤
 MayRefuseSync written Device = written ≡ None
 
 -- No folder is synced that isn't there, or out of memory.
@@ -47,5 +47,5 @@ abbrev pub MayRefuseSyncFolder : Nodes → List ℕ → DiskFault → Type 0
 MayRefuseSyncFolder nodes folder NotFound = ¬ (IsFolder nodes folder)
 MayRefuseSyncFolder nodes folder Exists = ⊥
 MayRefuseSyncFolder nodes folder Name = ⊥
-MayRefuseSyncFolder nodes folder Memory = Unit {0}
+MayRefuseSyncFolder nodes folder Memory = ⊤
 MayRefuseSyncFolder nodes folder Device = ⊥

@@ -1,6 +1,6 @@
 -- A disk in memory.
 use Rattle.std.specs.Prelude.{ℕ, ◌≡◌, Bool, true, false, List, [], Option, Some, None, Result, Ok}
-use Rattle.std.specs.Prelude.{Err, drop, bytes_eq, if◌then◌else◌}
+use Rattle.std.specs.Prelude.{Err, drop, bytes_eq, if◌then◌else◌, ⊤}
 use Rattle.std.specs.List.{list_any}
 use Rattle.std.specs.Option.{option_map}
 use Rattle.bag_disk.specs.Disk.{DiskState, Nodes, Node, bytes_of}
@@ -86,7 +86,7 @@ IsEntry (Some n) result = result ≡ Ok (entry_of_node n)
 
 -- A call may be refused when out of memory, and for this reason.
 abbrev pub MayRefuse : Type 0 → DiskFault → Type 0
-MayRefuse reason Memory = Unit {0}
+MayRefuse reason Memory = ⊤
 MayRefuse reason NotFound = reason
 MayRefuse reason Exists = ⊥
 MayRefuse reason Device = reason

@@ -1,9 +1,9 @@
-use Rattle.bag_walk.proofs.Common.{take, option_copied, IsListOf, fault_cmp, OfBag, OfSome, IsAbove, IsOfAlg}
+use Rattle.bag_walk.proofs.Common.{take, option_copied, IsListOf, fault_cmp, IfBagRead, OfSome, IsAbove, IsOfAlg}
 use Rattle.bag_walk.proofs.completeness.of_algs.Given as goal
 
 abbrev pub invariant-loop-alg : goal.invariant-loop-alg
 invariant-loop-alg l =
-    OfBag l.facts (λ bag.
+    IfBagRead l.facts (λ bag.
     IsListOf fault_cmp
     (IsAbove (option_copied l.initial.after) (OfSome (IsOfAlg bag) (take l.alg-index l.alg-items)))
     l.faults.items)
