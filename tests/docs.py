@@ -140,8 +140,8 @@ def compare_crates(page, text):
 def fault_codes():
     """Each code as `NUMBER WORD`, by the definitions."""
     text = text_of(crates / "bag_text/specs/Code.antt") + text_of(crates / "bag_text/specs/CodeWord.antt")
-    words = dict(re.findall(r'^word (\w+) = codes "([a-z0-9-]+)"$', text, re.M))
-    return {f"{number} {words[name]}" for name, number in re.findall(r"^number (\w+) = (\d+)$", text, re.M)}
+    words = dict(re.findall(r'^word code\.(\w+) = codes "([a-z0-9-]+)"$', text, re.M))
+    return {f"{number} {words[name]}" for name, number in re.findall(r"^number code\.(\w+) = (\d+)$", text, re.M)}
 
 
 def compare_codes(page, text):
