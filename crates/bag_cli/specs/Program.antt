@@ -1,5 +1,5 @@
 -- What the whole program does, and which folders it looks into meanwhile.
-use Rattle.std.specs.Prelude.{ℕ, ◌≡◌, ◌⊎◌, true, List, [], Option, Result, Ok, Err, drop}
+use Rattle.std.specs.Prelude.{ℕ, ◌≡◌, ◌⊎◌, true, List, Result, Ok, Err, drop}
 use Rattle.bag_tree.specs.Out.{OutState}
 use Rattle.bag_cli.specs.Visits.{Event}
 use Rattle.bag_arguments.specs.Plan.{IsNotRefused, IsPlanned, usage_status}

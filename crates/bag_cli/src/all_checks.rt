@@ -3,11 +3,12 @@ ghost use Rattle.std.specs.Prelude.{◌≡◌};
 ghost use Rattle.bag_cli.specs.Checked.{IsSampleChecked};
 ghost use Rattle.bag_cli.specs.Status.{whole_status};
 
-use crate::check::{check_folder, check_sample};
+use crate::check::check_sample;
 use crate::in_turn::Task;
 use crate::performing::REFUSED;
 use crate::saying::{say_memory, say_refused};
-use crate::{Disks, Folders, Visits};
+use crate::work::Work;
+use crate::{Disks, Visits};
 use bag_arguments::Plan;
 use bag_profile::Profile;
 use bag_tree::Out;
@@ -27,37 +28,28 @@ where
 
 /// The checks of the bags in folders as a plan says, by a profile or without one.
 #[derive(Drop)]
-pub(crate) struct Checks<'p> {
-    pub(crate) plan: &'p Plan,
-    pub(crate) profile: Option<&'p Profile>,
+pub(crate) struct Checks<'w, D> {
+    pub(crate) work: &'w Work<'w, D>,
+    pub(crate) profile: Option<&'w Profile>,
 }
 
-impl Task for Checks<'_> {
+impl<D: Disks> Task<D> for Checks<'_, D> {
     ghost use Rattle.std.specs.Option.{option_copied};
     ghost use Rattle.bag_cli.specs.Checked.{IsLastCheck, IsWholeCheck};
+    ghost use Rattle.bag_cli.specs.Folders.{tree_in};
 
-    ghost ends = { λ checks. IsLastCheck checks.plan.now (option_copied checks.profile) };
+    ghost ends = { λ checks name. IsLastCheck checks.work.now.plan.now
+        (option_copied checks.profile) (tree_in D.below checks.work.now.folders.now name) name };
 
-    ghost goes = { λ checks. IsWholeCheck checks.plan.now (option_copied checks.profile) };
+    ghost goes = { λ checks name. IsWholeCheck checks.work.now.plan.now
+        (option_copied checks.profile) (tree_in D.below checks.work.now.folders.now name) name };
 
-    fn do_in<D: Disks, O: Out, E: Out>(
-        &self,
-        alloc: Global,
-        folders: &Folders<'_, D>,
-        directory: &str,
-        visits: &mut Visits<D>,
-        out: &mut O,
-        err: &mut E,
-    ) -> Option<u8> {
-        let checked = check_folder(
-            alloc,
-            folders,
-            self.plan,
-            self.profile,
-            directory,
-            visits,
-            out,
-        );
+    fn run<O, E>(&self, name: &str, visits: &mut Visits<D>, out: &mut O, err: &mut E) -> Option<u8>
+    where
+        O: Out,
+        E: Out,
+    {
+        let checked = self.work.check_folder(self.profile, name, visits, out);
         status_of_whole(&checked, err)
     }
 }

@@ -7,7 +7,8 @@ ghost use Rattle.bag_cli.specs.Checking.{ChecksFolder, ChecksTree, IsCheckOfSamp
 ghost use Rattle.bag_cli.specs.InTurn.{HasVisited};
 
 use crate::sample::sample_tree;
-use crate::{Disks, Folders, Visits};
+use crate::work::Work;
+use crate::{Disks, Visits};
 use bag_arguments::Plan;
 use bag_facts::Fault;
 use bag_profile::Profile;
@@ -16,26 +17,26 @@ use bag_tree::{Out, Tree};
 use bag_walk::{Outcome, Request, run};
 use std::alloc::{AllocError, Global};
 
-/// Checks the bag in a folder, as a plan says. The folder is asked for before anything else that
-/// takes memory.
-pub(crate) fn check_folder<D: Disks, O: Out>(
-    alloc: Global,
-    folders: &Folders<'_, D>,
-    plan: &Plan,
-    profile: Option<&Profile>,
-    directory: &str,
-    visits: &mut Visits<D>,
-    out: &mut O,
-) -> Result<Outcome, AllocError>
-    ensures { HasVisited (visits_of visits.old) (visits_of visits.new) (λ own.
-        ChecksFolder plan.now (option_copied profile.entry)
-        (tree_in D.below folders.now directory.now) directory.now
-        (O.state out.old) (O.state out.new) own result) }
-{
-    let tree = folders.enter(alloc, directory, visits)?;
-    let (tree, checked) = check_tree(alloc, tree, plan, profile, directory, out);
-    folders.leave(tree, visits);
-    checked
+impl<D: Disks> Work<'_, D> {
+    /// Checks the bag in a folder, as the plan says. The folder is asked for before anything else
+    /// that takes memory.
+    pub(crate) fn check_folder<O: Out>(
+        &self,
+        profile: Option<&Profile>,
+        directory: &str,
+        visits: &mut Visits<D>,
+        out: &mut O,
+    ) -> Result<Outcome, AllocError>
+        ensures { HasVisited (visits_of visits.old) (visits_of visits.new) (λ own.
+            ChecksFolder self.now.plan.now (option_copied profile.entry)
+            (tree_in D.below self.now.folders.now directory.now) directory.now
+            (O.state out.old) (O.state out.new) own result) }
+    {
+        let tree = self.folders.enter(self.alloc, directory, visits)?;
+        let (tree, checked) = check_tree(self.alloc, tree, self.plan, profile, directory, out);
+        self.folders.leave(tree, visits);
+        checked
+    }
 }
 
 /// Checks the sample bag, as a plan says.

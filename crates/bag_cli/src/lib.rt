@@ -18,7 +18,6 @@
 
 mod all_checks;
 mod all_makings;
-mod by_profile;
 mod check;
 mod disks;
 mod folders;
@@ -39,6 +38,7 @@ mod visits;
 mod whole_program;
 mod words;
 mod words_refusal;
+mod work;
 
 pub use all_makings::elements;
 pub use bag_arguments::{Action, Plan, Usage, plan_of};

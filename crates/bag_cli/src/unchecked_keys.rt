@@ -1,11 +1,27 @@
 //! Writes which keys of a profile aren't checked.
 ghost use Rattle.bag_walk.specs.Pieces.{Writes};
+ghost use Rattle.bag_cli.specs.Performed.{lines_before};
 ghost use Rattle.bag_cli.specs.UncheckedKeys as spec;
 
 use bag_profile::Profile;
 use bag_text::said;
 use bag_tree::{Out, Refused};
 use bag_walk::{put_line, put_pieces};
+
+/// Says which keys of a profile aren't checked, unless it is to be quiet.
+pub(crate) fn say_unchecked<O: Out>(
+    quiet: bool,
+    profile: &Profile,
+    out: &mut O,
+) -> Result<(), Refused>
+    ensures { Writes (O.state out.old) (O.state out.new) (lines_before quiet profile.now) result }
+{
+    if quiet {
+        Ok(())
+    } else {
+        write_unchecked(profile, out)
+    }
+}
 
 /// Hands the output a line for each key of the profile that isn't checked, in their order. It takes
 /// no memory.

@@ -1,16 +1,15 @@
 //! The whole program.
 ghost use Rattle.bag_arguments.specs.Words.{texts_of_words};
-ghost use Rattle.std.specs.Prelude.{map, string_bytes};
 ghost use Rattle.bag_cli.specs.Folders.{disks_of};
 ghost use Rattle.bag_cli.specs.InTurn.{Does};
-ghost use Rattle.bag_cli.specs.Program.{IsProgram, IsProgramOrNone, IsWholeProgram};
+ghost use Rattle.bag_cli.specs.Program.{IsProgram, IsWholeProgram};
 
 use crate::performing::perform;
 use crate::words::{Words, asked_words, texts_of};
 use crate::{Disks, Folders, Visits, refuse_words};
 use bag_arguments::{Usage, plan_of};
 use bag_tree::Out;
-use std::alloc::Global;
+use std::alloc::{AllocError, Global};
 
 /// Does what the words ask for, without the program's name, and gives the exit status.
 ///
@@ -49,27 +48,13 @@ pub fn run_program<R: Words + AllocGlobal, D: Disks, O: Out, E: Out>(
         (IsWholeProgram (R.answers rt.now)
         (D.below (disks_of folders.now)) (D.file (disks_of folders.now))) }
 {
-    match asked_words(rt.alloc(), rt) {
-        Ok(words) => run_words(rt, folders, &words, visits, out, err),
-        Err(usage) => refuse_words(&usage, err),
-    }
-}
-
-/// Does what words ask for.
-fn run_words<R: AllocGlobal, D: Disks, O: Out, E: Out>(
-    rt: &R,
-    folders: &Folders<'_, D>,
-    words: &[String],
-    visits: &mut Visits<D>,
-    out: &mut O,
-    err: &mut E,
-) -> u8
-    ensures { Does O.Out visits.old visits.new out.old out.new result
-        (IsProgramOrNone (D.below (disks_of folders.now)) (D.file (disks_of folders.now))
-        (map string_bytes words.now)) }
-{
-    match texts_of(rt.alloc(), words) {
-        Ok(texts) => program(rt.alloc(), folders, &texts, visits, out, err),
-        Err(_) => refuse_words(&Usage::Memory, err),
+    let alloc = rt.alloc();
+    let words = match asked_words(alloc, rt) {
+        Ok(words) => words,
+        Err(usage) => return refuse_words(&usage, err),
+    };
+    match texts_of(alloc, &words) {
+        Ok(texts) => program(alloc, folders, &texts, visits, out, err),
+        Err(AllocError) => refuse_words(&Usage::Memory, err),
     }
 }

@@ -2,12 +2,6 @@ use Rattle.bag_cli.proofs.Common.{inl, inr, [], refl, sym, ap, ◌∙◌, append
 use Rattle.bag_arguments.specs.Plan.{usage_status}
 use Rattle.bag_cli.proofs.whole_program.run_program.Goals as goal
 
-pub returns-in-Ok : goal.returns-in-Ok
-returns-in-Ok g c =
-    let asked = c.in-Ok.ensures in
-    let done = c.run_words.ensures in
-    (done.0, done.1, inr (Ok asked.0, asked.1, rw (c.deref.ensures.value, asked.2) at done.2))
-
 pub returns-in-Err : goal.returns-in-Err
 returns-in-Err g c = (
   [],
@@ -16,4 +10,29 @@ returns-in-Err g c = (
     | inl answered ↦ inr (Err c.in-Err.usage, answered, (c.refuse_words.ensures.status, refl, refl))
     | inr memory ↦ inl (c.refuse_words.ensures.status ∙ ap usage_status memory, refl, refl)
   ],
+)
+
+pub returns-in-Ok-texts_of : goal.returns-in-Ok-texts_of
+returns-in-Ok-texts_of g c =
+    let asked = c.in-Ok.ensures in
+    let done = c.program.ensures in (
+      done.0,
+      done.1,
+      inr (
+        Ok asked.0,
+        asked.1,
+        inr (rw (
+          c.deref-in-Ok-texts_of.ensures.value,
+          c.in-Ok-texts_of.ensures,
+          c.deref.ensures.value,
+          asked.2,
+        ) at done.2),
+      ),
+    )
+
+pub returns : goal.returns
+returns g c = (
+  [],
+  sym (append-nil (visits_of c.args.visits.now)),
+  inl (c.refuse_words-in-Err-texts_of.ensures.status, refl, refl),
 )

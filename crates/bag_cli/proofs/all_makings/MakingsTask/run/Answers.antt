@@ -1,6 +1,6 @@
 use Rattle.bag_cli.proofs.Common.{inl, inr}
 use Rattle.bag_cli.proofs.Makings.{told_status}
-use Rattle.bag_cli.proofs.all_makings.MakingsTask.do_in.Goals as goal
+use Rattle.bag_cli.proofs.all_makings.MakingsTask.run.Goals as goal
 
 pub returns-in-Ok-Ok-clause-status : goal.returns-in-Ok-Ok-clause-status
 returns-in-Ok-Ok-clause-status g c = let done = c.in-Ok-Ok.ensures
