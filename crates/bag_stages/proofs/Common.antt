@@ -108,13 +108,7 @@ pub use Rattle.bag_stages.specs.CompletenessFaults.{IsOfPathAmong, IsLeftOutAmon
 pub use Rattle.bag_stages.specs.CompletenessFaults.{IsV097LeftOutByAll, IsV10LeftOutBySome, IsPathLeftOutOf}
 pub use Rattle.bag_stages.specs.CompletenessFaults.{IsFileNamedByNone, IsPathNamedByNone, IsWrong, IsWrongOfSome}
 pub use Rattle.bag_stages.specs.CompletenessFaults.{missing_code, IsSoughtInStageSix}
-pub use Rattle.bag_stages.specs.Laws.{CompletenessFaultsAreListed, CompletenessFaultsAreOfStageSix}
-pub use Rattle.bag_stages.specs.Laws.{DeclarationFaultsAreListed, DeclarationFaultsAreOfStageOne}
-pub use Rattle.bag_stages.specs.Laws.{FetchFaultsAreListed, FetchFaultsAreOfStageFour}
-pub use Rattle.bag_stages.specs.Laws.{ManifestFaultsAreListed, ManifestFaultsAreOfStageFive}
-pub use Rattle.bag_stages.specs.Laws.{MetadataFaultsAreListed, MetadataFaultsAreOfStageThree}
-pub use Rattle.bag_stages.specs.Laws.{PartFaultsAreListed, PartFaultsAreOfStageTwo, NamesByKind}
-pub use Rattle.bag_stages.specs.Laws.{ValidityFaultsAreListed, ValidityFaultsAreOfStageSeven}
+pub use Rattle.bag_stages.specs.Laws.{FaultsAreListed, FaultsAreOfStage, NamesByKind}
 pub use Rattle.bag_stages.specs.CompletenessStage.{IsOfCompleteness, IsPayloadFile, IsPayloadName}
 pub use Rattle.bag_stages.specs.DeclarationStage.{InDeclaration, IsOfDeclaration}
 pub use Rattle.bag_stages.specs.FaultFields.{At, InFile, in_line}

@@ -4,7 +4,7 @@ use Rattle.bag_stages.proofs.Common.{is_lt, IsPermutation, IsSortedBy, stage, Is
 use Rattle.bag_stages.proofs.Common.{TagFileMissing, PayloadFileNotListed, NameClash, same_members, Kind, Payload, Tag}
 use Rattle.bag_stages.proofs.Common.{Bag, fault_cmp, Fault, rules_in, At, IsLeftOut, IsClashFault, IsSoughtClash}
 use Rattle.bag_stages.proofs.Common.{missing_code, HasEachOnce, IsIncomplete, IsMissingFromSome, IsFileLeftOut}
-use Rattle.bag_stages.proofs.Common.{IsV097LeftOutByAll, IsWrongOfSome, CompletenessFaultsAreOfStageSix, IsPayloadFile}
+use Rattle.bag_stages.proofs.Common.{IsV097LeftOutByAll, IsWrongOfSome, FaultsAreOfStage, IsPayloadFile}
 use Rattle.bag_stages.proofs.Common.{IsSoughtInStageSix}
 use Rattle.bag_stages.proofs.LeftOut.{by_all, by_one, left_out_by, not_both}
 use Rattle.bag_stages.specs.CompletenessStage.{CompletenessHolds, IsOfCompleteness}
@@ -61,7 +61,7 @@ module _ (bag : Bag) (f : Fault) where
   unlisted_apart : IsMissingFromSome bag Payload f ⊎ IsMissingFromSome bag Tag f → IsFileLeftOut bag f → ⊥
   unlisted_apart h k = grind (arith, missing_code_is, unlisted_code_is)
 
-pub completeness_of_stage_six : CompletenessFaultsAreOfStageSix
+pub completeness_of_stage_six : FaultsAreOfStage 6 IsOfCompleteness
 unfolding IsOfCompleteness
 completeness_of_stage_six bag f h = holds_stage bag f f.code h
 

@@ -4,7 +4,7 @@ use Rattle.bag_stages.proofs.Common.{Kind, Payload, Tag, Bag, has_file, LacksFil
 use Rattle.bag_stages.proofs.Common.{HasList, IsLeftOutByAll, IsLeftOutByOne, named_in, Names, IsClashFault}
 use Rattle.bag_stages.proofs.Common.{missing_code, IsIncomplete, IsFileLeftOutByAll, IsFileLeftOutByOne, IsMissing}
 use Rattle.bag_stages.proofs.Common.{IsMissingFromSome, IsFileLeftOut, IsOfPath, IsV10LeftOutByOne, IsV097LeftOutByAll}
-use Rattle.bag_stages.proofs.Common.{IsV10LeftOutBySome, CompletenessFaultsAreListed, IsOfCompleteness, IsPayloadFile}
+use Rattle.bag_stages.proofs.Common.{IsV10LeftOutBySome, FaultsAreListed, IsOfCompleteness, IsPayloadFile}
 use Rattle.bag_stages.proofs.BagLists.{over_algs}
 use Rattle.bag_stages.proofs.HasLists.{Decided, false_or_not, one_where, same_set, either, for_each, where_so}
 use Rattle.bag_stages.proofs.LeftOut.{v097_or_not, v10_or_not, by_all_or_not, by_one_or_not}
@@ -50,7 +50,7 @@ module _ (bag : Bag) where
       (over_algs (IsMissing bag Payload) (missing Payload)) (over_algs (IsMissing bag Tag) (missing Tag)))
       (either (IsV10LeftOutBySome bag) (IsV097LeftOutByAll bag) (over_algs (IsV10LeftOutByOne bag) unlisted) in_all)
 
-pub completeness_faults_are_listed : CompletenessFaultsAreListed
+pub completeness_faults_are_listed : FaultsAreListed IsOfCompleteness
 completeness_faults_are_listed bag =
     same_set (λ f. IsIncomplete bag f ⊎ IsClashFault bag f) (IsOfCompleteness bag) (either_is bag) (is_either bag)
     (either (IsIncomplete bag) (IsClashFault bag) (incomplete bag) (clash_faults_are_listed bag))

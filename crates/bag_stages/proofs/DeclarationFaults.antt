@@ -3,7 +3,7 @@ use Rattle.bag_stages.proofs.Common.{arith, ◌≡◌, ◌↔◌, ◌⊎◌, inl
 use Rattle.bag_stages.proofs.Common.{sym, subst, is_some, stage, IsListOf, Code, NoDeclaration, DeclarationNotUtf8}
 use Rattle.bag_stages.proofs.Common.{one_listed, same_members, Bag, LacksFile, file, AreFaults, LineFault}
 use Rattle.bag_stages.proofs.Common.{DeclarationFault, IsDeclarationFault, of_path, Fault, fault_cmp, InDeclaration}
-use Rattle.bag_stages.proofs.Common.{DeclarationFaultsAreOfStageOne, in_file, in_line, bagit_txt}
+use Rattle.bag_stages.proofs.Common.{FaultsAreOfStage, in_file, in_line, bagit_txt}
 use Rattle.bag_stages.specs.DeclarationStage.{DeclarationHolds, IsOfDeclaration}
 use Rattle.bag_stages.proofs.FaultFields.{has_fields, made_of}
 use Rattle.bag_stages.proofs.InFile.{IsOfLine, lines_listed}
@@ -50,7 +50,7 @@ module _ (bag : Bag) (f : Fault) where
       (has_fields f NoDeclaration bagit_txt None 0 [] is, lacks)
   some_is (inr (i, s)) = holds_of_file f.code i.2.0 i.2.2 i
 
-pub declaration_of_stage_one : DeclarationFaultsAreOfStageOne
+pub declaration_of_stage_one : FaultsAreOfStage 1 IsOfDeclaration
 declaration_of_stage_one bag f h =
     elim (of_some bag f h) [ inl none ↦ ap (λ (x : Fault). stage x.code) none.1 | inr line ↦ line.1 ]
 

@@ -1,7 +1,7 @@
 -- Every bag has a list of the faults of its declaration.
 use Rattle.bag_stages.proofs.Common.{◌≡◌, ◌⊎◌, ℕ, List, [], ◌∷◌, Bool, true, false, None, refl, is_utf8, lines_of_file}
 use Rattle.bag_stages.proofs.Common.{IsDeclarationFault, AreFaults, LineFault, LacksFile, file, has_file}
-use Rattle.bag_stages.proofs.Common.{IsOfDeclaration, DeclarationFaultsAreListed, bagit_txt}
+use Rattle.bag_stages.proofs.Common.{IsOfDeclaration, FaultsAreListed, bagit_txt}
 use Rattle.bag_read.specs.DeclarationFaults.{utf8_fault, text_faults}
 use Rattle.bag_read.proofs.DeclarationFaults.{faults_of_text, faults_of_no_text}
 use Rattle.bag_stages.proofs.DeclarationFaults.{IsNone, OfLine, line_tells, no_declaration, of_some, some_is}
@@ -14,7 +14,7 @@ line_faults : (bytes : List ℕ) (b : Bool) → is_utf8 bytes ≡ b
 line_faults bytes true e = (text_faults bytes (lines_of_file bytes), faults_of_text bytes e)
 line_faults bytes false e = (utf8_fault ∷ [], faults_of_no_text bytes e)
 
-pub declaration_faults_are_listed : DeclarationFaultsAreListed
+pub declaration_faults_are_listed : FaultsAreListed IsOfDeclaration
 declaration_faults_are_listed bag =
     same_set (λ f. IsNone bag f ⊎ OfLine bag f) (IsOfDeclaration bag) (some_is bag) (of_some bag)
     (either (IsNone bag) (OfLine bag)

@@ -8,7 +8,7 @@ use Rattle.bag_stages.proofs.Common.{entries_of_no_text, faults_of_no_text, Payl
 use Rattle.bag_stages.proofs.Common.{rules_in, IsByV10, IsByV097, entry_paths, AreByPath, IsFetchListOf}
 use Rattle.bag_stages.proofs.Common.{IsManifestNamed, IsReadOf, Manifest, in_file, in_line, At, AreByLine, AreFetched}
 use Rattle.bag_stages.proofs.Common.{IsNotNamedAmong, IsFetchLeftOutByAll, IsFetchLeftOutByOne, IsFetchLeftOutBySome}
-use Rattle.bag_stages.proofs.Common.{not_in_manifest, fetch_txt, FetchFaultsAreOfStageFour, HasFetch, IsLeftOut}
+use Rattle.bag_stages.proofs.Common.{not_in_manifest, fetch_txt, FaultsAreOfStage, HasFetch, IsLeftOut}
 use Rattle.bag_stages.proofs.Common.{IsLeftOutByOne, lines_or_none, manifest_of}
 use Rattle.bag_read.proofs.FetchLine.{IsReasonCode, reason_code}
 use Rattle.bag_facts.specs.declared.tag_facts.FetchList.{FetchList}
@@ -74,7 +74,7 @@ module _ (bag : Bag) (f : Fault) where
   lines_apart h k =
       subst (IsReasonCode (rules_in bag)) (listed_code k) (line_code bag f.code h.0.2.0 (in_line f) h.1 h.0.2.2)
 
-pub fetch_of_stage_four : FetchFaultsAreOfStageFour
+pub fetch_of_stage_four : FaultsAreOfStage 4 IsOfFetch
 fetch_of_stage_four bag f h = elim (of_some bag f h) [ inl line ↦ line.1 | inr out ↦ ap stage (listed_code bag f out) ]
 
 -- the same fault of two files is ordered as their lines

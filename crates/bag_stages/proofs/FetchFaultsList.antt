@@ -4,7 +4,7 @@ use Rattle.bag_stages.proofs.Common.{fetch_entry_in, entries_read, faults_read, 
 use Rattle.bag_stages.proofs.Common.{entries_of_lines, faults_of_no_text, faults_of_text, ◌≡◌, ◌∷◌, [], Bool, true}
 use Rattle.bag_stages.proofs.Common.{false, Bag, file, rules_in, IsByV10, IsByV097, IsFetchLeftOutByAll}
 use Rattle.bag_stages.proofs.Common.{IsFetchLeftOutByOne, IsFetchLeftOutBySome, not_in_manifest, fetch_txt}
-use Rattle.bag_stages.proofs.Common.{FetchFaultsAreListed, HasFetch, IsOfFetch, HasList, IsLeftOutByAll, IsLeftOutByOne}
+use Rattle.bag_stages.proofs.Common.{FaultsAreListed, HasFetch, IsOfFetch, HasList, IsLeftOutByAll, IsLeftOutByOne}
 use Rattle.bag_stages.proofs.Common.{lines_in}
 use Rattle.bag_stages.specs.FetchFaults.{IsFetchLeftOut}
 use Rattle.bag_stages.proofs.BagLists.{over_algs}
@@ -48,7 +48,7 @@ module _ (bag : Bag) where
       (where_so (IsByV097 bag) (IsFetchLeftOutByAll bag) (v097_or_not (rules_in bag))
       (left None (IsLeftOutByAll bag) (by_all_or_not bag)))
 
-pub fetch_faults_are_listed : FetchFaultsAreListed
+pub fetch_faults_are_listed : FaultsAreListed IsOfFetch
 fetch_faults_are_listed bag =
     same_set (λ f. OfLine bag f ⊎ IsFetchLeftOut bag f) (IsOfFetch bag) (some_is bag) (of_some bag)
     (either (OfLine bag) (IsFetchLeftOut bag) (of_lines bag) (not_listed bag))

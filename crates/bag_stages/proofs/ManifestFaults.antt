@@ -8,7 +8,7 @@ use Rattle.bag_stages.proofs.Common.{line_below, Fault, fault_cmp, rules_in, IsB
 use Rattle.bag_stages.proofs.Common.{name_of, path_of, AreByPath, AreFilesOfBag, paths_of, Facts, Manifest, TagFacts}
 use Rattle.bag_stages.proofs.Common.{file_listed, listed_file, unnamed, IsAskedUnnamed, IsUnnamedFault}
 use Rattle.bag_stages.proofs.Common.{IsUnlistedManifest, IsLineFault, IsOfManifest, InManifest}
-use Rattle.bag_stages.proofs.Common.{ManifestFaultsAreOfStageFive, in_file, in_line, manifest_of, HasManifest}
+use Rattle.bag_stages.proofs.Common.{FaultsAreOfStage, in_file, in_line, manifest_of, HasManifest}
 use Rattle.bag_stages.proofs.Common.{HasSupported, Names, IsEntryIn}
 use Rattle.bag_read.specs.declared.tag_name.TagName.TheVariants as tag_name
 use Rattle.bag_read.proofs.ManifestCodes.{IsManifestCode, manifest_fault_code, manifest_fault_stage}
@@ -166,7 +166,7 @@ module _ (bag : Bag) (f : Fault) where
       let at = of_manifest_at kind alg h in (at.0, at.2, of_manifest_is kind alg h)
   of_tag_at other h = absurd h
 
-pub manifests_of_stage_five : ManifestFaultsAreOfStageFive
+pub manifests_of_stage_five : FaultsAreOfStage 5 IsOfManifests
 manifests_of_stage_five bag f h = let some = of_some bag f h in (of_manifest_at bag f some.0 some.1.0 some.1.1).2
 
 -- the manifests, one after another

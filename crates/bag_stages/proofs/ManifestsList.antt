@@ -2,7 +2,7 @@
 use Rattle.bag_stages.proofs.Common.{ℕ, List, refl, Contains, is_utf8, Alg, manifest_name, Kind, Payload, Tag}
 use Rattle.bag_stages.proofs.Common.{some_faults, IsManifestFault, Bag, file, has_file, rules_in, HasList, unnamed}
 use Rattle.bag_stages.proofs.Common.{IsUnlistedManifest, IsLineFault, IsOfManifest, IsOfManifests}
-use Rattle.bag_stages.proofs.Common.{ManifestFaultsAreListed, manifest_of, named_in, HasManifest, Some}
+use Rattle.bag_stages.proofs.Common.{FaultsAreListed, manifest_of, named_in, HasManifest, Some}
 use Rattle.bag_stages.proofs.BagLists.{manifests_listed, over_algs, over_kinds, there_or_not}
 use Rattle.bag_stages.proofs.HasLists.{Decided, true_or_not, both_decided, not_decided, nothing, one_where, same_set}
 use Rattle.bag_stages.proofs.HasLists.{either, for_each}
@@ -36,7 +36,7 @@ module _ (bag : Bag) where
       (lacks_or_not alg other))
       (HasManifest bag Payload) (manifests_listed bag Payload))
 
-pub manifest_faults_are_listed : ManifestFaultsAreListed
+pub manifest_faults_are_listed : FaultsAreListed IsOfManifests
 manifest_faults_are_listed bag =
     same_set (IsOfSome bag) (IsOfManifests bag) (λ f h. of_manifest_is bag f h.0 h.1.0 h.1.1) (of_some bag)
     (over_kinds (λ kind f. (alg : Alg) × IsOfManifest bag kind alg f)

@@ -4,7 +4,7 @@ use Rattle.bag_stages.proofs.Common.{is_lt, refl, sym, ap, ◌∙◌, subst, if�
 use Rattle.bag_stages.proofs.Common.{is_utf8, stage, IsListOf, Code, NotUtf8, InfoLine, OxumMalformed, OxumAgain}
 use Rattle.bag_stages.proofs.Common.{OxumDiffers, NoOxum, same_members, InfoFault, IsInfoFault, LineFault, elements_of}
 use Rattle.bag_stages.proofs.Common.{Bag, file, Fault, fault_cmp, rules_in, IsSaidOfTagFile, in_file, in_line}
-use Rattle.bag_stages.proofs.Common.{bag_info_txt, MetadataFaultsAreOfStageThree, no_oxum, oxums, oxum_faults, oxum}
+use Rattle.bag_stages.proofs.Common.{bag_info_txt, FaultsAreOfStage, no_oxum, oxums, oxum_faults, oxum}
 use Rattle.bag_stages.proofs.Common.{oxum_text, pair}
 use Rattle.bag_read.proofs.InfoFaults.{faults_of_no_text}
 use Rattle.bag_facts.specs.declared.tag_facts.Metadata.{Metadata}
@@ -82,7 +82,7 @@ module _ (bag : Bag) (f : Fault) where
   apart : IsOfOxum bag f → OfLine → ⊥
   apart h k = let e = of_line_code k in grind arith
 
-pub metadata_of_stage_three : MetadataFaultsAreOfStageThree
+pub metadata_of_stage_three : FaultsAreOfStage 3 IsOfMetadata
 unfolding IsOfMetadata
 metadata_of_stage_three bag f h = holds_stage bag f f.code h
 

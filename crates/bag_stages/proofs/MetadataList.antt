@@ -1,7 +1,7 @@
 -- Every bag has a list of the faults of its metadata.
 use Rattle.bag_stages.proofs.Common.{◌≡◌, ◌⊎◌, ℕ, List, [], ◌∷◌, Bool, true, false, refl, enumerate_from, is_utf8}
 use Rattle.bag_stages.proofs.Common.{lines_of_file, IsInfoFault, AreFaults, not_utf8, LineFault, Element, elements_of}
-use Rattle.bag_stages.proofs.Common.{Bag, file, rules_in, HasList, bag_info_txt, IsOfMetadata, MetadataFaultsAreListed}
+use Rattle.bag_stages.proofs.Common.{Bag, file, rules_in, HasList, bag_info_txt, IsOfMetadata, FaultsAreListed}
 use Rattle.bag_stages.proofs.Common.{oxums, oxum_faults, oxum, lines_in, None}
 use Rattle.bag_read.specs.InfoReader as reading
 use Rattle.bag_read.proofs.InfoFaults.{faults_of_text, faults_of_no_text}
@@ -27,7 +27,7 @@ of_oxums bag =
       (oxum_listed bag elements (elements_of (rules_in bag) all)).members,
     )
 
-pub metadata_faults_are_listed : MetadataFaultsAreListed
+pub metadata_faults_are_listed : FaultsAreListed IsOfMetadata
 metadata_faults_are_listed bag =
     same_set (λ f. IsOfOxum bag f ⊎ OfLine bag f) (IsOfMetadata bag) (some_is bag) (of_some bag)
     (either (IsOfOxum bag) (OfLine bag) (of_oxums bag)

@@ -1,7 +1,7 @@
 -- The faults of a bag's parts.
 use Rattle.bag_stages.proofs.Common.{◌≡◌, ◌≢◌, ◌⊎◌, ◌↔◌, inl, inr, ◌++◌, ◌∷◌, ℕ, List, [], None, Some, Bool, true}
 use Rattle.bag_stages.proofs.Common.{false, refl, sym, ap, ◌∙◌, subst, arith, is_some, codes, append_assoc, Contains}
-use Rattle.bag_stages.proofs.Common.{◌+◌, IsTrue, if◌then◌else◌, IsStrictlySortedBy, is_utf8}
+use Rattle.bag_stages.proofs.Common.{IsTrue, if◌then◌else◌, IsStrictlySortedBy, is_utf8}
 use Rattle.bag_stages.proofs.Common.{All-contains, is_path, Less, text_cmp, IsNoText, alg_named, stage, IsListOf}
 use Rattle.bag_stages.proofs.Common.{IsOnly, Alg, Code, NoPayloadFolder, NoPayloadManifest, AlgorithmUnsupported}
 use Rattle.bag_stages.proofs.Common.{NotUtf8, nothing_listed, one_listed, joined, same_members, Bag, file, has_folder}
@@ -10,7 +10,7 @@ use Rattle.bag_stages.proofs.Common.{same_alg, name_named, paths_differ, of_path
 use Rattle.bag_stages.proofs.Common.{IsSaidOfTagFile, name_of, path_of, text_test, SaysOfTagFile, paths_of, Facts}
 use Rattle.bag_stages.proofs.Common.{TagFacts, file_listed, listed_file, contains_mapped, AreTagsOf}
 use Rattle.bag_stages.proofs.Common.{ListsPayloadManifest, HasTextless, IsUnsupported, IsFileFault, IsFaultAmong}
-use Rattle.bag_stages.proofs.Common.{PartFaultsAreOfStageTwo, of_bag, HasManifest, HasNoText}
+use Rattle.bag_stages.proofs.Common.{FaultsAreOfStage, of_bag, HasManifest, HasNoText}
 use Rattle.bag_read.specs.declared.tag_name.TagName.TheVariants as tag_name
 use Rattle.bag_facts.specs.declared.options.Depth.TheVariants.{Declaration}
 use Rattle.bag_facts.specs.declared.tag_facts.TagFacts.TheVariants as facts
@@ -155,7 +155,7 @@ module _ (bag : Bag) where
   holds_stage f NotUtf8 h = refl
   holds_stage f c h = grind arith
 
-pub parts_of_stage_two : PartFaultsAreOfStageTwo
+pub parts_of_stage_two : FaultsAreOfStage 2 IsOfParts
 unfolding IsOfParts
 parts_of_stage_two bag f h = holds_stage bag f f.code h
 

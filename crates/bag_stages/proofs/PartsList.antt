@@ -2,7 +2,7 @@
 use Rattle.bag_stages.proofs.Common.{arith, ◌≡◌, ◌≢◌, inl, inr, ℕ, List, Bool, true, false, Option, None, Some, codes}
 use Rattle.bag_stages.proofs.Common.{refl, sym, ◌∙◌, is_utf8, alg_named, Alg, NoPayloadFolder, NoPayloadManifest}
 use Rattle.bag_stages.proofs.Common.{AlgorithmUnsupported, manifest_name, tag_path, Kind, Payload, TagName, Bag, file}
-use Rattle.bag_stages.proofs.Common.{has_folder, of_path, of_bag, HasList, PartFaultsAreListed, HasManifest}
+use Rattle.bag_stages.proofs.Common.{has_folder, of_path, of_bag, HasList, FaultsAreListed, HasManifest}
 use Rattle.bag_read.specs.declared.tag_name.TagName.TheVariants.{Declaration}
 use Rattle.bag_stages.specs.PartsStage.{IsOfParts}
 use Rattle.bag_stages.proofs.BagLists.{manifests_listed, over_kinds, over_names}
@@ -50,5 +50,5 @@ module _ (bag : Bag) where
       (none_decided (HasManifest bag Payload) (manifests_listed bag Payload)))
       (either _ _ (over_kinds (OfKind bag) kind_listed) (over_names (OfName bag) name_listed)))
 
-pub part_faults_are_listed : PartFaultsAreListed
+pub part_faults_are_listed : FaultsAreListed IsOfParts
 part_faults_are_listed bag = same_set (OfPart bag) (IsOfParts bag) (to_part bag) (from_part bag) (each_listed bag)

@@ -1,7 +1,7 @@
 -- The faults of validity.
 use Rattle.bag_stages.proofs.Common.{arith, ◌≡◌, ◌≢◌, ℕ, List, Some, refl, stage, Alg, Code, PayloadSumDiffers, Kind}
 use Rattle.bag_stages.proofs.Common.{Payload, Tag, ManifestEntry, Bag, file, digest, of_path, Fault, differing_code}
-use Rattle.bag_stages.proofs.Common.{expected_and_found, Differs, IsEntryIn, ValidityFaultsAreOfStageSeven}
+use Rattle.bag_stages.proofs.Common.{expected_and_found, Differs, IsEntryIn, FaultsAreOfStage}
 use Rattle.bag_stages.specs.ValidityStage.{IsOfValidity, ValidityHolds}
 use Rattle.bag_stages.proofs.FaultFields.{made_of}
 
@@ -65,6 +65,6 @@ module _ (bag : Bag) where
   pub entry_of_validity : (f : Fault) → IsOfSomeEntry bag f → IsOfValidity bag f
   entry_of_validity f (kind, (alg, (entry, listed, (content, there, differ, is)))) = grind (arith, fault_holds)
 
-pub validity_of_stage_seven : ValidityFaultsAreOfStageSeven
+pub validity_of_stage_seven : FaultsAreOfStage 7 IsOfValidity
 unfolding IsOfValidity
 validity_of_stage_seven bag f h = holds_stage bag f f.code h

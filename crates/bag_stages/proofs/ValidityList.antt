@@ -1,7 +1,7 @@
 -- Every bag has a list of the faults of its validity.
 use Rattle.bag_stages.proofs.Common.{arith, ◌≡◌, ◌≢◌, ℕ, List, Option, None, Some, refl, sym, ◌∙◌, is_utf8, Alg}
 use Rattle.bag_stages.proofs.Common.{IsEntry, Kind, ManifestEntry, some_entries, Bag, file, digest, rules_in, HasList}
-use Rattle.bag_stages.proofs.Common.{lines_or_none, manifest_of, IsEntryIn, IsOfValidity, ValidityFaultsAreListed}
+use Rattle.bag_stages.proofs.Common.{lines_or_none, manifest_of, IsEntryIn, IsOfValidity, FaultsAreListed}
 use Rattle.bag_stages.proofs.BagLists.{over_algs, over_kinds, other_or_not}
 use Rattle.bag_stages.proofs.HasLists.{nothing, one_where, same_set, for_each}
 use Rattle.bag_stages.proofs.ValidityFaults.{sum_fault, IsOfEntry, IsOfKind, IsOfManifest, IsOfSomeEntry}
@@ -37,6 +37,6 @@ module _ (bag : Bag) where
   of_some_entry : HasList (IsOfSomeEntry bag)
   of_some_entry = over_kinds (IsOfKind bag) (λ kind. over_algs (IsOfManifest bag kind) (of_manifest kind))
 
-pub validity_faults_are_listed : ValidityFaultsAreListed
+pub validity_faults_are_listed : FaultsAreListed IsOfValidity
 validity_faults_are_listed bag =
     same_set (IsOfSomeEntry bag) (IsOfValidity bag) (entry_of_validity bag) (validity_of_entry bag) (of_some_entry bag)

@@ -126,12 +126,7 @@ fn is_some_exact(facts: &Facts) -> bool
     ensures { IfBagRead facts.now (λ bag. IsTrue result
         → (alg : AlgValue) × IsNamedExactly bag alg) }
 {
-    for alg in Alg::ALL {
-        if is_exact(facts, alg) {
-            return true;
-        }
-    }
-    false
+    Alg::ALL.iter().any(|alg| is_exact(facts, *alg))
 }
 
 /// The faults of those of the bag's files that are of the payload, and that no payload manifest

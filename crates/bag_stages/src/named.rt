@@ -15,12 +15,7 @@ pub(crate) fn is_named(facts: &Facts, path: &Text) -> bool
     ensures named { IfBagRead facts.now (λ bag. IsTrue result → IsNamedBySome bag path.now) }
     ensures unnamed { IfBagRead facts.now (λ bag. IsNamedBySome bag path.now → IsTrue result) }
 {
-    for alg in Alg::ALL {
-        if is_named_by(facts, alg, path) {
-            return true;
-        }
-    }
-    false
+    Alg::ALL.iter().any(|alg| is_named_by(facts, *alg, path))
 }
 
 /// Whether the payload manifest of an algorithm names a path.

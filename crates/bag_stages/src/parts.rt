@@ -70,12 +70,7 @@ fn has_payload_manifest(files: &[FileEntry]) -> bool
     ensures listed { IsTrue result → ListsPayloadManifest files.now }
     ensures not_listed { ListsPayloadManifest files.now → IsTrue result }
 {
-    for entry in files {
-        if manifest_alg(Kind::Payload, entry.path.as_str()).is_some() {
-            return true;
-        }
-    }
-    false
+    files.iter().any(|entry| manifest_alg(Kind::Payload, entry.path.as_str()).is_some())
 }
 
 /// The faults of listed files.

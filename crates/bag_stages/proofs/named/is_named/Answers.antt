@@ -1,26 +1,22 @@
-use Rattle.bag_stages.proofs.Common.{◌≡◌, true, false, inl, inr, sym, ◌∙◌, get_or, get_or_default, algs, each_is_listed}
-use Rattle.bag_stages.proofs.Common.{Md5, take_all, taken_cases, contains_nothing}
+use Rattle.std.proofs.Common.{rules, tests}
+use Rattle.std.proofs.lemmas.Bool.{MatchBool-at_true}
+use Rattle.std.proofs.lemmas.Iterator.{YieldsList-from_slice, cases_from_any}
+use Rattle.std.proofs.lemmas.Iterator.Search.{true_from_Any}
+use Rattle.std.specs.List.{slice_index_or}
+use Rattle.bag_stages.proofs.Common.{Alg, Md5, Payload, Names, algs, each_is_listed}
 use Rattle.bag_stages.proofs.named.is_named.Goals as goal
 
-pub loop-alg-init : goal.loop-alg-init
-loop-alg-init c = λ bag facts deep alg none. absurd (contains_nothing alg none)
-
-pub loop-alg-preserved : goal.loop-alg-preserved
-loop-alg-preserved c = λ bag facts deep alg seen named.
-    let i = c.loop-alg.alg-index in
-    let next = get_or algs i Md5 in
-    elim (taken_cases algs i next alg c.loop-alg-test.true (sym (get_or_default algs i next Md5 c.loop-alg-test.true))
-    seen) [
-      | inl a ↦ c.loop-alg.invariant bag facts deep alg a named
-      | inr same ↦ (let clash : false ≡ true = sym c.if-is_named_by.false
-          ∙ (c.is_named_by.ensures bag facts deep).1 (rw same named) in cc)
-    ]
-
-pub returns-then-is_named_by-clause-named : goal.returns-then-is_named_by-clause-named
-returns-then-is_named_by-clause-named c = λ bag facts deep yes.
-    (get_or algs c.loop-alg.alg-index Md5, (c.is_named_by.ensures bag facts deep).0 c.if-is_named_by.true)
+pub returns-clause-named : goal.returns-clause-named
+returns-clause-named c = λ bag facts deep yes.
+    let P = λ (alg : Alg). Names bag Payload alg c.args.path.now in
+    let found = MatchBool-at_true _ _ yes (cases_from_any _ _ _ P (λ alg. ¬ (P alg)) c.any.ensures.ran
+    (YieldsList-from_slice algs cc) (λ x q k. search (rules, tests)) (λ x q k. search (rules, tests))) in
+    (slice_index_or algs found.0 Md5, found.2 Md5)
 
 pub returns-clause-unnamed : goal.returns-clause-unnamed
 returns-clause-unnamed c = λ bag facts deep some.
-    absurd ((rw (take_all c.loop-alg.alg-index algs c.loop-alg-test.false) at (c.loop-alg.invariant bag facts deep))
-    some.0 (each_is_listed some.0) some.1)
+    let P = λ (alg : Alg). Names bag Payload alg c.args.path.now in
+    true_from_Any P (λ alg. ¬ (P alg)) _ algs (λ alg named unnamed. absurd (unnamed named))
+    (cases_from_any _ _ _ P (λ alg. ¬ (P alg)) c.any.ensures.ran
+    (YieldsList-from_slice algs cc) (λ x q k. search (rules, tests)) (λ x q k. search (rules, tests)))
+    some.0 (each_is_listed some.0) some.1
