@@ -1,36 +1,108 @@
 #!/usr/bin/env bash
-# Makes bags of folders of several modes, with several umasks: `data` has the mode of the folder that was made a bag, as far as the
-# system lets it, and where the system refuses that the bag is made all the same.
+# Makes bags of folders of several modes, owners and groups, with several umasks: `data` has the mode, the owner and the group of the
+# folder that was made a bag, and tag files have its owner and group, as far as the system lets it; who may read the folder may read the
+# bag. Where the system refuses that, the bag is made all the same. A folder that somebody links in the place of the new one keeps its own.
 #
 # usage: tests/modes.sh [PROGRAM]
 #
-# PROGRAM is crates/bagit/out/bagit by default, which `rt run` and `rt ci` leave there. It needs strace.
+# PROGRAM is crates/bagit/out/bagit by default, which `rt run` and `rt ci` leave there. It needs strace. Only root can give owners, and
+# work as several users (by setpriv): without root that is left out, and said.
 set -euo pipefail
 source "$(dirname "$0")/common.sh"
 take_program bagit "${1:-}"
 needs strace
 enter modes
+umask 022
+
+# A folder that is to be made a bag, of a mode, and of an owner and a group if they are given.
+new_folder() {
+    rm -rf folder
+    mkdir folder
+    echo a >folder/file
+    [[ -z ${2:-} ]] || chown -R "$2" folder
+    chmod "$1" folder
+}
+
+# Runs a command as a user with groups, of which the first is the user's own.
+as() {
+    setpriv --reuid "$1" --regid "${2%%,*}" --groups "$2" "${@:3}"
+}
 
 folders=0
 for mode in 755 2770 700 1777; do
     for mask in 022 077 002; do
-        rm -rf folder
-        mkdir folder
-        echo a >folder/file
-        chmod "$mode" folder
+        new_folder "$mode"
         (umask "$mask" && "$program" --md5 folder >output)
         [[ $(<output) == 'folder made' && $(stat -c %a folder/data) == "$mode" && $(stat -c %a folder) == "$mode" ]] ||
             give_up "of mode $mode, with umask $mask: $(<output), and data has mode $(stat -c %a folder/data)"
         folders=$((folders + 1))
     done
 done
+for group in $(id -G); do
+    new_folder 770 ":$group"
+    "$program" --md5 folder >output
+    [[ $(stat -c %g folder/data folder/*.txt | sort -u) == "$group" ]] || give_up "of group $group: $(<output), $(stat -c '%g %n' folder/*)"
+    folders=$((folders + 1))
+done
+echo "data has the folder's mode and group in $folders bags"
 
-# Where the system refuses to give a mode.
-rm -rf folder
-mkdir -m 750 folder
-echo a >folder/file
-strace -qq -o calls -e trace=chmod,fchmod,fchmodat -e inject=chmod,fchmod,fchmodat:error=EPERM "$program" --md5 folder >output
-grep -q INJECTED calls || give_up 'no mode was given'
+# Where the system refuses to give a mode, an owner and a group.
+new_folder 750
+strace -qq -o calls -e trace=fchmod,fchown -e inject=fchmod,fchown:error=EPERM "$program" --md5 folder >output
+for call in fchmod fchown; do
+    grep -q "^$call.*INJECTED" calls || give_up "there was no $call to refuse"
+done
 [[ $(<output) == 'folder made' && $("$program" --validate folder) == 'folder is valid' ]] || give_up "refused a mode: $(<output)"
 
-echo "data has the folder's mode in $folders bags, and a bag is made where it can't be given"
+is_root=no
+if [[ $(id -u) == 0 ]] && chown 1234:2000 . && as 1234 1234,2000 true && chown 0:0 .; then is_root=yes; fi 2>/dev/null
+
+# While the program waits after it made the new folder, a link to another one is put in its place.
+new_folder 750 "$([[ $is_root == no ]] || echo 1234:2000)"
+mkdir -m 711 other
+before=$(stat -c '%a %u:%g' other)
+strace -qq -o calls -e trace=mkdir,mkdirat -e inject=mkdir,mkdirat:delay_exit=2000000 "$program" --md5 folder >output &
+for _ in {1..200}; do
+    [[ ! -d folder/.bagit-new ]] || break
+    sleep 0.05
+done
+rmdir folder/.bagit-new
+ln -s ../other folder/.bagit-new
+status=0
+wait $! || status=$?
+[[ $status == 3 && $(<output) == 'folder not made: '* ]] || give_up "with a link in its place: status $status, $(<output)"
+[[ $(stat -c '%a %u:%g' other) == "$before" && -z $(ls other) && -f folder/file ]] ||
+    give_up "the folder that was linked was $before, and is $(stat -c '%a %u:%g' other)"
+echo "a bag is made where a mode can't be given, and a folder that is linked in the place of data keeps its own"
+
+if [[ $is_root == no ]]; then
+    echo "skipped: owners, and other users, since this isn't root"
+    exit
+fi
+
+# Each line: who makes the bag, with which groups and umask; the folder's owner, group and mode; the owner and the group that `data` and
+# the tag files must have; and who else must be able to read the bag.
+install -m 755 "$program" bagit
+chmod 755 .
+bags=0
+while read -r user groups mask owner mode wanted reader reader_groups; do
+    what="of $owner $mode, made by $user of $groups with umask $mask"
+    new_folder "$mode" "$owner"
+    (umask "$mask" && as "$user" "$groups" ./bagit --md5 folder >output) || give_up "$what: $(<output)"
+    found=$(stat -c %u:%g folder/data folder/*.txt | sort -u)
+    [[ $found == "$wanted" ]] || give_up "$what: not $wanted, but $found"
+    [[ $(stat -c %a folder/data) == "$mode" ]] || give_up "$what: data has mode $(stat -c %a folder/data)"
+    [[ $(stat -c %u:%g folder/data/file) == "$owner" ]] || give_up "$what: the file has another owner"
+    [[ $(as "$reader" "$reader_groups" cat folder/data/file) == a ]] || give_up "$what: $reader can't read a file"
+    [[ $(as "$reader" "$reader_groups" ./bagit --validate folder) == 'folder is valid' ]] || give_up "$what: $reader can't check it"
+    bags=$((bags + 1))
+done <<'END'
+1234 1234,2000 022 1234:2000 770 1234:2000 1235 1235,2000
+1235 1235,2000 002 1234:2000 770 1235:2000 1234 1234,2000
+1235 1235,2000 027 1234:2000 2770 1235:2000 1236 1236,2000
+1235 1235 022 1234:2000 777 1235:1235 1234 1234
+0 0 077 1234:1234 700 1234:1234 1234 1234
+0 0 022 1234:2000 2750 1234:2000 1235 1235,2000
+END
+((bags == 6)) || give_up "only $bags bags of other users"
+echo "data and tag files have the owner and the group that the maker of the bag may give, in $bags bags"

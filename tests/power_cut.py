@@ -29,7 +29,7 @@ from functools import reduce
 
 FOLDER, NEW_FOLDER, PAYLOAD = "d", "d/.bagit-new", "d/data"
 INFO, MANIFEST = "d/bag-info.txt", "d/manifest-sha256.txt"
-LOOKS = "access chmod close execve fcntl fstat getdents64 lstat newfstatat read readlink readlinkat stat statx".split()
+LOOKS = "access close execve fchmod fchown fcntl fstat getdents64 lstat newfstatat read readlink readlinkat stat statx".split()
 NAMES = ("mkdir", "create", "rename")
 MADE = ("made",)
 MOST_STATES = 2000

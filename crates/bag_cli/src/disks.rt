@@ -10,6 +10,7 @@ use crate::read_fault::ReadFault;
 use crate::system_file::{open_file, read_within};
 use bag_disk::{SystemDisk, WritableDisk};
 use std::alloc::{AllocError, Global};
+use std::os::fd::AsFd;
 use std::rt::Files;
 
 /// What gives a disk for each base folder, and the bytes of files.
@@ -42,7 +43,10 @@ pub trait Disks {
 }
 
 /// The disks that a runtime of the system reaches, of which nothing is promised.
-impl<R: Files + AllocGlobal + Clone + Drop> Disks for R {
+impl<R: Files + AllocGlobal + Clone + Drop> Disks for R
+where
+    R::File: AsFd,
+{
     type Disk = SystemDisk<R>;
 
     ghost below = { λ _ _. system_state [] false 0 };

@@ -11,12 +11,14 @@ use crate::system_fault::answer_of;
 use bag_text::Text;
 use bag_tree::Heard;
 use std::alloc::{AllocError, Global};
-use std::fs;
 use std::fs::{DirEntry, Metadata, OpenFile, OpenOptions, ReadDir};
+use std::os::fd::AsFd;
+use std::os::unix::fs::{MetadataExt, fchown};
 use std::rt::Files;
+use std::{fs, io};
 
 /// A base folder of the system. Each call takes a path below it, and is one call of the system's
-/// where that path stands.
+/// where that path stands; what was made is then given the base folder's owner and group.
 #[derive(Drop)]
 pub(crate) struct BaseFolder {
     alloc: Global,
@@ -96,20 +98,21 @@ impl BaseFolder {
         answer_of(fs::open(rt, location.as_str()))
     }
 
-    /// Makes a folder at a path, with the base folder's mode as far as the system lets it.
-    pub(crate) fn make_folder<R: Files>(&self, rt: &R, path: &str) -> Result<(), DiskFault> {
+    /// Makes a folder at a path, with the base folder's owner, group and mode as far as the system
+    /// lets it: no byte depends on them.
+    pub(crate) fn make_folder<R: Files>(&self, rt: &R, path: &str) -> Result<(), DiskFault>
+    where
+        R::File: AsFd,
+    {
         let location = self.location(path)?;
         answer_of(fs::create_dir(rt, location.as_str()))?;
-        self.give_mode(rt, location.as_str());
-        Ok(())
-    }
-
-    /// Gives a folder the base folder's mode. Where the system refuses, it keeps its own: no byte
-    /// depends on it.
-    fn give_mode<R: Files>(&self, rt: &R, location: &str) {
-        if let Ok(metadata) = fs::metadata(rt, self.path.as_str()) {
-            let _ = fs::set_permissions(rt, location, metadata.permissions());
+        if let Ok(folder) = open_itself(rt, location.as_str()) {
+            if let Ok(base) = fs::metadata(rt, self.path.as_str()) {
+                give_owner(&folder, &base);
+                let _ = folder.set_permissions(base.permissions());
+            }
         }
+        Ok(())
     }
 
     /// Moves what stands at one path to another.
@@ -119,15 +122,23 @@ impl BaseFolder {
         answer_of(fs::rename(rt, from.as_str(), to.as_str()))
     }
 
-    /// Makes a file at a path, open for writing. It replaces none.
-    pub(crate) fn create<R: Files>(&self, rt: &R, path: &str) -> Result<R::File, DiskFault> {
+    /// Makes a file at a path, open for writing, with the base folder's owner and group as far as
+    /// the system lets it. It replaces none.
+    pub(crate) fn create<R: Files>(&self, rt: &R, path: &str) -> Result<R::File, DiskFault>
+    where
+        R::File: AsFd,
+    {
         let location = self.location(path)?;
-        answer_of(
+        let file = answer_of(
             OpenOptions::new()
                 .write(true)
                 .create_new(true)
                 .open(rt, location.as_str()),
-        )
+        )?;
+        if let Ok(base) = fs::metadata(rt, self.path.as_str()) {
+            give_owner(&file, &base);
+        }
+        Ok(file)
     }
 
     /// Syncs a folder, so that the names in it are durable.
@@ -156,6 +167,26 @@ impl BaseFolder {
             return Err(DiskFault::NotFound);
         }
         Ok(location_below(self.alloc, self.path.as_str(), path)?)
+    }
+}
+
+/// Gives what is open this owner and group, or where the system refuses the owner, the group alone:
+/// a member of a group may give that.
+fn give_owner<F: AsFd>(opened: &F, base: &Metadata) {
+    let group = Some(base.gid());
+    if fchown(opened, Some(base.uid()), group).is_err() {
+        let _ = fchown(opened, None, group);
+    }
+}
+
+/// Opens the folder where this is for the system, and none that a link leads to.
+fn open_itself<R: Files>(rt: &R, location: &str) -> io::Result<R::File> {
+    let folder = fs::open(rt, location)?;
+    let (opened, there) = (folder.metadata()?, fs::symlink_metadata(rt, location)?);
+    if there.is_dir() && (opened.dev(), opened.ino()) == (there.dev(), there.ino()) {
+        Ok(folder)
+    } else {
+        Err(io::Error::from(io::ErrorKind::NotADirectory))
     }
 }
 

@@ -17,6 +17,7 @@ use bag_text::{Items, Text};
 use std::alloc::{AllocError, Global};
 use std::fs::{DirEntry, OpenFile, ReadDir};
 use std::io::{Read, Write};
+use std::os::fd::AsFd;
 use std::rt::Files;
 
 /// The system's calls, below a base folder, of which nothing is promised. The base folder may be a
@@ -155,7 +156,10 @@ impl<R: Files + AllocGlobal + Clone + Drop> Disk for SystemDisk<R> {
     ghost is_disk = { λ _. empty_disk };
 }
 
-impl<R: Files + AllocGlobal + Clone + Drop> WritableDisk for SystemDisk<R> {
+impl<R: Files + AllocGlobal + Clone + Drop> WritableDisk for SystemDisk<R>
+where
+    R::File: AsFd,
+{
     ghost written = { λ disk. written_state (is_some disk.written) };
 
     fn make_folder(&mut self, path: &str) -> Result<(), DiskFault> {
