@@ -29,6 +29,11 @@ use std::alloc::Global;
 /// moment leaves each file of the folder whole: at its path, or at that path in `.bagit-new` or in
 /// `data`, be it answered Ok or not. After Ok a power cut leaves the bag that was made and nothing
 /// else. Both hold where the folder was durable when the call began.
+///
+/// ```
+/// let algs = AlgSet::empty().with(Alg::Sha256).with(Alg::Sha512);
+/// let (tree, made) = make(alloc, tree, algs, &[(label, value)]);
+/// ```
 pub fn make<T: WriteTree>(
     alloc: Global,
     tree: T,

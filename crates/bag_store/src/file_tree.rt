@@ -210,6 +210,11 @@ impl<R: Files + AllocGlobal + Clone + Drop> FileTree<SystemDisk<R>> {
     ghost use Rattle.bag_store.specs.FileTreeCalls.{disk_of};
 
     /// The tree below a base folder of the system's disk, at which it doesn't look yet.
+    ///
+    /// ```
+    /// let tree = FileTree::at(rt.clone()?, alloc, "deposit")?;
+    /// let (tree, outcome) = run(alloc, tree, None, request, &mut out);
+    /// ```
     pub fn at(rt: R, alloc: Global, base: &str) -> Result<FileTree<SystemDisk<R>>, AllocError>
         ensures base { IfOk result (λ tree. base_of (disk_of tree) ≡ base.now) }
         ensures state { IfOk result (λ tree.
