@@ -36,6 +36,8 @@ pub enum Mistake {
     Row,
     /// There is no folder to put something into, or it can't stand there.
     Place,
+    /// A file has no answer that is compared, or there is no file.
+    Nothing,
 }
 
 impl Mistake {
@@ -57,6 +59,7 @@ impl Mistake {
             Mistake::Command => "no command is written so",
             Mistake::Row => "a row has a reader, and two sides with => between them",
             Mistake::Place => "this can't stand here",
+            Mistake::Nothing => "nothing is compared",
         }
     }
 

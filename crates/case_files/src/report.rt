@@ -75,12 +75,11 @@ impl Report {
         }
     }
 
-    /// Adds the counts, in a line.
-    pub fn close(&mut self) {
-        let text = &mut self.text;
-        text.show(&self.cases, " cases, ");
-        text.show(&self.answers, " answers, ");
-        text.show(&self.differ, " differ\n");
+    /// Adds the counts to bytes, in a line.
+    pub fn put_counts(&self, bytes: &mut Bytes) {
+        bytes.show(&self.cases, " cases, ");
+        bytes.show(&self.answers, " answers, ");
+        bytes.show(&self.differ, " differ\n");
     }
 }
 

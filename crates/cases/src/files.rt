@@ -22,11 +22,14 @@ struct Followed;
 /// No other file is run.
 struct Refused;
 
-/// Follows files one after another, up to what can't be followed. Gives what differs with the
-/// counts at the end, or why a file can't be followed, and the exit status.
+/// Follows files one after another, up to what can't be followed. Gives what differs, or that
+/// nothing does, and the counts beside it; or why a file can't be followed; and the exit status.
 pub(crate) fn run_files(rt: &HostRuntime, files: &[String]) -> Answer {
     let mut report = Report::new(rt.alloc());
     let mut at = Place { file: "", line: 0 };
+    if files.is_empty() {
+        report.text.fail(Mistake::Nothing);
+    }
     for file in files {
         if report.text.mistake.is_none() {
             at.file = file.as_str();
@@ -41,7 +44,10 @@ fn answer_of(alloc: Global, mut report: Report, at: Place<'_>) -> Answer {
     let mut told = Bytes::new(alloc);
     let status = match report.text.mistake {
         None => {
-            report.close();
+            report.put_counts(&mut told);
+            if report.differ == 0 {
+                report.text.put("every answer is as wanted\n");
+            }
             u8::from(report.differ != 0)
         }
         Some(mistake) => {
@@ -59,7 +65,7 @@ fn answer_of(alloc: Global, mut report: Report, at: Place<'_>) -> Answer {
     }
 }
 
-/// Follows the entries of a file. Notes the line of each.
+/// Follows the entries of a file, of which one at least has an answer. Notes the line of each.
 fn follow_file<O: Others>(
     rt: &HostRuntime,
     others: &O,
@@ -68,12 +74,16 @@ fn follow_file<O: Others>(
     report: &mut Report,
 ) {
     *line = 0;
+    let before = report.answers;
     match fs::read_to_string(rt, file) {
         Ok(text) => match lines_of(rt.alloc(), text.as_str()) {
             Ok(lines) => follow_lines(rt, others, file, &lines, line, report),
             Err(_) => report.text.fail(Mistake::Memory),
         },
         Err(error) => report.text.fail(Mistake::of(&error)),
+    }
+    if report.answers == before {
+        report.text.fail(Mistake::Nothing);
     }
 }
 

@@ -1,5 +1,5 @@
 //! The worked rows: each argument is a file of cases, in the form that docs/CASES.md says. What
-//! differs is printed, and at last how much was compared.
+//! differs is printed, or that nothing does; how much was compared, on the error output.
 #![tactic(auto)]
 
 mod answers;
