@@ -8,6 +8,7 @@ pub mod Laws
 pub mod LineFields
 pub mod LineOf
 pub mod Options
+pub mod Part
 pub mod Stops
 pub mod TagFacts
 pub mod TagReader
