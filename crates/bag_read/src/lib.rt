@@ -40,5 +40,5 @@ pub use kind::Kind;
 pub use line_fault::{LineFault, Parsed};
 pub use manifest::{ManifestEntry, read_manifest, read_manifest_among};
 pub use manifest_name::manifest_alg;
-pub use oxum::{Oxum, oxum_of};
+pub use oxum::{Oxum, number_of, oxum_of};
 pub use tag_name::TagName;

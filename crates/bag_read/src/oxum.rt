@@ -29,8 +29,9 @@ pub fn oxum_of(value: &str) -> Option<Oxum>
     }
 }
 
-/// The number that a text writes in ASCII digits alone.
-fn number_of(text: &str) -> Option<u64>
+/// The number that a text writes in ASCII digits alone, where it is below 2 to the 64. Leading zeros
+/// are read; a sign or a blank is not.
+pub fn number_of(text: &str) -> Option<u64>
     ensures { result ≡ parts.number_of text.now }
 {
     if !is_digits(text) {
