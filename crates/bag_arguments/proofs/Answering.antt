@@ -1,15 +1,20 @@
 -- How the answers of the parts make the answer of the whole.
-use Rattle.bag_arguments.proofs.Common.{arith, ◌≡◌, ◌≢◌, Bool, List, [], Option, Some, None, Result, Err, is_some}
+use Rattle.bag_arguments.proofs.Common.{arith, ◌≡◌, ◌≢◌, ◌⊎◌, ◌∙◌, inl, inr, ap, subst, sym, codes, Bool, List, []}
+use Rattle.bag_arguments.proofs.Common.{Option, Some, None, Result, Err, is_some}
 use Rattle.bag_arguments.proofs.Common.{option_map, if◌then◌else◌, HasKind, Row, Text, kind_of, OutOfMemory}
 use Rattle.bag_arguments.proofs.Common.{has_after_several, has_two_depths, out_of_place, refusals, matches_of_words}
 use Rattle.clap.specs.declared.error.Error.{Error}
 use Rattle.bag_arguments.proofs.OneKind.{refusals_one}
-use Rattle.bag_arguments.specs.Plan.{Declines, IsNotRefused, IsPlanned, Plans, misuse}
+use Rattle.bag_arguments.specs.Given.{depth, value}
+use Rattle.bag_facts.specs.declared.fault.Fault.{Fault}
+use Rattle.bag_facts.specs.declared.options.Depth.{Depth}
+use Rattle.bag_arguments.specs.Plan.{Declines, IsCursor, IsNotRefused, IsPlanned, Plans, misuse, part_misuse}
+use Rattle.bag_arguments.specs.Plan.{part_misuse_at}
 use Rattle.bag_arguments.specs.declared.check_option.CheckOption.{CheckOption}
 use Rattle.bag_arguments.specs.declared.plan.Plan.{Plan}
 use Rattle.bag_arguments.specs.declared.usage.Usage.{Usage}
 use Rattle.bag_arguments.specs.declared.usage.Usage.TheVariants.{Refused, NeedsValidate, TwoDepths, AfterSeveral}
-use Rattle.bag_arguments.specs.declared.usage.Usage.TheVariants.{AfterNotALine, Memory}
+use Rattle.bag_arguments.specs.declared.usage.Usage.TheVariants.{AfterNotALine, Memory, NotAPart, PartOfDepth}
 
 not_other : (usage : Usage) (o : Option CheckOption) (b c : Bool) → ((x : CheckOption) → NeedsValidate x ≢ usage)
     → TwoDepths ≢ usage → AfterSeveral ≢ usage
@@ -25,8 +30,39 @@ misuse_answered rows (Refused text) e =
 misuse_answered rows AfterNotALine e =
     absurd (not_other AfterNotALine (out_of_place rows) (has_two_depths rows) (has_after_several rows) (λ x e. cc)
     (λ e. cc) (λ e. cc) e)
+misuse_answered rows PartOfDepth e =
+    absurd (not_other PartOfDepth (out_of_place rows) (has_two_depths rows) (has_after_several rows) (λ x e. cc)
+    (λ e. cc) (λ e. cc) e)
+misuse_answered rows NotAPart e =
+    absurd (not_other NotAPart (out_of_place rows) (has_two_depths rows) (has_after_several rows) (λ x e. cc)
+    (λ e. cc) (λ e. cc) e)
 misuse_answered rows Memory e = tt
 misuse_answered rows usage e = e
+
+-- a part is wrong in one of two ways
+wrong_part : (depth : Depth) (text : Option Text) (usage : Usage) → part_misuse_at depth text ≡ Some usage
+    → (usage ≡ PartOfDepth) ⊎ (usage ≡ NotAPart)
+wrong_part depth text usage e = grind arith
+
+module _ (rows : List Row) (usage : Usage) (after : Option Fault) (no_other : misuse rows ≡ None)
+    (cursor : IsCursor (value rows (codes "after")) after) (wrong : part_misuse rows ≡ Some usage) where
+  as_wrong : (usage ≡ PartOfDepth) ⊎ (usage ≡ NotAPart) → Plans rows (Err usage)
+  as_wrong (inl is) = subst (λ u. Plans rows (Err u)) (sym is) (record {
+    no_other = no_other;
+    after = after;
+    cursor = cursor;
+    misuse_is = wrong ∙ ap Some is;
+  })
+  as_wrong (inr is) = subst (λ u. Plans rows (Err u)) (sym is) (record {
+    no_other = no_other;
+    after = after;
+    cursor = cursor;
+    misuse_is = wrong ∙ ap Some is;
+  })
+
+  -- what is wrong with the part alone is the answer
+  pub part_answered : Plans rows (Err usage)
+  part_answered = as_wrong (wrong_part (depth rows) (value rows (codes "part")) usage wrong)
 
 -- the words are taken
 pub taken_answered : (words : List Text) (rows : List Row) (result : Result Plan Usage) → words ≢ []

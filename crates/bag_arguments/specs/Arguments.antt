@@ -44,6 +44,7 @@ check_arguments =
     ∷ option_rule (codes "after")
     ∷ number_rule (codes "max-faults")
     ∷ flag_rule (codes "clashes")
+    ∷ option_rule (codes "part")
     ∷ []
 
 -- those of the algorithms

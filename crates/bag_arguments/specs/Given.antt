@@ -1,13 +1,17 @@
 -- What is given on the command line, by the matches of the words.
 use Rattle.std.specs.Prelude.{ℕ, ◌≡◌, ◌≤◌, Bool, ◌&&◌, ◌||◌, List, [], ◌∷◌, Option, Some, None}
 use Rattle.std.specs.Prelude.{option_map, is_some, unwrap_or, if◌then◌else◌, bytes_eq, codes}
-use Rattle.std.specs.Prelude.{filter, filter_map, find, length, nat_lt}
+use Rattle.std.specs.Prelude.{◌==◌, suc, filter, filter_map, find, length, nat_lt}
+use Rattle.std.specs.List.{after_first, before_first}
+use Rattle.std.specs.Str.{byte}
 use Rattle.std.specs.Str.Parse.{digits_value, without_leading_plus}
 use Rattle.clap.specs.Words.{Row, Text, all_of, first_of, one_of}
 use Rattle.bag_text.specs.Text.{trim}
 use Rattle.bag_text.specs.Alg.{algs, name}
 use Rattle.bag_text.specs.declared.alg.Alg.{Alg}
 use Rattle.bag_text.specs.declared.alg.Alg.TheVariants.{Sha256, Sha512}
+use Rattle.bag_read.specs.LineParts.{number_of}
+use Rattle.bag_facts.specs.Part.{Part, part_at}
 use Rattle.bag_facts.specs.declared.options.Depth.{Depth}
 use Rattle.bag_facts.specs.declared.options.Depth.TheVariants.{Declaration, Fast, Complete, Full}
 use Rattle.bag_arguments.specs.Labels.{all_labels, label_name, label_option}
@@ -40,7 +44,7 @@ directories rows = values rows (codes "directory")
 abbrev pub check_options : List CheckOption
 check_options =
     check.DeclarationOnly ∷ check.Fast ∷ check.CompletenessOnly
-    ∷ check.Profile ∷ check.After ∷ check.MaxFaults ∷ check.Clashes ∷ []
+    ∷ check.Profile ∷ check.After ∷ check.MaxFaults ∷ check.Clashes ∷ check.Part ∷ []
 
 -- the name of its argument
 abbrev pub check_id : CheckOption → Text
@@ -51,11 +55,13 @@ check_id check.Profile = codes "profile"
 check_id check.After = codes "after"
 check_id check.MaxFaults = codes "max-faults"
 check_id check.Clashes = codes "clashes"
+check_id check.Part = codes "part"
 
 abbrev pub has_check_option : List Row → CheckOption → Bool
 has_check_option rows check.Profile = is_some (value rows (codes "profile"))
 has_check_option rows check.After = is_some (value rows (codes "after"))
 has_check_option rows check.MaxFaults = is_some (value rows (codes "max-faults"))
+has_check_option rows check.Part = is_some (value rows (codes "part"))
 has_check_option rows option = is_given rows (check_id option)
 
 -- the first that stands without --validate
@@ -88,6 +94,29 @@ abbrev pub IsLimit : Option Text → Option ℕ → Type 0
 IsLimit None limit = limit ≡ None
 IsLimit (Some text) None = ⊥
 IsLimit (Some text) (Some n) = (1 ≤ n) × (n ≡ digits_value 10 (without_leading_plus text))
+
+-- ---- the part
+
+abbrev pub is_slash : ℕ → Bool
+is_slash c = c == byte "/"
+
+-- the part of these numbers, of which the first counts from 1
+abbrev pub part_at_number : Option ℕ → Option ℕ → Option Part
+part_at_number (Some (suc number)) (Some of) = part_at number of
+part_at_number number of = None
+
+-- `K/N`, each of them ASCII digits: the part K of N
+abbrev pub part_of : Text → Option Part
+part_of text =
+    part_at_number (number_of (before_first is_slash text)) (number_of (after_first is_slash text))
+
+-- the part that is given
+abbrev pub part_of_value : Option Text → Option Part
+part_of_value None = None
+part_of_value (Some text) = part_of text
+
+abbrev pub part_given : List Row → Option Part
+part_given rows = part_of_value (value rows (codes "part"))
 
 -- ---- making
 

@@ -6,10 +6,12 @@ use Rattle.clap.specs.declared.error.kind.ErrorKind.{ErrorKind}
 use Rattle.clap.specs.declared.error.kind.ErrorKind.TheVariants.{DisplayHelp}
 use Rattle.bag_facts.specs.LineOf.{IsLineOf}
 use Rattle.bag_facts.specs.declared.fault.Fault.{Fault}
-use Rattle.bag_facts.specs.declared.options.Depth.TheVariants.{Declaration}
+use Rattle.bag_facts.specs.declared.options.Depth.{Depth}
+use Rattle.bag_facts.specs.declared.options.Depth.TheVariants.{Declaration, Full}
 use Rattle.bag_arguments.specs.Given.{validates, directories, depth, is_given, value, IsLimit}
 use Rattle.bag_arguments.specs.Given.{named_algs, or_default, info}
 use Rattle.bag_arguments.specs.Given.{out_of_place, has_two_depths, has_after_several}
+use Rattle.bag_arguments.specs.Given.{part_given, part_of}
 use Rattle.bag_arguments.specs.Words.{refusals, matches_of_words}
 use Rattle.bag_arguments.specs.declared.plan.Action.{Action}
 use Rattle.bag_arguments.specs.declared.plan.Action.TheVariants.{Sample, Help, Check, Make}
@@ -18,6 +20,7 @@ use Rattle.bag_arguments.specs.declared.usage.Usage.{Usage}
 use Rattle.bag_arguments.specs.declared.usage.Usage.TheVariants.{Refused, Memory}
 use Rattle.bag_arguments.specs.declared.usage.Usage.TheVariants.{NeedsValidate, TwoDepths}
 use Rattle.bag_arguments.specs.declared.usage.Usage.TheVariants.{AfterSeveral, AfterNotALine}
+use Rattle.bag_arguments.specs.declared.usage.Usage.TheVariants.{PartOfDepth, NotAPart}
 
 -- a cursor is given by its line
 abbrev pub IsCursor : Option Text → Option Fault → Type 0
@@ -44,6 +47,22 @@ misuse rows =
     else (if has_after_several rows then Some AfterSeveral
     else None))
 
+-- what is wrong with the part that is given, at this depth
+abbrev pub part_misuse_at : Depth → Option Text → Option Usage
+part_misuse_at depth None = None
+part_misuse_at Full (Some text) = if is_some (part_of text) then None else Some NotAPart
+part_misuse_at depth (Some text) = Some PartOfDepth
+
+abbrev pub part_misuse : List Row → Option Usage
+part_misuse rows = part_misuse_at (depth rows) (value rows (codes "part"))
+
+-- the part alone is wrong in what is given
+pub record IsPartMisused (rows : List Row) (usage : Usage) : Type 0 where
+  pub no_other : misuse rows ≡ None
+  pub after : Option Fault
+  pub cursor : IsCursor (value rows (codes "after")) after
+  pub misuse_is : part_misuse rows ≡ Some usage
+
 -- what is asked for
 pub record IsPlanOf (rows : List Row) (plan : Plan) : Type 0 where
   pub action_is : plan.action ≡ (if validates rows then Check else Make)
@@ -53,16 +72,19 @@ pub record IsPlanOf (rows : List Row) (plan : Plan) : Type 0 where
   pub profile_is : plan.profile ≡ value rows (codes "profile")
   pub after_is : IsCursor (value rows (codes "after")) plan.after
   pub limit_is : IsLimit (value rows (codes "max-faults")) plan.limit
+  pub part_is : plan.part ≡ part_given rows
   pub quiet_is : plan.quiet ≡ is_given rows (codes "quiet")
   pub algs_are : plan.algs ≡ or_default (named_algs rows)
   pub info_is : plan.info ≡ info rows
 
 -- the plan of what is given, or the first thing that is wrong with it
 abbrev pub Plans : List Row → Result Plan Usage → Type 0
-Plans rows (Ok plan) = (misuse rows ≡ None) × IsPlanOf rows plan
+Plans rows (Ok plan) = (misuse rows ≡ None) × (part_misuse rows ≡ None) × IsPlanOf rows plan
 Plans rows (Err Memory) = ⊤
 Plans rows (Err (Refused text)) = ⊥
 Plans rows (Err AfterNotALine) = (misuse rows ≡ None) × IsNoCursor (value rows (codes "after"))
+Plans rows (Err PartOfDepth) = IsPartMisused rows PartOfDepth
+Plans rows (Err NotAPart) = IsPartMisused rows NotAPart
 Plans rows (Err usage) = misuse rows ≡ Some usage
 
 -- a plan that does nothing with folders
@@ -74,6 +96,7 @@ plan_without_words action = record {
   profile = None;
   after = None;
   limit = None;
+  part = None;
   quiet = false;
   algs = [];
   info = [];
@@ -110,4 +133,6 @@ usage_status (NeedsValidate option) = 2
 usage_status TwoDepths = 2
 usage_status AfterSeveral = 2
 usage_status AfterNotALine = 2
+usage_status PartOfDepth = 2
+usage_status NotAPart = 2
 usage_status Memory = 3

@@ -15,10 +15,11 @@ pub enum CheckOption {
     After,
     MaxFaults,
     Clashes,
+    Part,
 }
 
 /// All of them, in the order in which they are looked at.
-pub(crate) const CHECK_OPTIONS: [CheckOption; 7] = [
+pub(crate) const CHECK_OPTIONS: [CheckOption; 8] = [
     CheckOption::DeclarationOnly,
     CheckOption::Fast,
     CheckOption::CompletenessOnly,
@@ -26,6 +27,7 @@ pub(crate) const CHECK_OPTIONS: [CheckOption; 7] = [
     CheckOption::After,
     CheckOption::MaxFaults,
     CheckOption::Clashes,
+    CheckOption::Part,
 ];
 
 impl CheckOption {
@@ -41,6 +43,7 @@ impl CheckOption {
             CheckOption::After => "--after",
             CheckOption::MaxFaults => "--max-faults",
             CheckOption::Clashes => "--clashes",
+            CheckOption::Part => "--part",
         }
     }
 
@@ -56,6 +59,7 @@ impl CheckOption {
             CheckOption::After => "after",
             CheckOption::MaxFaults => "max-faults",
             CheckOption::Clashes => "clashes",
+            CheckOption::Part => "part",
         }
     }
 }

@@ -87,6 +87,12 @@ fn with_check_arguments<'a>(alloc: Global, command: Command<'a>) -> Result<Comma
             alloc,
             "clashes",
             "Names that differ only in their normal form are faults",
+        ))?
+        .arg(option(
+            alloc,
+            "part",
+            "PART",
+            "Check part K of N alone, given as K/N: one process a part, for one DIRECTORY",
         ))
 }
 

@@ -9,7 +9,8 @@ ghost use Rattle.bag_text.specs.AlgList.{with_member};
 
 use crate::check_option::CHECK_OPTIONS;
 use crate::{CheckOption, InfoItem, Label};
-use bag_facts::Depth;
+use bag_facts::{Depth, Part};
+use bag_read::number_of;
 use bag_text::{Alg, AlgSet, Items, Text, trim};
 use clap::ArgMatches;
 use std::alloc::{AllocError, Global};
@@ -81,9 +82,8 @@ fn has_check_option(matches: &ArgMatches<'_>, option: CheckOption) -> bool
     ensures { result ≡ spec.has_check_option (rows.rows_in matches.now) option }
 {
     match option {
-        CheckOption::Profile | CheckOption::After | CheckOption::MaxFaults => {
-            value(matches, option.id()).is_some()
-        }
+        CheckOption::Profile | CheckOption::After | CheckOption::MaxFaults | CheckOption::Part =>
+            value(matches, option.id()).is_some(),
         _ => is_given(matches, option.id()),
     }
 }
@@ -147,6 +147,19 @@ pub(crate) fn limit(matches: &ArgMatches<'_>) -> Option<u64>
     ensures { spec.IsLimit (spec.value (rows.rows_in matches.now) (codes "max-faults")) result }
 {
     value(matches, "max-faults")?.parse::<u64>().ok()
+}
+
+/// The part that a text names: `K/N` in ASCII digits is the part K, counted from 1, of N.
+pub(crate) fn part_of(text: &str) -> Option<Part>
+    ensures { result ≡ spec.part_of text.now }
+{
+    let Some((number, of)) = text.split_once('/') else {
+        return None;
+    };
+    match (number_of(number), number_of(of)) {
+        (None, _) | (_, None) | (Some(0), _) => None,
+        (Some(number), Some(of)) => Part::new(number - 1, of),
+    }
 }
 
 /// The set with an algorithm more where its option is given.

@@ -18,6 +18,7 @@ mod help;
 mod label;
 mod plan;
 mod planning;
+pub mod said;
 mod usage;
 
 pub use check_option::CheckOption;

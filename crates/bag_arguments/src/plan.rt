@@ -1,5 +1,5 @@
 //! What the words of a command line ask for.
-use bag_facts::{Fault, Options};
+use bag_facts::{Fault, Options, Part};
 use bag_text::{AlgSet, Items, Text};
 
 /// What is to be done.
@@ -35,6 +35,8 @@ pub struct Plan {
     pub after: Option<Fault>,
     /// How many faults are written at most, for each folder.
     pub limit: Option<u64>,
+    /// The part of each report that is written; the whole one where there is none.
+    pub part: Option<Part>,
     pub quiet: bool,
     /// The algorithms of a bag that is made.
     pub algs: AlgSet,

@@ -1,7 +1,7 @@
 //! The plan of the words.
 ghost use Rattle.std.specs.Prelude.{◌≡◌, IfErr, IfOk, MatchResult, Some, None, codes, true};
 ghost use Rattle.clap.specs.Words.{FailsBy, kind_of};
-ghost use Rattle.bag_arguments.specs.Given.{value as value_of};
+ghost use Rattle.bag_arguments.specs.Given.{part_given, value as value_of};
 ghost use Rattle.bag_arguments.specs.GivenRows.{HasLimit, rows_in};
 ghost use Rattle.bag_arguments.specs.Plan as spec;
 ghost use Rattle.bag_arguments.specs.Plan.{IsNotRefused};
@@ -11,7 +11,7 @@ ghost use Rattle.bag_arguments.specs.Words.{texts_of_words};
 use crate::command::command;
 use crate::label::LABELS;
 use crate::{Action, Plan, Usage, given};
-use bag_facts::{CursorFault, Depth, Fault, Options};
+use bag_facts::{CursorFault, Depth, Fault, Options, Part};
 use bag_text::{AlgSet, Items, Text};
 use clap::error::ErrorKind;
 use clap::{ArgMatches, Error};
@@ -74,6 +74,7 @@ fn plan_without_words(alloc: Global, action: Action) -> Plan
         profile: None,
         after: None,
         limit: None,
+        part: None,
         quiet: false,
         algs: AlgSet::empty(),
         info: Items::new(alloc),
@@ -87,6 +88,7 @@ fn plan_of_matches(alloc: Global, matches: &ArgMatches<'_>) -> Result<Plan, Usag
 {
     refuse_misuse(matches)?;
     let after = cursor(alloc, matches)?;
+    let part = part(matches)?;
     let action = if given::is_given(matches, "validate") {
         Action::Check
     } else {
@@ -102,6 +104,7 @@ fn plan_of_matches(alloc: Global, matches: &ArgMatches<'_>) -> Result<Plan, Usag
         profile: given::text_value(alloc, matches, "profile")?,
         after,
         limit: given::limit(matches),
+        part,
         quiet: given::is_given(matches, "quiet"),
         algs: given::algs(matches),
         info: given::info(alloc, matches, &LABELS)?,
@@ -136,5 +139,24 @@ fn cursor(alloc: Global, matches: &ArgMatches<'_>) -> Result<Option<Fault>, Usag
         Ok(fault) => Ok(Some(fault)),
         Err(CursorFault::NotALine) => Err(Usage::AfterNotALine),
         Err(CursorFault::Memory) => Err(Usage::Memory),
+    }
+}
+
+/// The part that is given, or what is wrong with it.
+fn part(matches: &ArgMatches<'_>) -> Result<Option<Part>, Usage>
+    ensures { MatchResult result
+        (λ part. (spec.part_misuse (rows_in matches.now) ≡ None)
+        × (part ≡ part_given (rows_in matches.now)))
+        (λ usage. spec.part_misuse (rows_in matches.now) ≡ Some usage) }
+{
+    let Some(text) = given::value(matches, "part") else {
+        return Ok(None);
+    };
+    if given::depth(matches) != Depth::Full {
+        return Err(Usage::PartOfDepth);
+    }
+    match given::part_of(text) {
+        Some(part) => Ok(Some(part)),
+        None => Err(Usage::NotAPart),
     }
 }

@@ -4,6 +4,7 @@ ghost use Rattle.bag_arguments.specs.Plan.{usage_status};
 ghost use Rattle.bag_arguments.specs.declared.usage.Usage.TheVariants.{Memory};
 
 use crate::CheckOption;
+use crate::said::{NOT_A_PART, PART_OF_DEPTH};
 use bag_text::{Text, said};
 use std::alloc::{AllocError, AllocFailed};
 use thiserror::Error;
@@ -27,6 +28,13 @@ pub enum Usage {
     /// The cursor is the line of no fault.
     #[error("{program}{why}", program = said::PROGRAM, why = said::AFTER_NOT_A_LINE)]
     AfterNotALine,
+    /// A part is asked for, and a depth that compares no digests.
+    #[error("{program}{why}", program = said::PROGRAM, why = PART_OF_DEPTH)]
+    PartOfDepth,
+    /// What is given as a part isn't one: digits, a slash and digits, the first number from 1 to
+    /// the second, and this one at most 65,536.
+    #[error("{program}{why}", program = said::PROGRAM, why = NOT_A_PART)]
+    NotAPart,
     /// A growth was refused.
     #[error("{program}{why}", program = said::PROGRAM, why = said::OUT_OF_MEMORY)]
     Memory,
@@ -43,7 +51,9 @@ impl Usage {
             | Usage::NeedsValidate(_)
             | Usage::TwoDepths
             | Usage::AfterSeveral
-            | Usage::AfterNotALine => 2,
+            | Usage::AfterNotALine
+            | Usage::PartOfDepth
+            | Usage::NotAPart => 2,
         }
     }
 }

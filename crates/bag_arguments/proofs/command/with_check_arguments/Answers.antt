@@ -10,4 +10,6 @@ returns c =
     let four = added c.in_ok-arg-4.ensures c.option.ensures.global three c.option.ensures.rule in
     let five = added c.in_ok-arg-5.ensures c.option-2.ensures.global four c.option-2.ensures.rule in
     let six = added c.in_ok-arg-6.ensures c.number.ensures.global five c.number.ensures.rule in
-    IfOk-weaker c.arg-7.result _ _ (λ r h. added h c.flag-4.ensures.global six c.flag-4.ensures.rule) c.arg-7.ensures
+    let seven = added c.in_ok-arg-7.ensures c.flag-4.ensures.global six c.flag-4.ensures.rule in
+    IfOk-weaker c.arg-8.result _ _ (λ r h. added h c.option-3.ensures.global seven c.option-3.ensures.rule)
+    c.arg-8.ensures
