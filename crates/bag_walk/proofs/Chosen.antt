@@ -1,19 +1,18 @@
 -- The files whose digests are to be compared, and their faults.
-use Rattle.bag_walk.proofs.Common.{arith, ◌≡◌, ◌≢◌, ◌<◌, ◌+◌, ◌++◌, ◌∷◌, ◌⊎◌, inl, inr, ℕ, true, false, List, []}
+use Rattle.bag_walk.proofs.Common.{arith, ◌≡◌, ◌≢◌, ◌<◌, ◌++◌, ◌∷◌, ◌⊎◌, inl, inr, ℕ, true, false, List, []}
 use Rattle.bag_walk.proofs.Common.{length, map, take, get_or, Option, None, Some, Contains, refl, sym, ap, ◌∙◌, subst}
 use Rattle.bag_walk.proofs.Common.{is_some, nat_cmp_is, Ordering, Less, length-map, map-append, take-map, eqb-true}
 use Rattle.bag_walk.proofs.Common.{ltb-true, stage, IsListOf, text_cmp, contains_behind, contains_cases, contains_first}
 use Rattle.bag_walk.proofs.Common.{contains_front, contains_nothing, joined, member_has, nothing_listed, one_listed}
 use Rattle.bag_walk.proofs.Common.{same_members, Bag, file, HasFile, FileEntry, fault_cmp, Fault, not_both}
-use Rattle.bag_walk.proofs.Common.{fault_cmp_total, IsFactsOf, paths_of, Facts, Depth, Declaration, Full, take_one_more}
-use Rattle.bag_walk.proofs.Common.{before_next, less_by_path, faults_of_bytes, IsNamed, IsSummed, IsFaultOfFile}
+use Rattle.bag_walk.proofs.Common.{fault_cmp_total, paths_of, Depth, Declaration, Full}
+use Rattle.bag_walk.proofs.Common.{before_next, less_by_path, faults_of_bytes, IsNamed, IsFaultOfFile}
 use Rattle.bag_walk.proofs.Common.{IsOfValidity, Expected, validity_of_stage_seven, above, is_above, filtered_list}
 use Rattle.bag_walk.proofs.Common.{AreToSum, IsNamedAhead, HasItsFaults, faults_at, faults_in, faults_of_files}
-use Rattle.bag_walk.proofs.Common.{paths_to_sum, is_passed, AreFilesOf, IsOfBag, ToSum, is_lt, false_from_ne_true}
+use Rattle.bag_walk.proofs.Common.{paths_to_sum, is_passed, ToSum, is_lt, false_from_ne_true}
 use Rattle.bag_walk.proofs.Common.{Contains-push_cases, Contains-push, nil_from_length}
 use Rattle.std.specs.List.Sorted.{IsStrictlySortedBy}
 use Rattle.std.proofs.Math.ListN.{get_or-map}
-use Rattle.bag_facts.proofs.ListedFiles.{file_listed, listed_file, own_size}
 use Rattle.bag_stages.specs.Given.{AreNaming}
 use Rattle.bag_stages.proofs.SummedFiles.{faulty_is_summed, named_some, some_named}
 
@@ -81,15 +80,11 @@ module _ (bag : Bag) (after : Option Fault) where
             [ inl a ↦ so_far.faults t a | inr e ↦ subst (HasItsFaults bag) e tells ];
       }
 
--- the first files of a list, and one more
-module _ (bag : Bag) (after : Option Fault) (files : List FileEntry) (i : ℕ) (file : FileEntry) (chosen : List ToSum)
-    (lt : i < length files) (at : file ≡ get_or files i file)
-    (so_far : AreToSum bag after (take i files) chosen) where
-  more_files : take (i + 1) files ≡ take i files ++ file ∷ []
-  more_files = take_one_more files i file lt at
-
-  behind_all : IsStrictlySortedBy text_cmp (paths_of files) → (path : List ℕ) → Contains (paths_of (take i files)) path
-      → text_cmp path file.path ≡ Less
+-- the first files of a list stand before the next
+module _ (files : List FileEntry) (i : ℕ) (file : FileEntry) (lt : i < length files)
+    (at : file ≡ get_or files i file) where
+  pub behind_all : IsStrictlySortedBy text_cmp (paths_of files) → (path : List ℕ)
+      → Contains (paths_of (take i files)) path → text_cmp path file.path ≡ Less
   behind_all ordered path c =
       let path_of : FileEntry → List ℕ = λ entry. entry.path in
       let within : i < length (paths_of files) = rw (length-map files path_of) lt in
@@ -97,18 +92,6 @@ module _ (bag : Bag) (after : Option Fault) (files : List FileEntry) (i : ℕ) (
       ap path_of at ∙ sym (get_or-map path_of files i file) in
       before_next text_cmp (paths_of files) i file.path path ordered within next
       (subst (λ l. Contains l path) (sym (take-map path_of i files)) c)
-
-  pub one_passed_over : ¬ (IsNamedAhead bag after file.path) → AreToSum bag after (take (i + 1) files) chosen
-  one_passed_over lacks =
-      subst (λ l. AreToSum bag after l chosen) (sym more_files)
-      (passed_over bag after (take i files) file chosen so_far lacks)
-
-  pub one_added : IsStrictlySortedBy text_cmp (paths_of files) → (to_sum : ToSum) → to_sum.file ≡ file
-      → IsNamedAhead bag after file.path → HasItsFaults bag to_sum
-      → AreToSum bag after (take (i + 1) files) (chosen ++ to_sum ∷ [])
-  one_added ordered to_sum is ahead tells =
-      subst (λ l. AreToSum bag after l (chosen ++ to_sum ∷ [])) (sym more_files)
-      (added bag after (take i files) file chosen so_far to_sum is ahead tells (behind_all ordered))
 
 pub full_or_not : (d : Depth) → (d ≡ Full) ⊎ (d ≢ Full)
 full_or_not d = grind arith
@@ -158,7 +141,7 @@ passed_is_less : (cursor f : Fault) → stage f.code ≡ 7 → is_passed (Some c
     → fault_cmp f cursor ≡ Less
 passed_is_less cursor f seven = grind (arith, less_by_stage, stage, ltb-true, less_by_path, eqb-true, less_is)
 
-ahead_of : (bag : Bag) (after : Option Fault) (f : Fault) → IsOfValidity bag f → is_above after f ≡ true
+pub ahead_of : (bag : Bag) (after : Option Fault) (f : Fault) → IsOfValidity bag f → is_above after f ≡ true
     → is_passed after f.path ≡ false
 ahead_of bag after f valid above =
     grind (arith, false_from_ne_true, not_both fault_cmp_total, passed_is_less, validity_of_stage_seven, less_is)
@@ -168,7 +151,7 @@ module _ (bag : Bag) (after : Option Fault) where
   abbrev IsAbove : Fault → Type 0
   IsAbove f = IsOfValidity bag f × (is_above after f ≡ true)
 
-  abbrev Among : List (List ℕ) → Fault → Type 0
+  abbrev pub Among : List (List ℕ) → Fault → Type 0
   Among paths f = Contains paths f.path × IsAbove f
 
   pub listed_faults : (files : List ToSum) → IsStrictlySortedBy text_cmp (paths_to_sum files)
@@ -195,44 +178,3 @@ module _ (bag : Bag) (after : Option Fault) where
       first (listed_faults ts s.1 (λ other c. tell other (contains_behind t ts other c)))
       (λ x y a b. less_by_path x y (validity_of_stage_seven bag x a.0.0 ∙ sym (validity_of_stage_seven bag y b.1.0))
       (rw a.0.1 (member_has _ paths y.path s.0 b.0))))
-
--- of the files of a bag
-module _ (bag : Bag) (after : Option Fault) (facts : Facts) (of : IsFactsOf bag facts) (chosen : List ToSum)
-    (are : AreToSum bag after facts.listing.files chosen) where
-  pub chosen_todo : IsListOf text_cmp (λ path. IsSummed bag path × (is_passed after path ≡ false)) (paths_to_sum chosen)
-  chosen_todo =
-      same_members text_cmp (λ path. Contains (paths_of facts.listing.files) path × IsNamedAhead bag after path)
-      (λ path. IsSummed bag path × (is_passed after path ≡ false)) (paths_to_sum chosen)
-      (λ path h. ((listed_file bag facts.listing.files path of.listing.files h.0, h.1.0), h.1.1))
-      (λ path h. (file_listed bag facts.listing.files path of.listing.files h.0.0, (h.0.1, h.1))) are.paths
-
-  pub chosen_faults : IsListOf fault_cmp (λ f. IsOfValidity bag f × (is_above after f ≡ true))
-      (faults_of_files bag after chosen)
-  chosen_faults =
-      same_members fault_cmp (Among bag after (paths_to_sum chosen))
-      (λ f. IsOfValidity bag f × (is_above after f ≡ true)) (faults_of_files bag after chosen)
-      (λ f h. h.1)
-      (λ f h. ((chosen_todo.members f.path).1 (faulty_is_summed bag f h.0, ahead_of bag after f h.0 h.1), h))
-      (listed_faults bag after chosen are.paths.ascending are.faults)
-
-  pub chosen_of : AreFilesOf bag chosen
-  chosen_of = grind (arith, own_size)
-
-pub none_of : (bag : Bag) (after : Option Fault) → IsOfBag bag after [] []
-unfolding IsStrictlySortedBy
-none_of bag after =
-    record { files = record { in_order = tt; entries = λ to_sum c. absurd (contains_nothing to_sum c) }; ascends = tt }
-
--- of a bag, whatever the depth
-module _ (bag : Bag) (after : Option Fault) (facts : Facts) (of : IsFactsOf bag facts) (chosen : List ToSum)
-    (at_full : facts.options.depth ≡ Full → AreToSum bag after facts.listing.files chosen)
-    (at_other : facts.options.depth ≢ Full → chosen ≡ []) where
-  pub chosen_is_of : IsOfBag bag after chosen []
-  chosen_is_of = elim (full_or_not facts.options.depth) [
-    | inl full ↦ (let are = at_full full in
-        record {
-          files = chosen_of bag after facts of chosen are;
-          ascends = (chosen_faults bag after facts of chosen are).ascending;
-        })
-    | inr other ↦ rw (at_other other) (none_of bag after)
-  ]

@@ -1,11 +1,18 @@
+pub mod Balance
 pub mod Chosen
+pub mod ChosenWithin
 pub mod Closed
 pub mod Common
 pub mod Filling
 pub mod RunLines
 pub mod ListedFiles
 pub mod Merging
+pub mod OneList
 pub mod Openings
+pub mod PartLines
+pub mod PartRuns
+pub mod PartsOfRun
+pub mod Parts
 pub mod Passed
 pub mod Places
 pub mod Positions
@@ -20,6 +27,8 @@ pub mod SegmentSums
 pub mod Shown
 pub mod StageSix
 pub mod Stages
+pub mod StartPart
 pub mod Summing
 pub mod UnitedLists
+pub mod Within
 pub mod Writing

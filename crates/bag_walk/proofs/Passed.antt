@@ -19,12 +19,12 @@ less_on : (x y path : List ℕ) (r : Ordering) → text_cmp x y ≡ Less → tex
 less_on x y path r less is other = grind (arith, nat_list_cmp_total.trans x y path, exact_texts y path)
 
 module _ (f g : Fault) (less : fault_cmp f g ≡ Less) (path : List ℕ) where
-  no_earlier : stage f.code ≤ stage g.code
+  pub no_earlier : stage f.code ≤ stage g.code
   no_earlier =
       elim (cases_lt (stage g.code) (stage f.code))
       [ inl low ↦ absurd (not_both fault_cmp_total f g less (less_by_stage g f low)) | inr le ↦ le ]
 
-  not_above : stage g.code ≡ stage f.code → text_cmp f.path g.path ≢ Greater
+  pub not_above : stage g.code ≡ stage f.code → text_cmp f.path g.path ≢ Greater
   not_above same is =
       not_both fault_cmp_total f g less
       (less_by_path g f same (nat_list_cmp_total.antisymm g.path f.path ∙ ap ordering_reverse is))

@@ -1,5 +1,5 @@
 -- The segment of one limit as a run of its own, and what a chain of segments gains by it.
-use Rattle.bag_walk.proofs.Common.{◌≡◌, ◌≤◌, ◌+◌, ◌-◌, ◌∙◌, ◌∷◌, inl, inr, ℕ, List, Option, length, drop, true, false}
+use Rattle.bag_walk.proofs.Common.{◌≡◌, ◌≤◌, ◌+◌, ◌∙◌, ◌∷◌, inl, inr, ℕ, List, Option, length, drop, true, false}
 use Rattle.bag_walk.proofs.Common.{refl, sym, arith, length-drop, OutState, NothingFailed, TreeState, Keeps, Fault}
 use Rattle.bag_walk.proofs.Common.{Options, Profile, IsLastLine, IsRead, IfUnread, EndsSegment, IsSegment, AreListed}
 use Rattle.bag_walk.proofs.Common.{OpensInSegment, ForReport, ForReportFrom, ContinuesReport, MayStop, Outcome, Chain}

@@ -13,7 +13,7 @@ use Rattle.bag_walk.proofs.SegmentSteps.{above_behind, last_later}
 use Rattle.bag_walk.proofs.Shown.{above_report}
 
 -- a request for the faults above a cursor
-abbrev asking_of : Options → Option Fault → Request
+abbrev pub asking_of : Options → Option Fault → Request
 asking_of options after = record { options = options; after = after; limit = None; quiet = true; name = [] }
 
 module _ {old mid : TreeState}

@@ -1,15 +1,15 @@
 -- The report above a cursor, one source after another.
-use Rattle.bag_walk.proofs.Common.{◌≡◌, ◌≢◌, ◌<◌, ◌≤◌, ◌+◌, ◌++◌, ◌⊎◌, inl, inr, ℕ, List, [], Option, Contains, true}
+use Rattle.bag_walk.proofs.Common.{◌≡◌, ◌<◌, ◌≤◌, ◌+◌, ◌++◌, ◌⊎◌, inl, inr, ℕ, List, [], Option, Contains, true}
 use Rattle.bag_walk.proofs.Common.{false, sym, ◌∙◌, subst, append_assoc, arith, stage, IsListOf, Code, contains_either}
-use Rattle.bag_walk.proofs.Common.{contains_nothing, joined, nothing_listed, same_members, fault_cmp, Fault, reaches}
-use Rattle.bag_walk.proofs.Common.{Full, IsOfValidity, validity_of_stage_seven, Check, above, is_above, IsReported}
-use Rattle.bag_walk.proofs.Common.{IsStageOf, asked_at_full, asked_is_reached, seven_not_reached, filtered_list}
-use Rattle.bag_walk.proofs.Common.{is_of_validity, of_validity, IsStageAbove, NoFaultBefore, AllBelow, AreAheadBefore}
+use Rattle.bag_walk.proofs.Common.{contains_nothing, joined, nothing_listed, same_members, fault_cmp, Fault}
+use Rattle.bag_walk.proofs.Common.{Check, above, is_above, IsReported}
+use Rattle.bag_walk.proofs.Common.{IsStageOf, filtered_list}
+use Rattle.bag_walk.proofs.Common.{IsStageAbove, NoFaultBefore, AllBelow, AreAheadBefore}
 use Rattle.bag_walk.proofs.Common.{IsAhead, IsReportAfter, cases_lt, Bool, true≢false, refl, ap, filter, if◌then◌else◌}
 use Rattle.bag_walk.proofs.Common.{is_payload_path, text_cmp, Payload, Tag, Bag, IsBag, TreeState, IsFactsOf, Facts}
-use Rattle.bag_walk.proofs.Common.{Options, Profile, Names, IsSummed, names_by_kind, IsListedToOpen, IsStarted}
-use Rattle.bag_walk.proofs.Common.{IsToOpen, is_passed, IsTrue}
-use Rattle.bag_walk.proofs.Chosen.{less_by_stage, full_or_not}
+use Rattle.bag_walk.proofs.Common.{Options, Profile, Names, names_by_kind, IsListedToOpen, IsStarted}
+use Rattle.bag_walk.proofs.Common.{IsToOpen, IsTrue}
+use Rattle.bag_walk.proofs.Chosen.{less_by_stage}
 use Rattle.bag_walk.specs.Start.{AreSources}
 use Rattle.bag_walk.specs.declared.source.Source as Source
 
@@ -54,46 +54,42 @@ module _ (check : Check) (after : Option Fault) where
       (joined fault_cmp (IsAheadBefore k) (IsAt k) faults more before at (λ x y less now.
       less_by_stage x y (omega (arith, less.1, now.0.1))))
 
-  pub all_stages : (faults : List Fault) → AreAheadBefore check 9 after faults → IsReportAfter check after faults
-  all_stages faults list = grind (arith, same_members)
+-- what the four sources hold of some faults
+pub record Hold (IsOne : Fault → Type 0) (early complete sums late : List Fault) : Type 0 where
+  pub first : IsListOf fault_cmp (λ f. IsOne f × (stage f.code < 6)) early
+  pub sixth : IsListOf fault_cmp (λ f. IsOne f × (stage f.code ≡ 6)) complete
+  pub seventh : IsListOf fault_cmp (λ f. IsOne f × (stage f.code ≡ 7)) sums
+  pub eighth : IsListOf fault_cmp (λ f. IsOne f × (stage f.code ≡ 8)) late
 
-  -- at depth Full the faults of validity are those of the seventh stage
-  pub seventh_at_full : (faults : List Fault) → check.options.depth ≡ Full
-      → IsListOf fault_cmp (λ f. IsOfValidity check.bag f × (is_above after f ≡ true)) faults
-      → IsStageAbove check 7 after faults
-  seventh_at_full faults full list =
-      same_members fault_cmp (λ f. IsOfValidity check.bag f × (is_above after f ≡ true)) (IsAt 7) faults
-      (λ f h. let at = validity_of_stage_seven check.bag f h.0
-      in (((is_of_validity check.bag check.profile f h.0, asked_at_full check.options f.code full at), at), h.1))
-      (λ f h. (of_validity check.bag check.profile f h.0.0.0 h.0.1, h.1))
-      list
+-- no stage has a number above 8
+to_eight : (c : Code) → stage c < 9
+to_eight c = grind arith
 
-  -- and below it there are none
-  pub seventh_below : check.options.depth ≢ Full → IsStageAbove check 7 after []
-  seventh_below below = nothing_listed fault_cmp (IsAt 7)
-      (λ f h. let reach : reaches check.options.depth 7
-      ≡ true = subst (λ n. reaches check.options.depth n ≡ true) h.0.1
-      (asked_is_reached check.options f.code h.0.0.1) in
-      let clash : true ≡ false = sym reach ∙ seven_not_reached check.options.depth below in cc)
+-- those of one stage more
+next_stage : (IsOne : Fault → Type 0) (k : ℕ) (faults more : List Fault)
+    → IsListOf fault_cmp (λ f. IsOne f × (stage f.code < k)) faults
+    → IsListOf fault_cmp (λ f. IsOne f × (stage f.code ≡ k)) more
+    → IsListOf fault_cmp (λ f. IsOne f × (stage f.code < k + 1)) (faults ++ more)
+next_stage IsOne k faults more before at =
+    same_members fault_cmp (λ f. (IsOne f × (stage f.code < k)) ⊎ (IsOne f × (stage f.code ≡ k)))
+    (λ f. IsOne f × (stage f.code < k + 1)) (faults ++ more)
+    (λ f h. elim h [ inl less ↦ (less.0, omega (arith, less.1)) | inr now ↦ (now.0, omega (arith, now.1)) ])
+    (λ f h. elim (cases_lt (stage f.code) k)
+    [ inl less ↦ inl (h.0, less) | inr past ↦ inr (h.0, omega (arith, past, h.1)) ])
+    (joined fault_cmp (λ f. IsOne f × (stage f.code < k)) (λ f. IsOne f × (stage f.code ≡ k)) faults more before at
+    (λ x y less now. less_by_stage x y (omega (arith, less.1, now.1))))
 
--- what the four sources hold
-pub record Hold (check : Check) (after : Option Fault) (early complete sums late : List Fault) : Type 0 where
-  pub first : AreAheadBefore check 6 after early
-  pub sixth : IsStageAbove check 6 after complete
-  pub seventh : IsStageAbove check 7 after sums
-  pub eighth : IsStageAbove check 8 after late
-
-module _ {check : Check} {after : Option Fault} {early complete sums late : List Fault}
-    (all : Hold check after early complete sums late) where
+module _ {IsOne : Fault → Type 0} {early complete sums late : List Fault}
+    (all : Hold IsOne early complete sums late) where
   from_seven : (f : Fault) → Contains (sums ++ late) f → 7 ≤ stage f.code
   from_seven f c = elim (contains_either sums late f c) [
-    | inl a ↦ omega (arith, ((all.seventh.members f).0 a).0.1)
-    | inr b ↦ omega (arith, ((all.eighth.members f).0 b).0.1)
+    | inl a ↦ omega (arith, ((all.seventh.members f).0 a).1)
+    | inr b ↦ omega (arith, ((all.eighth.members f).0 b).1)
   ]
 
   from_six : (f : Fault) → Contains (complete ++ (sums ++ late)) f → 6 ≤ stage f.code
   from_six f c = elim (contains_either complete (sums ++ late) f c) [
-    | inl a ↦ omega (arith, ((all.sixth.members f).0 a).0.1)
+    | inl a ↦ omega (arith, ((all.sixth.members f).0 a).1)
     | inr b ↦ omega (arith, from_seven f b)
   ]
 
@@ -101,50 +97,29 @@ module _ {check : Check} {after : Option Fault} {early complete sums late : List
   early_below f g c d = less_by_stage f g (omega (arith, ((all.first.members f).0 c).1, from_six g d))
 
   pub complete_below : AllBelow complete (sums ++ late)
-  complete_below f g c d = less_by_stage f g (omega (arith, ((all.sixth.members f).0 c).0.1, from_seven g d))
+  complete_below f g c d = less_by_stage f g (omega (arith, ((all.sixth.members f).0 c).1, from_seven g d))
 
   pub sums_below : AllBelow sums late
   sums_below f g c d =
-      less_by_stage f g (omega (arith, ((all.seventh.members f).0 c).0.1, ((all.eighth.members g).0 d).0.1))
+      less_by_stage f g (omega (arith, ((all.seventh.members f).0 c).1, ((all.eighth.members g).0 d).1))
 
   -- no fault of the last stage stands before a file
   pub late_behind : (paths : List (List ℕ)) → NoFaultBefore late paths
   late_behind paths f path c d before = grind (arith, (all.eighth.members f).0 c)
 
-  -- together they are the report above the cursor
-  pub all_joined : IsReportAfter check after (early ++ (complete ++ (sums ++ late)))
+  -- together they are all of them
+  pub all_joined : IsListOf fault_cmp IsOne (early ++ (complete ++ (sums ++ late)))
   all_joined =
-      let six = one_stage_more check after 6 early complete all.first all.sixth in
-      let seven = one_stage_more check after 7 (early ++ complete) sums six all.seventh in
-      let eight = one_stage_more check after 8 ((early ++ complete) ++ sums) late seven all.eighth in
-      subst (IsReportAfter check after)
+      let six = next_stage IsOne 6 early complete all.first all.sixth in
+      let seven = next_stage IsOne 7 (early ++ complete) sums six all.seventh in
+      let eight = next_stage IsOne 8 ((early ++ complete) ++ sums) late seven all.eighth in
+      subst (IsListOf fault_cmp IsOne)
       (append_assoc (early ++ complete) sums late ∙ append_assoc early complete (sums ++ late))
-      (all_stages check after (((early ++ complete) ++ sums) ++ late) eight)
+      (same_members fault_cmp (λ f. IsOne f × (stage f.code < 9)) IsOne (((early ++ complete) ++ sums) ++ late)
+      (λ f h. h.0) (λ f h. (h, to_eight f.code)) eight)
 
 -- what the sources of a walk hold together
 module _ (check : Check) (after : Option Fault) where
-  -- the faults of files are the seventh stage, at each depth
-  pub seventh : (sums : List Fault)
-      → (check.options.depth ≡ Full
-      → IsListOf fault_cmp (λ f. IsOfValidity check.bag f × (is_above after f ≡ true)) sums)
-      → (check.options.depth ≢ Full → sums ≡ []) → IsStageAbove check 7 after sums
-  seventh sums full none = elim (full_or_not check.options.depth) [
-    | inl e ↦ seventh_at_full check after sums e (full e)
-    | inr below ↦ subst (IsStageAbove check 7 after) (sym (none below)) (seventh_below check after below)
-  ]
-
-  -- and the files that are still to be opened are those that it needs
-  pub to_open : (paths : List (List ℕ))
-      → (check.options.depth ≡ Full
-      → IsListOf text_cmp (λ path. IsSummed check.bag path × (is_passed after path ≡ false)) paths)
-      → (check.options.depth ≢ Full → paths ≡ []) → IsListOf text_cmp (IsToOpen check after) paths
-  to_open paths full none = elim (full_or_not check.options.depth) [
-    | inl e ↦ same_members text_cmp (λ path. IsSummed check.bag path × (is_passed after path ≡ false))
-        (IsToOpen check after) paths (λ path h. (e, h.0, h.1)) (λ path h. (h.1, h.2)) (full e)
-    | inr below ↦ subst (IsListOf text_cmp (IsToOpen check after)) (sym (none below))
-        (nothing_listed text_cmp (IsToOpen check after) (λ path h. absurd (below h.0)))
-  ]
-
   -- of the payload those that payload manifests name
   pub payload_to_open : (paths : List (List ℕ)) → IsListOf text_cmp (IsToOpen check after) paths
       → IsListOf text_cmp (IsListedToOpen check after) (filter is_payload_path paths)
@@ -159,7 +134,7 @@ module _ (check : Check) (after : Option Fault) where
       (filtered_list text_cmp (IsToOpen check after) is_payload_path paths list)
 
 -- an honest tree's bag, or another one
-seen_of : (P : Bag → Type 0) (honest : Bool) (held : Bag) → (IsTrue honest → P held) → ((bag : Bag) × P bag)
+pub seen_of : (P : Bag → Type 0) (honest : Bool) (held : Bag) → (IsTrue honest → P held) → ((bag : Bag) × P bag)
     → (bag : Bag) × (IsTrue honest → bag ≡ held) × P bag
 seen_of P true held of_held other = (held, (λ is. refl), of_held refl)
 seen_of P false held of_held other = (other.0, (λ is. absurd (true≢false (sym is))), other.1)

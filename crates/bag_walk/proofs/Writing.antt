@@ -102,3 +102,13 @@ pub cut_piece : (old mid new : Option (List ℕ)) (text rest piece after : List 
 cut_piece old mid new text rest piece after so_far e cut =
     subst (IsCut old new) (sym (so_far.joins ∙ ap (λ xs. so_far.front ++ xs) e))
     (append-IsCut old mid new so_far.front (piece ++ after) so_far.taken (IsCut-append mid new piece after cut))
+
+-- a text whose first pieces were written by one call, and its rest by another
+pub five_joined : (a b c d e rest : List ℕ)
+    → (a ++ (b ++ (c ++ (d ++ (e ++ []))))) ++ rest ≡ a ++ (b ++ (c ++ (d ++ (e ++ rest))))
+five_joined a b c d e rest =
+    append_assoc a (b ++ (c ++ (d ++ (e ++ [])))) rest
+    ∙ ap (λ l. a ++ l) (append_assoc b (c ++ (d ++ (e ++ []))) rest
+    ∙ ap (λ l. b ++ l) (append_assoc c (d ++ (e ++ [])) rest
+    ∙ ap (λ l. c ++ l) (append_assoc d (e ++ []) rest
+    ∙ ap (λ l. d ++ l) (append_assoc e [] rest))))

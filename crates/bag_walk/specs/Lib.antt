@@ -11,6 +11,8 @@ pub mod Lines
 pub mod Lists
 pub mod Merge
 pub mod Openings
+pub mod Parts
+pub mod PartRuns
 pub mod Pieces
 pub mod Run
 pub mod RunOpenings
@@ -24,6 +26,7 @@ pub mod Shown
 pub mod Source
 pub mod SourceOpenings
 pub mod Start
+pub mod StartPart
 pub mod Steps
 pub mod Stops
 pub mod ToSum

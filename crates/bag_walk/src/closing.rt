@@ -49,7 +49,12 @@ fn verdict(depth: Depth) -> &'static str
     }
 }
 
-fn put_count<W: Out>(name: &str, text: &str, count: u64, out: &mut W) -> Result<(), Refused>
+pub(crate) fn put_count<W: Out>(
+    name: &str,
+    text: &str,
+    count: u64,
+    out: &mut W,
+) -> Result<(), Refused>
     ensures { Writes (W.state out.old) (W.state out.new)
         (spec.about_count name.now text.now count) result }
 {
@@ -57,7 +62,12 @@ fn put_count<W: Out>(name: &str, text: &str, count: u64, out: &mut W) -> Result<
     put_line(name, &[text, digits.format(count), "\n"], out)
 }
 
-fn put_unread<W: Out>(name: &str, stop: &Stop, count: u64, out: &mut W) -> Result<(), Refused>
+pub(crate) fn put_unread<W: Out>(
+    name: &str,
+    stop: &Stop,
+    count: u64,
+    out: &mut W,
+) -> Result<(), Refused>
     ensures { Writes (W.state out.old) (W.state out.new)
         (spec.unread_line name.now stop.now count) result }
 {

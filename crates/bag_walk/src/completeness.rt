@@ -1,5 +1,5 @@
 //! Faults of completeness, and clashes of names.
-ghost use Rattle.std.specs.Prelude.{◌≡◌, ⊤, [], false, IfOk};
+ghost use Rattle.std.specs.Prelude.{◌≡◌, ⊤, [], false, IfOk, Option};
 ghost use Rattle.std.specs.List.Sorted.{IsStrictlySortedBy};
 ghost use Rattle.std.specs.Option.{option_copied};
 ghost use Rattle.bag_facts.specs.FaultOrder.{fault_cmp};
@@ -8,9 +8,13 @@ ghost use Rattle.bag_facts.specs.Options.{reaches};
 ghost use Rattle.bag_stages.specs.CompletenessFaults.{IsIncomplete, IsWrong};
 ghost use Rattle.bag_walk.specs.Completeness.{AreAbove, AreSought};
 ghost use Rattle.bag_walk.specs.Completeness.{AreOfStageSix, IsOfAlg, IsOfSomeAlg};
+ghost use Rattle.bag_walk.specs.FactsOf.{ForCheckOf};
 ghost use Rattle.bag_walk.specs.Filling.{first_of};
+ghost use Rattle.bag_walk.specs.StartPart.{IsStageWithin};
+ghost use Rattle.bag_profile.specs.Profile.{Profile};
 
 use crate::fixed::{above, merged};
+use crate::part::Bounds;
 use crate::{Fixed, InOrder, Quiet, Source};
 use bag_facts::{Facts, Fault};
 use bag_read::Kind;
@@ -43,6 +47,26 @@ impl Completeness {
         let faults = sought(alloc, facts, after)?;
         Ok(Completeness {
             list: Fixed::of(faults),
+        })
+    }
+
+    /// The same of those that stand between two bounds. Looks for none where these have no stage
+    /// before that of digests.
+    pub(crate) fn within(
+        alloc: Global,
+        facts: &Facts,
+        after: Option<&Fault>,
+        bounds: &Bounds,
+    ) -> Result<Completeness, AllocError>
+        ensures { IfOk result (λ source. (profile : Option Profile) → ForCheckOf facts.now profile
+            (λ check. IsStageWithin check 6 (option_copied after.entry) bounds.now
+            source.list.faults)) }
+    {
+        if bounds.has_early() {
+            return Completeness::new(alloc, facts, after);
+        }
+        Ok(Completeness {
+            list: Fixed::of(Vec::new(alloc)),
         })
     }
 }

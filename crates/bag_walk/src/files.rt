@@ -5,7 +5,9 @@ ghost use Rattle.bag_facts.specs.declared.options.Depth.TheVariants as depth_of;
 ghost use Rattle.bag_walk.specs.FactsOf.{ForBagAtFull};
 ghost use Rattle.bag_walk.specs.Files.{AreToSum, IsToSum};
 ghost use Rattle.bag_walk.specs.Openings.{is_passed};
+ghost use Rattle.bag_walk.specs.Parts.{files_within};
 
+use crate::part::Bounds;
 use crate::to_sum::ToSum;
 use bag_facts::{Depth, Facts, Fault};
 use bag_stages::{Packed, Places, expected_of};
@@ -16,15 +18,18 @@ use std::alloc::{AllocError, Global};
 /// The stage of faults of digests.
 const STAGE: u8 = 7;
 
-/// The listed files that a manifest names, with what manifests give for them, in path order: those
-/// that a cursor hasn't passed. There are none below the depth `Full`.
+/// The listed files between two bounds that a manifest names, with what manifests give for them, in
+/// path order: those that a cursor hasn't passed. There are none below the depth `Full`. No other
+/// file is looked for in the manifests.
 pub(crate) fn files_to_sum(
     alloc: Global,
     facts: &Facts,
     after: Option<&Fault>,
+    bounds: &Bounds,
 ) -> Result<Vec<ToSum>, AllocError>
     ensures files { IfOk result (λ files. ForBagAtFull facts.now (λ bag.
-        AreToSum bag (option_copied after.entry) facts.now.listing.files files.items)) }
+        AreToSum bag (option_copied after.entry)
+        (files_within bounds.now facts.now.listing.files) files.items)) }
     ensures none { IfOk result (λ files.
         facts.now.options.depth ≢ depth_of.Full → files.items ≡ []) }
 {
@@ -34,6 +39,9 @@ pub(crate) fn files_to_sum(
     }
     let mut places = Places::new();
     for file in facts.files() {
+        if !bounds.has_file(&file.path) {
+            continue;
+        }
         let Some(to_sum) = to_sum_of(alloc, facts, file, after, &mut places)? else {
             continue;
         };

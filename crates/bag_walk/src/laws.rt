@@ -1,5 +1,8 @@
 //! Laws of the definitions, each the contract of a function that does nothing.
 ghost use Rattle.bag_walk.specs.Cursor.{CursorCutsList};
+ghost use Rattle.bag_walk.specs.PartRuns.{CursorCutsPart, DonePartIsWritten, OneListIsTold};
+ghost use Rattle.bag_walk.specs.PartRuns.{PartsWriteReport, RunIsItsParts};
+ghost use Rattle.bag_walk.specs.Parts.{OneListOfFiles, PartsAreEven, PartsJoin};
 ghost use Rattle.bag_walk.specs.SegmentLaws.{AnswersReportUnread, ChainsAreSegments, SegmentsAddUp};
 ghost use Rattle.bag_walk.specs.SegmentOpenings.{EachBagHasListedFiles};
 ghost use Rattle.bag_walk.specs.Segments.{SegmentsJoin};
@@ -33,4 +36,44 @@ pub fn answers_report_unread()
 /// Every bag has a list of the payload files whose digests are compared, whatever is asked for.
 pub fn each_bag_has_listed_files()
     ensures { EachBagHasListedFiles }
+{}
+
+/// The parts of a report, one after the other, are the report.
+pub fn parts_join()
+    ensures { PartsJoin }
+{}
+
+/// No part costs much more than its share.
+pub fn parts_are_even()
+    ensures { PartsAreEven }
+{}
+
+/// Whoever lists the files of a bag finds the same parts.
+pub fn one_list_of_files()
+    ensures { OneListOfFiles }
+{}
+
+/// The faults of a part are those up to one of them, and those that a run writes after that one.
+pub fn cursor_cuts_part()
+    ensures { CursorCutsPart }
+{}
+
+/// The output of a part that is done is the line of each of its faults, and its closing line.
+pub fn done_part_is_written()
+    ensures { DonePartIsWritten }
+{}
+
+/// Parts of one list of files tell the same number of files and of bytes.
+pub fn one_list_is_told()
+    ensures { OneListIsTold }
+{}
+
+/// What all parts write before their closing lines, one after the other, is what one run writes.
+pub fn parts_write_report()
+    ensures { PartsWriteReport }
+{}
+
+/// One run writes the lines that its parts write, one after the other, and closes with their count.
+pub fn run_is_its_parts()
+    ensures { RunIsItsParts }
 {}

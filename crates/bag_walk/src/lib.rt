@@ -14,6 +14,9 @@
 //! A run says which lines are written, which files are opened before each, and how it ended.
 //! `run_segments` writes a report in segments, of which each goes on after the last line that was
 //! written.
+//! `run_part` writes one part of a report, so that as many processes check one bag: each finds the
+//! bounds of its part in the bag's files alone, and the lines of all parts, one after the other, are
+//! those of one run.
 //!
 //! What a run writes, and how it ends, is the theorem of the whole: exactly the faults above the
 //! cursor, up to the limit, then the closing line, or a proper prefix. A source gives the faults
@@ -30,6 +33,8 @@ pub mod laws;
 mod merge;
 mod next;
 mod outcome;
+mod part;
+mod part_run;
 mod runner;
 mod segment;
 mod segments;
@@ -39,11 +44,14 @@ mod to_sum;
 mod validity;
 mod walk_run;
 
+pub use bag_facts::Part;
 pub use closing::put_line;
 pub use completeness::Completeness;
 pub use fixed::{Fixed, Then};
 pub use merge::Merge;
 pub use outcome::{Outcome, Request, status};
+pub use part::Listed;
+pub use part_run::{PartOutcome, run_part};
 pub use runner::run;
 pub use segment::put_pieces;
 pub use segments::run_segments;

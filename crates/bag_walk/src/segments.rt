@@ -1,9 +1,9 @@
 //! A report in segments, each with a limit of its own.
-ghost use Rattle.std.specs.Prelude.{◌≡◌, ◌<◌, ◌≤◌, ◌^◌, ℕ, List, sum, string_bytes};
+ghost use Rattle.std.specs.Prelude.{◌≡◌, ◌<◌, ◌≤◌, ◌^◌, ℕ, List, drop, sum, string_bytes};
 ghost use Rattle.std.specs.Option.{option_copied};
 ghost use Rattle.bag_tree.specs.Tree.{Keeps, NothingFailed};
 ghost use Rattle.bag_facts.specs.declared.fault.Fault.{Fault as FaultValue};
-ghost use Rattle.bag_walk.specs.SourceOpenings.{OpensAgain, OpensNoFileEarly};
+ghost use Rattle.bag_walk.specs.SourceOpenings.{NoFaultBeforeStop, OpensAgain, OpensNoFileEarly};
 ghost use Rattle.bag_walk.specs.Steps.{left, to_open, ForEachBag, WalkIsOfHonest};
 ghost use Rattle.bag_walk.specs.Lines.{IsLastOf};
 ghost use Rattle.bag_walk.specs.Segment.{MayStopRun};
@@ -136,7 +136,7 @@ fn write_segment<T: Tree, W: Out>(
 }
 
 /// The segment of the faults that a walk has still to give.
-fn segment_of_walk<T: Tree, S: InOrder<T> + Drop, W: Out>(
+pub(crate) fn segment_of_walk<T: Tree, S: InOrder<T> + Drop, W: Out>(
     alloc: Global,
     walk: Steps<T, S>,
     lines: &mut Lines,
@@ -152,6 +152,8 @@ fn segment_of_walk<T: Tree, S: InOrder<T> + Drop, W: Out>(
     ensures none_early { ForEachBag T.Tree S.Source walk (λ bag.
         OpensNoFileEarly (still_to_come result.1 (left S.Source bag walk))
         (T.state walk.tree) (T.state result.0)) }
+    ensures waits { IfUnread result.1.end (λ stop. ForEachBag T.Tree S.Source walk (λ bag.
+        NoFaultBeforeStop (drop result.1.written (left S.Source bag walk)) stop.path)) }
     ensures stop { IfUnread result.1.end (MayStopRun (WalkIsOfHonest T.Tree S.Source walk)
         (to_open S.Source walk) (T.state walk.tree) (T.state result.0)) }
     ensures seen { ForEachBag T.Tree S.Source walk (λ bag.

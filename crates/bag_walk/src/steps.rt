@@ -4,18 +4,22 @@ ghost use Rattle.std.specs.Option.{option_copied};
 ghost use Rattle.bag_tree.specs.Bag.{Bag};
 ghost use Rattle.bag_tree.specs.Tree.{Keeps, NothingFailed};
 ghost use Rattle.bag_facts.specs.FactsOfBag.{IsFactsOf};
-ghost use Rattle.bag_facts.specs.Wanted.{OpensWanted};
+ghost use Rattle.bag_facts.specs.Wanted.{ForListing, OpensWanted};
 ghost use Rattle.bag_walk.specs.Completeness.{IsStageAbove};
 ghost use Rattle.bag_walk.specs.FactsOf.{ForCheckOf};
 ghost use Rattle.bag_walk.specs.Start.{state_after, AreAheadBefore, AreSources};
 ghost use Rattle.bag_walk.specs.Start.{IsNotStarted, Starts};
+ghost use Rattle.bag_walk.specs.Parts.{bounds_of, listed_of};
+ghost use Rattle.bag_walk.specs.StartPart.{state_after_part, AreEarlyWithin, AreSourcesWithin};
+ghost use Rattle.bag_walk.specs.StartPart.{IsStageWithin, StartsPart};
 ghost use Rattle.bag_walk.specs.Steps.{left, shown, to_open, GivesFirst, GoesOn, IsDone};
 ghost use Rattle.bag_walk.specs.Steps.{IsStoppedInTurn, MayReopenLast, MayStopHere, MayStopOverAny};
 ghost use Rattle.bag_walk.specs.Steps.{WalkOpensNoFileEarly, OpensNext, StopsBeforeRemaining};
 
 use crate::fixed::above;
+use crate::part::{Bounds, Listed};
 use crate::{Completeness, Fixed, InOrder, Source, Then, Validity};
-use bag_facts::{Facts, Fault, Options};
+use bag_facts::{Facts, Fault, Options, Part};
 use bag_profile::Profile;
 use bag_report::stage_faults;
 use bag_tree::{Stop, Tree, TreeFault};
@@ -156,6 +160,55 @@ impl<T: Tree> Walk<T> {
         }
     }
 
+    /// The same for a part of the report: of its faults above a cursor those that stand between the
+    /// bounds of the part, which all parts find alike in the files of an honest tree. It tells of
+    /// what files they were found. Nothing of another part is looked for, and of the files whose
+    /// digests are to be compared those of the part alone are opened.
+    pub(crate) fn start_part(
+        alloc: Global,
+        tree: T,
+        profile: Option<&Profile>,
+        options: Options,
+        after: Option<Fault>,
+        part: Part,
+    ) -> Result<(Walk<T>, Listed), (T, Stop)>
+        ensures keeps { Keeps (T.state tree) (state_after_part T.Tree result) }
+        ensures opens { OpensWanted options (T.state tree) (state_after_part T.Tree result) }
+        ensures started { IfOk result (λ begun. StartsPart T.Tree ⟦<Sources as Source<T>>⟧
+            (T.state tree) (option_copied profile.entry) options after part begun.0) }
+        ensures listed { IfOk result (λ begun.
+            ForListing (T.state tree) (λ files. begun.1 ≡ listed_of files)) }
+        ensures refused { IfErr result (IsNotStarted T.Tree options (T.state tree)) }
+    {
+        let mut tree = tree;
+        let facts = match Facts::read(alloc, &mut tree, options) {
+            Ok(facts) => facts,
+            Err(stop) => return Err((tree, stop)),
+        };
+        let listed = Listed::of(facts.files());
+        match Self::sources_of_part(alloc, &facts, profile, after.as_ref(), part) {
+            Ok(sources) => Ok((Steps::new(tree, sources), listed)),
+            Err(AllocError) => Err((tree, Stop::without_path(alloc, TreeFault::Memory))),
+        }
+    }
+
+    /// The sources of the faults of a part above a cursor.
+    fn sources_of_part(
+        alloc: Global,
+        facts: &Facts,
+        profile: Option<&Profile>,
+        after: Option<&Fault>,
+        part: Part,
+    ) -> Result<Sources, AllocError>
+        requires { (bag : Bag) × IsFactsOf bag facts.now }
+        ensures { IfOk result (AreSourcesWithin ⟦<Sources as Source<T>>⟧ facts.now
+            (option_copied profile.entry) (option_copied after.entry)
+            (bounds_of facts.now.listing.files part)) }
+    {
+        let bounds = Bounds::of(alloc, facts.files(), part)?;
+        Self::sources_within(alloc, facts, profile, after, &bounds)
+    }
+
     /// The sources of the faults of a bag above a cursor.
     fn sources_of(
         alloc: Global,
@@ -167,15 +220,65 @@ impl<T: Tree> Walk<T> {
         ensures { IfOk result (AreSources ⟦<Sources as Source<T>>⟧
             facts.now (option_copied profile.entry) (option_copied after.entry)) }
     {
-        let early = early_above(alloc, facts, profile, after)?;
-        let completeness = Completeness::new(alloc, facts, after)?;
-        let validity = Validity::new(alloc, facts, after)?;
-        let late = stage_above(alloc, facts, profile, 8, after)?;
+        Self::sources_within(alloc, facts, profile, after, &Bounds::whole())
+    }
+
+    /// The sources of those between two bounds.
+    fn sources_within(
+        alloc: Global,
+        facts: &Facts,
+        profile: Option<&Profile>,
+        after: Option<&Fault>,
+        bounds: &Bounds,
+    ) -> Result<Sources, AllocError>
+        requires { (bag : Bag) × IsFactsOf bag facts.now }
+        ensures { IfOk result (AreSourcesWithin ⟦<Sources as Source<T>>⟧ facts.now
+            (option_copied profile.entry) (option_copied after.entry) bounds.now) }
+    {
+        let early = early_within(alloc, facts, profile, after, bounds)?;
+        let completeness = Completeness::within(alloc, facts, after, bounds)?;
+        let validity = Validity::within(alloc, facts, after, bounds)?;
+        let late = late_within(alloc, facts, profile, after, bounds)?;
         Ok(Then::new(
             Fixed::new(early),
             Then::new(completeness, Then::new(validity, Fixed::new(late))),
         ))
     }
+}
+
+/// The faults above a cursor of the stages before the sixth, in their order, where they stand
+/// between two bounds. Judges none where they don't.
+fn early_within(
+    alloc: Global,
+    facts: &Facts,
+    profile: Option<&Profile>,
+    after: Option<&Fault>,
+    bounds: &Bounds,
+) -> Result<Vec<Fault>, AllocError>
+    ensures { IfOk result (λ faults. ForCheckOf facts.now (option_copied profile.entry) (λ check.
+        AreEarlyWithin check (option_copied after.entry) bounds.now faults.items)) }
+{
+    if bounds.has_early() {
+        return early_above(alloc, facts, profile, after);
+    }
+    Ok(Vec::new(alloc))
+}
+
+/// Those of the eighth stage, where they stand between two bounds. Judges none where they don't.
+fn late_within(
+    alloc: Global,
+    facts: &Facts,
+    profile: Option<&Profile>,
+    after: Option<&Fault>,
+    bounds: &Bounds,
+) -> Result<Vec<Fault>, AllocError>
+    ensures { IfOk result (λ faults. ForCheckOf facts.now (option_copied profile.entry) (λ check.
+        IsStageWithin check 8 (option_copied after.entry) bounds.now faults.items)) }
+{
+    if bounds.has_late() {
+        return stage_above(alloc, facts, profile, 8, after);
+    }
+    Ok(Vec::new(alloc))
 }
 
 /// The faults above a cursor of the stages before the sixth, in their order.

@@ -29,3 +29,6 @@ returns-clause-unseen g c = c.write_faults-segment.ensures.unseen
 
 pub returns-clause-seen : goal.returns-clause-seen
 returns-clause-seen g c = c.write_faults-segment.ensures.seen
+
+pub returns-clause-waits : goal.returns-clause-waits
+returns-clause-waits g c = c.write_faults-segment.ensures.waits

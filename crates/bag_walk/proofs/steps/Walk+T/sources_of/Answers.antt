@@ -1,43 +1,13 @@
-use Rattle.bag_walk.proofs.Common.{◌++◌, List, Option, refl, append-nil, option_copied, Bag, Fault, IsFactsOf, Check}
-use Rattle.bag_walk.proofs.Common.{faults_of_files, paths_to_sum}
-use Rattle.bag_walk.proofs.Stages.{Hold, all_joined, complete_below, early_below, late_behind, none_to_open, sums_below}
-use Rattle.bag_walk.proofs.Stages.{seventh, to_open}
+use Rattle.bag_walk.proofs.Common.{IfOk-weaker, option_copied, Bag, Check}
+use Rattle.bag_walk.proofs.Within.{all_ahead, all_to_open}
 use Rattle.bag_walk.proofs.steps.Walk+T.sources_of.Goals as goal
 
 pub returns : goal.returns
 returns g c =
-    let after : Option Fault = option_copied c.args.after in
-    let validity = c.in_ok-validity.validity in
-    let has = c.in_ok-validity.ensures in
-    let complete = c.in_ok-completeness.completeness.list.faults in
-    let late = c.in_ok-late.late.items in
     let check : Bag → Check = λ bag.
     record { bag = bag; profile = option_copied c.args.profile; options = c.args.facts.now.options } in
-    let sums : Bag → List Fault = λ bag. validity.found ++ faults_of_files bag validity.after validity.pending in
-    let hold : (bag : Bag) → IsFactsOf bag c.args.facts.now
-    → Hold (check bag) after c.in_ok-early.early.items complete (sums bag) late = λ bag h. record {
-      first = c.in_ok-early.ensures bag h;
-      sixth = c.in_ok-completeness.ensures.reported (option_copied c.args.profile) bag h;
-      seventh =
-          seventh (check bag) after (sums bag) (λ full. has.faults bag h full) (λ below.
-          rw ((has.none below).0, (has.none below).1) refl);
-      eighth = c.in_ok-late.ensures bag h;
-    } in
-    rw (c.new-7.ensures, c.new-6.ensures, c.new-5.ensures, c.new-4.ensures, c.new-3.ensures) (record {
-      of = λ bag h.
-          let all = hold bag h in (
-            (all.first.ascending, early_below all, λ ordered. none_to_open (complete ++ (sums bag ++ late))),
-            (
-              (all.sixth.ascending, complete_below all, λ ordered. none_to_open (sums bag ++ late)),
-              (
-                (has.of bag h, sums_below all, λ ordered. late_behind all (paths_to_sum validity.pending)),
-                all.eighth.ascending,
-              ),
-            ),
-          );
-      stands = λ bag h. all_joined (hold bag h);
-      files = λ bag h.
-          rw (append-nil (paths_to_sum validity.pending))
-          (to_open (check bag) after (paths_to_sum validity.pending) (λ full. has.todo bag h full) (λ below.
-          rw (has.none below).0 refl));
-    })
+    IfOk-weaker c.sources_within.result _ _ (λ sources are. record {
+      of = are.of;
+      stands = λ bag h. all_ahead (check bag) (option_copied c.args.after) _ (are.stands bag h);
+      files = λ bag h. all_to_open (check bag) (option_copied c.args.after) _ (are.files bag h);
+    }) (rw c.whole.ensures at c.sources_within.ensures)

@@ -1,15 +1,13 @@
-use Rattle.bag_walk.proofs.Common.{refl, option_copied}
-use Rattle.bag_walk.proofs.Chosen.{chosen_faults, chosen_is_of, chosen_todo}
+use Rattle.bag_walk.proofs.Common.{IfOk-weaker, option_copied}
+use Rattle.bag_walk.proofs.Within.{all_faults, all_files}
 use Rattle.bag_walk.proofs.validity.Validity.new.Goals as goal
 
-pub returns : goal.returns
-returns c =
-    let after = option_copied c.args.after in
-    let files = c.in_ok-files_to_sum.ensures in
-    rw (c.in_ok-copy_of_cursor.ensures, c.new.ensures, c.new-3.ensures, c.new-2.ensures.items) (record {
-      of = λ bag of. chosen_is_of bag after c.args.facts.now of _ (files.files bag of) files.none;
-      faults = λ bag of full. chosen_faults bag after c.args.facts.now of _ (files.files bag of full);
-      todo = λ bag of full. chosen_todo bag after c.args.facts.now of _ (files.files bag of full);
-      none = λ other. (files.none other, refl);
-      fresh = refl;
-    })
+pub returns-clause-faults : goal.returns-clause-faults
+returns-clause-faults c =
+    IfOk-weaker c.within.result _ _ (λ s is bag of full. all_faults bag (option_copied c.args.after) _ (is bag of full))
+    (rw c.whole.ensures at c.within.ensures.faults)
+
+pub returns-clause-todo : goal.returns-clause-todo
+returns-clause-todo c =
+    IfOk-weaker c.within.result _ _ (λ s is bag of full. all_files bag (option_copied c.args.after) _ (is bag of full))
+    (rw c.whole.ensures at c.within.ensures.todo)

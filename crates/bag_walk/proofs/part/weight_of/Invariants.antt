@@ -1,0 +1,6 @@
+use Rattle.bag_walk.proofs.Common.{◌≡◌, take}
+use Rattle.bag_walk.specs.Parts as spec
+use Rattle.bag_walk.proofs.part.weight_of.Given as goal
+
+abbrev pub invariant-loop-file : goal.invariant-loop-file
+invariant-loop-file l = l.weight_of ≡ spec.capped (spec.weight_of (take l.file-index l.files))

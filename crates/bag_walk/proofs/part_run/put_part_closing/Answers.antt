@@ -1,0 +1,4 @@
+use Rattle.bag_walk.proofs.part_run.put_part_closing.Goals as goal
+
+pub returns-in-Stopped : goal.returns-in-Stopped
+returns-in-Stopped g c = rw c.in-Stopped.is c.put_count.ensures

@@ -1,0 +1,23 @@
+use Rattle.bag_walk.proofs.Common.{ap}
+use Rattle.bag_walk.proofs.part_run.run_part.Goals as goal
+
+pub returns-clause-run : goal.returns-clause-run
+returns-clause-run g c =
+    let then = c.lines_of_part-tree in
+    record {
+      keeps = then.ensures.keeps;
+      untouched = λ none. ap g.T.Tree.state (then.ensures.untouched none);
+      segment = then.result.1.segment;
+      opens = then.ensures.opens;
+      stopped = then.ensures.stopped;
+      unlooked = then.ensures.unlooked;
+      no_failure = then.ensures.no_failure;
+      plain = then.ensures.plain;
+      stop = then.ensures.stop;
+      lines = g.W.Out.state then.new.out;
+      wrote = then.ensures.unseen;
+      faults = then.ensures.segment;
+      listed = then.result.1.listed;
+      counts = then.ensures.listed;
+      closes = rw c.part_outcome.ensures at c.close_part-outcome.ensures;
+    }
