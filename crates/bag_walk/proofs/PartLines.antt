@@ -2,7 +2,7 @@
 use Rattle.bag_walk.proofs.Common.{◌≡◌, ◌+◌, ◌++◌, ◌∙◌, inl, inr, ℕ, zero, suc, List, length, refl, sym, ap, arith, concat}
 use Rattle.bag_walk.proofs.Common.{OutState, Fault, FileEntry, written, IsSegment, SegmentEnd, take_all}
 use Rattle.bag_walk.proofs.Common.{Appends, length-append, map-append, written_line, EndsSegment, WroteFirst, take}
-use Rattle.bag_walk.proofs.Common.{[], ◌∷◌, Bool, true, false, Some, filter, cond, subst, above, first}
+use Rattle.bag_walk.proofs.Common.{[], ◌∷◌, Bool, true, false, None, Some, filter, cond, subst, above, first}
 use Rattle.bag_walk.proofs.Common.{is_above, limit_of, fault_cmp, IsStrictlySortedBy-filter, IsTrue, Option, Profile}
 use Rattle.bag_walk.proofs.Common.{Request, TreeState}
 use Rattle.bag_walk.proofs.OneList.{one_list_of_files}
@@ -23,19 +23,21 @@ use Rattle.bag_walk.specs.declared.segment.SegmentEnd.TheVariants.{Full, AtEnd, 
 module _ (name : List ℕ) (part : Part) (faults : List Fault) (limit n : ℕ) (told : Listed)
     (before lines after : OutState) where
   -- a part is done where its segment came to the end, and its closing line was taken
-  ended_by : (listed : Listed) (k : ℕ) (end : SegmentEnd)
-      → PutsPartClosing name part (part_outcome listed k end) lines after (Done n told)
+  ended_by : (cursor : Option Fault) (listed : Listed) (k : ℕ) (end : SegmentEnd)
+      → PutsPartClosing name part (part_outcome cursor listed k end) lines after (Done n told)
       → (end ≡ AtEnd) × (n ≡ k) × (told ≡ listed)
       × Appends lines.taken after.taken (done_line name part listed k)
-  ended_by listed k AtEnd (inl (same, closed)) =
+  ended_by (Some fault) listed k AtEnd (inl (same, closed)) = cc
+  ended_by (Some fault) listed k AtEnd (inr (same, refused, cut)) = cc
+  ended_by None listed k AtEnd (inl (same, closed)) =
       let count : n ≡ k = cc in let of : told ≡ listed = cc in (refl, count, of, closed)
-  ended_by listed k AtEnd (inr (same, refused, cut)) = cc
-  ended_by listed k Full (inl (same, closed)) = cc
-  ended_by listed k Full (inr (same, refused, cut)) = cc
-  ended_by listed k (Unread stop) (inl (same, closed)) = cc
-  ended_by listed k (Unread stop) (inr (same, refused, cut)) = cc
-  ended_by listed k Unwritten (inl (same, closed)) = cc
-  ended_by listed k Unwritten (inr (same, refused, cut)) = cc
+  ended_by None listed k AtEnd (inr (same, refused, cut)) = cc
+  ended_by cursor listed k Full (inl (same, closed)) = cc
+  ended_by cursor listed k Full (inr (same, refused, cut)) = cc
+  ended_by cursor listed k (Unread stop) (inl (same, closed)) = cc
+  ended_by cursor listed k (Unread stop) (inr (same, refused, cut)) = cc
+  ended_by cursor listed k Unwritten (inl (same, closed)) = cc
+  ended_by cursor listed k Unwritten (inr (same, refused, cut)) = cc
 
   done_by : (listed : Listed) (k : ℕ) (end : SegmentEnd) → EndsSegment faults limit k end
       → WroteFirst faults k before lines end
@@ -58,7 +60,7 @@ module _ {old new : TreeState} {profile : Option Profile} {part : Part} {request
   pub ends : (run.segment.end ≡ AtEnd) × (n ≡ run.segment.written) × (told ≡ run.listed)
       × Appends run.lines.taken after.taken (done_line request.name part run.listed run.segment.written)
   ends =
-      ended_by request.name part [] 0 n told before run.lines after run.listed run.segment.written run.segment.end
+      ended_by request.name part [] 0 n told before run.lines after request.after run.listed run.segment.written run.segment.end
       run.closes
 
   pub tells : IsTrue old.honest → (files : List FileEntry) → AreFilesIn old.bag files → told ≡ listed_of files

@@ -32,40 +32,54 @@ use Rattle.bag_walk.specs.declared.outcome.Outcome.{Outcome}
 use Rattle.bag_walk.specs.declared.outcome.Request.{Request}
 use Rattle.bag_walk.specs.declared.part.Listed.{Listed}
 use Rattle.bag_walk.specs.declared.part_run.PartOutcome.{PartOutcome}
-use Rattle.bag_walk.specs.declared.part_run.PartOutcome.TheVariants.{Done, Stopped, Unread, Unwritten}
+use Rattle.bag_walk.specs.declared.part_run.PartOutcome.TheVariants.{Done, Rest, Stopped, Unread, Unwritten}
 use Rattle.bag_walk.specs.declared.segment.Segment.{Segment}
 use Rattle.bag_walk.specs.declared.segment.SegmentEnd.{SegmentEnd}
 use Rattle.bag_walk.specs.declared.segment.SegmentEnd.TheVariants as end_of
 
--- of what files a part was cut that is done, and the number of its faults
-abbrev pub cut_line : Listed → ℕ → List ℕ
-cut_line listed n =
-    codes " done, files: " ++ (decimal listed.files ++ (codes ", bytes: "
+-- how a part ended, of what files it was cut, and the number of faults that were written
+abbrev pub cut_line : List ℕ → Listed → ℕ → List ℕ
+cut_line how listed n =
+    how ++ (decimal listed.files ++ (codes ", bytes: "
     ++ (decimal listed.bytes ++ (codes ", faults: " ++ (decimal n ++ codes "\n")))))
 
--- a line that says that a part was checked to its end; the parts are counted from 1
-abbrev pub done_line : List ℕ → Part → Listed → ℕ → List ℕ
-done_line name part listed n =
+-- a line that says that the end of a part was reached; the parts are counted from 1
+abbrev pub end_line : List ℕ → List ℕ → Part → Listed → ℕ → List ℕ
+end_line how name part listed n =
     field name ++ (codes " part " ++ (decimal (part.number + 1) ++ (codes " of "
-    ++ (decimal part.of ++ cut_line listed n))))
+    ++ (decimal part.of ++ cut_line how listed n))))
+
+-- the same of a part that was checked from its first fault on, and of one from a cursor on
+abbrev pub done_line : List ℕ → Part → Listed → ℕ → List ℕ
+done_line name part listed n = end_line (codes " done, files: ") name part listed n
+
+abbrev pub rest_line : List ℕ → Part → Listed → ℕ → List ℕ
+rest_line name part listed n = end_line (codes " rest done, files: ") name part listed n
 
 -- the closing line of a run over a part, with its end, or nothing where there is none
 abbrev pub part_closing : List ℕ → Part → PartOutcome → List ℕ
 part_closing name part (Done n listed) = done_line name part listed n
+part_closing name part (Rest n listed) = rest_line name part listed n
 part_closing name part (Stopped n) = about_count name (codes " stopped, faults: ") n
 part_closing name part (Unread n stop) = unread_line name stop n
 part_closing name part (Unwritten n) = []
 
+-- how a run over a part ends that reached its end: a part is done by a run without a cursor alone
+abbrev pub part_ended : Option Fault → ℕ → Listed → PartOutcome
+part_ended None n listed = Done n listed
+part_ended (Some fault) n listed = Rest n listed
+
 -- how a run over a part ends whose lines ended so, if the output takes its closing line
-abbrev pub part_outcome : Listed → ℕ → SegmentEnd → PartOutcome
-part_outcome listed n end_of.Full = Stopped n
-part_outcome listed n end_of.AtEnd = Done n listed
-part_outcome listed n (end_of.Unread stop) = Unread n stop
-part_outcome listed n end_of.Unwritten = Unwritten n
+abbrev pub part_outcome : Option Fault → Listed → ℕ → SegmentEnd → PartOutcome
+part_outcome after listed n end_of.Full = Stopped n
+part_outcome after listed n end_of.AtEnd = part_ended after n listed
+part_outcome after listed n (end_of.Unread stop) = Unread n stop
+part_outcome after listed n end_of.Unwritten = Unwritten n
 
 -- how many fault lines were written
 abbrev pub part_count : PartOutcome → ℕ
 part_count (Done n listed) = n
+part_count (Rest n listed) = n
 part_count (Stopped n) = n
 part_count (Unread n stop) = n
 part_count (Unwritten n) = n
@@ -73,6 +87,7 @@ part_count (Unwritten n) = n
 -- the exit status of a run over a part
 abbrev pub part_status : PartOutcome → ℕ
 part_status (Done n listed) = 1
+part_status (Rest n listed) = 1
 part_status (Stopped n) = 1
 part_status (Unread n stop) = 3
 part_status (Unwritten n) = 3
@@ -178,8 +193,8 @@ pub record IsRunOfPart (old new : TreeState) (profile : Option Profile) (part : 
   -- where the end was reached, of what files the part was cut
   pub listed : Listed
   pub counts : segment.end ≡ end_of.AtEnd → ForListing old (λ files. listed ≡ listed_of files)
-  pub closes : PutsPartClosing request.name part (part_outcome listed segment.written segment.end)
-      lines after outcome
+  pub closes : PutsPartClosing request.name part
+      (part_outcome request.after listed segment.written segment.end) lines after outcome
 
 -- The law of a part that is done without a cursor: over an honest tree its output is the line of
 -- each fault that its report has in that part, and the closing line, which counts them.

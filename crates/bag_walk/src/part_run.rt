@@ -34,14 +34,19 @@ const OF: &str = " of ";
 
 const DONE_FILES: &str = " done, files: ";
 
+const REST_FILES: &str = " rest done, files: ";
+
 const BYTES: &str = ", bytes: ";
 
 /// How a run over a part ended, with the number of fault lines that it wrote. It is never the
 /// verdict of a bag.
 #[derive(Debug, Drop)]
 pub enum PartOutcome {
-    /// The end of the part was reached, and its bounds were found in these files.
+    /// There was no cursor, and the end of the part was reached, whose bounds were found in these
+    /// files.
     Done(u64, Listed),
+    /// The end of the part was reached after a cursor.
+    Rest(u64, Listed),
     /// The limit was reached, and nothing further was looked at.
     Stopped(u64),
     /// The tree or memory refused.
@@ -58,6 +63,7 @@ impl PartOutcome {
     {
         match self {
             PartOutcome::Done(count, _)
+            | PartOutcome::Rest(count, _)
             | PartOutcome::Stopped(count)
             | PartOutcome::Unread(count, _)
             | PartOutcome::Unwritten(count) => *count,
@@ -70,7 +76,7 @@ impl PartOutcome {
         ensures { result ≡ spec.part_status self.now }
     {
         match self {
-            PartOutcome::Done(_, _) | PartOutcome::Stopped(_) => 1,
+            PartOutcome::Done(_, _) | PartOutcome::Rest(_, _) | PartOutcome::Stopped(_) => 1,
             PartOutcome::Unread(_, _) | PartOutcome::Unwritten(_) => 3,
         }
     }
@@ -101,7 +107,7 @@ pub fn run_part<T: Tree, W: Out>(
 {
     let request = &request;
     let (tree, lines) = lines_of_part(alloc, tree, profile, part, request, out);
-    let outcome = close_part(request, part, part_outcome(lines), out);
+    let outcome = close_part(request, part, part_outcome(request, lines), out);
     (tree, outcome)
 }
 
@@ -171,13 +177,15 @@ fn lines_of_part<T: Tree, W: Out>(
 }
 
 /// How a run over a part ends whose lines ended so.
-fn part_outcome(lines: PartLines) -> PartOutcome
-    ensures { result ≡ spec.part_outcome lines.listed lines.segment.written lines.segment.end }
+fn part_outcome(request: &Request, lines: PartLines) -> PartOutcome
+    ensures { result ≡ spec.part_outcome request.now.after lines.listed
+        lines.segment.written lines.segment.end }
 {
     let PartLines { segment, listed } = lines;
     let Segment { written, end } = segment;
     match end {
         SegmentEnd::Full => PartOutcome::Stopped(written),
+        SegmentEnd::AtEnd if request.after.is_some() => PartOutcome::Rest(written, listed),
         SegmentEnd::AtEnd => PartOutcome::Done(written, listed),
         SegmentEnd::Unread(stop) => PartOutcome::Unread(written, stop),
         SegmentEnd::Unwritten => PartOutcome::Unwritten(written),
@@ -211,22 +219,24 @@ fn put_part_closing<W: Out>(
         (spec.part_closing name.now part ending.now) result }
 {
     match ending {
-        PartOutcome::Done(count, listed) => put_done(name, part, *listed, *count, out),
+        PartOutcome::Done(count, listed) => put_end(name, part, DONE_FILES, *listed, *count, out),
+        PartOutcome::Rest(count, listed) => put_end(name, part, REST_FILES, *listed, *count, out),
         PartOutcome::Stopped(count) => put_count(name, said::STOPPED, *count, out),
         PartOutcome::Unread(count, stop) => put_unread(name, stop, *count, out),
         PartOutcome::Unwritten(_) => Ok(()),
     }
 }
 
-fn put_done<W: Out>(
+fn put_end<W: Out>(
     name: &str,
     part: Part,
+    how: &str,
     listed: Listed,
     count: u64,
     out: &mut W,
 ) -> Result<(), Refused>
     ensures { Writes (W.state out.old) (W.state out.new)
-        (spec.done_line name.now part listed count) result }
+        (spec.end_line how.now name.now part listed count) result }
 {
     let parts = part.of();
     let place = part.number() + 1;
@@ -234,18 +244,19 @@ fn put_done<W: Out>(
     let mut of = Buffer::new();
     let pieces = [PART, number.format(place), OF, of.format(parts)];
     put_line(name, &pieces, out)?;
-    put_cut(listed, count, out)
+    put_cut(how, listed, count, out)
 }
 
-/// Of what files a part was cut, and the number of its faults.
-fn put_cut<W: Out>(listed: Listed, count: u64, out: &mut W) -> Result<(), Refused>
-    ensures { Writes (W.state out.old) (W.state out.new) (spec.cut_line listed count) result }
+/// How a part ended, of what files it was cut, and the number of faults that were written.
+fn put_cut<W: Out>(how: &str, listed: Listed, count: u64, out: &mut W) -> Result<(), Refused>
+    ensures { Writes (W.state out.old) (W.state out.new)
+        (spec.cut_line how.now listed count) result }
 {
     let mut files = Buffer::new();
     let mut bytes = Buffer::new();
     let mut faults = Buffer::new();
     let pieces = [
-        DONE_FILES,
+        how,
         files.format(listed.files),
         BYTES,
         bytes.format(listed.bytes),

@@ -2,7 +2,7 @@ use Rattle.bag_walk.proofs.Common.{subst, codes, err_from_is_err_and, field, IsC
 use Rattle.std.specs.Prelude.{decimal}
 use Rattle.bag_walk.proofs.Writing.{IsCut-append, five_joined, writes_after}
 use Rattle.bag_walk.specs.PartRuns.{cut_line}
-use Rattle.bag_walk.proofs.part_run.put_done.Goals as goal
+use Rattle.bag_walk.proofs.part_run.put_end.Goals as goal
 
 pub returns-in_err-put_line : goal.returns-in_err-put_line
 returns-in_err-put_line g c =
@@ -17,7 +17,7 @@ returns-in_err-put_line g c =
     rw p.1 (
       subst (IsCut _ _)
           (five_joined (field c.args.name.now) (codes " part ") (decimal (part.number + 1)) (codes " of ")
-          (decimal part.of) (cut_line c.args.listed c.args.count))
+          (decimal part.of) (cut_line c.args.how.now c.args.listed c.args.count))
           (IsCut-append _ _ _ _ wrote.0),
       wrote.1,
     )
@@ -35,5 +35,5 @@ returns g c =
     let after = g.W.Out.state c.put_cut.new.out in
     subst (λ text. Writes before after text c.put_cut.result)
     (five_joined (field c.args.name.now) (codes " part ") (decimal (part.number + 1)) (codes " of ")
-    (decimal part.of) (cut_line c.args.listed c.args.count))
+    (decimal part.of) (cut_line c.args.how.now c.args.listed c.args.count))
     (writes_after before (g.W.Out.state c.put_line.new.out) after _ _ _ c.put_cut.ensures wrote)
