@@ -1,25 +1,32 @@
 -- Checks and their statuses.
 use Rattle.bag_cli.proofs.Common.{◌≡◌, inl, inr, ◌≤◌, ℕ, List, Option, refl, ap, ◌∙◌, arith, MatchOption, MatchResult}
-use Rattle.bag_cli.proofs.Common.{Result, Ok, Err, OutState, TreeState, Event, Outcome, Unwritten, Profile, Plan}
+use Rattle.bag_cli.proofs.Common.{Result, Ok, Err, OutState, TreeState, Event, CheckOutcome, Unwritten, Profile, Plan}
+use Rattle.bag_walk.specs.declared.part_run.PartOutcome.TheVariants as part
+use Rattle.bag_cli.specs.declared.check_outcome.CheckOutcome.TheVariants.{OfBag, OfPart}
 use Rattle.bag_cli.proofs.Common.{AreChecksOf, HasRunOut, IsCheckOf, IsLastCheck, IsVisitToCheck, IsWholeCheck}
 use Rattle.bag_cli.proofs.Common.{visit_of, whole_status}
 use Rattle.bag_cli.proofs.Turns.{turns_status}
 
 -- what the status says of a check
 pub next_check : {E : Type 0} (plan : Plan) (profile : Option Profile) (tree : TreeState) (name : List ℕ)
-    (before after : OutState) (visits : List Event) (checked : Result Outcome E)
+    (before after : OutState) (visits : List Event) (checked : Result CheckOutcome E)
     → MatchResult checked (λ outcome. IsVisitToCheck plan profile tree name before after visits outcome) (λ _.
     HasRunOut tree name before after visits)
     → MatchOption (whole_status checked) (IsLastCheck plan profile tree name before after visits) (λ n.
     IsWholeCheck plan profile tree name before after visits n)
-next_check plan profile tree name before after visits (Ok (Unwritten n)) check = inl (n, check)
-next_check plan profile tree name before after visits (Ok outcome) check =
-    record { outcome = outcome; check = check; written = refl; status_is = refl }
+next_check plan profile tree name before after visits (Ok (OfBag (Unwritten n))) check =
+    inl (OfBag (Unwritten n), refl, check)
+next_check plan profile tree name before after visits (Ok (OfBag outcome)) check =
+    record { outcome = OfBag outcome; check = check; status_is = refl }
+next_check plan profile tree name before after visits (Ok (OfPart (part.Unwritten n))) check =
+    inl (OfPart (part.Unwritten n), refl, check)
+next_check plan profile tree name before after visits (Ok (OfPart outcome)) check =
+    record { outcome = OfPart outcome; check = check; status_is = refl }
 next_check plan profile tree name before after visits (Err e) nothing = inr nothing
 
 -- The folder's tree was given for it, and left as the check leaves it; or as it was given, where memory ran out.
 pub visited_check : {E : Type 0} (plan : Plan) (profile : Option Profile) (tree old new : TreeState) (name : List ℕ)
-    (before after : OutState) (checked : Result Outcome E) → old ≡ tree
+    (before after : OutState) (checked : Result CheckOutcome E) → old ≡ tree
     → MatchResult checked (λ outcome. IsCheckOf plan profile old new name before after outcome) (λ _.
     (after ≡ before) × (new ≡ old))
     → MatchResult checked (λ outcome. IsVisitToCheck plan profile tree name before after (visit_of name new) outcome)

@@ -61,6 +61,7 @@ pub use Rattle.bag_cli.specs.Performed.{AreMade, IsChecked, IsDoneBy, IsPerforme
 pub use Rattle.bag_cli.specs.Sample.{sample_state}
 pub use Rattle.bag_cli.specs.Saying.{Says}
 pub use Rattle.bag_cli.specs.Status.{whole_status}
+pub use Rattle.bag_cli.specs.declared.check_outcome.CheckOutcome.{CheckOutcome}
 pub use Rattle.bag_cli.specs.Reported.{ReportsMade, GivesReport, reported_lines}
 pub use Rattle.bag_cli.specs.UncheckedKeys.{unchecked_line, unchecked_lines}
 pub use Rattle.bag_cli.specs.Visits.{Entered, Event, Left, NotGiven, Read}

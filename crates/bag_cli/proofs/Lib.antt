@@ -1,4 +1,5 @@
 pub mod Arms
+pub mod Asked
 pub mod Checks
 pub mod Common
 pub mod Makings

@@ -1,17 +1,18 @@
 -- What checks write, and the exit status after them.
-use Rattle.std.specs.Prelude.{ℕ, ◌≡◌, ◌⊎◌, ⊤, Bool, true, false, List, [], ◌∷◌, codes, Option, None}
+use Rattle.std.specs.Prelude.{ℕ, ◌≡◌, ◌⊎◌, ⊤, List, [], ◌∷◌, codes, Option, Some, None}
 use Rattle.bag_tree.specs.Out.{OutState}
 use Rattle.bag_tree.specs.Tree.{TreeState}
 use Rattle.bag_cli.specs.Visits.{Event, Entered, NotGiven, Left, Read}
-use Rattle.bag_walk.specs.ExitStatus.{status}
-use Rattle.bag_walk.specs.declared.outcome.Outcome.{Outcome}
-use Rattle.bag_walk.specs.declared.outcome.Outcome.TheVariants.{Clean, Faults, Stopped, Rest}
-use Rattle.bag_walk.specs.declared.outcome.Outcome.TheVariants.{Unread, Unwritten}
+use Rattle.bag_facts.specs.Part.{Part as PartValue}
 use Rattle.bag_walk.specs.declared.outcome.Request.{Request}
 use Rattle.bag_profile.specs.Profile.{Profile}
+use Rattle.bag_walk.specs.PartRuns.{IsRunOfPart}
 use Rattle.bag_walk.specs.WholeRun.{IsRunOver}
 use Rattle.bag_arguments.specs.declared.plan.Plan.{Plan}
 use Rattle.bag_cli.specs.InTurn.{AreInTurn, Deed}
+use Rattle.bag_cli.specs.Status.{check_status}
+use Rattle.bag_cli.specs.declared.check_outcome.CheckOutcome.{CheckOutcome}
+use Rattle.bag_cli.specs.declared.check_outcome.CheckOutcome.TheVariants.{OfBag, OfPart}
 use Rattle.bag_cli.specs.Sample.{sample_state}
 
 -- what a plan's check of the bag of this name asks for
@@ -24,11 +25,20 @@ request_of plan name = record {
   name = name;
 }
 
+-- a check of a tree's bag, or of a part of it where one is asked for
+abbrev pub IsCheckBy : Option PartValue → Option Profile → TreeState → TreeState → Request
+    → OutState → OutState → CheckOutcome → Type 0
+IsCheckBy None profile tree new request before after (OfBag outcome) =
+    IsRunOver tree new profile request before after outcome
+IsCheckBy (Some part) profile tree new request before after (OfPart outcome) =
+    IsRunOfPart tree new profile part request before after outcome
+IsCheckBy part profile tree new request before after outcome = ⊥
+
 -- a check of a tree
 abbrev pub IsCheckOf : Plan → Option Profile → TreeState → TreeState → List ℕ
-    → OutState → OutState → Outcome → Type 0
+    → OutState → OutState → CheckOutcome → Type 0
 IsCheckOf plan profile tree new name before after outcome =
-    IsRunOver tree new profile (request_of plan name) before after outcome
+    IsCheckBy plan.part profile tree new (request_of plan name) before after outcome
 
 -- the folder was looked into once, and its tree was left as this
 abbrev pub visit_of : List ℕ → TreeState → List Event
@@ -36,27 +46,18 @@ visit_of name new = Entered name ∷ Left new ∷ []
 
 -- a check of the tree that was given for a folder, and that was left as the check leaves it
 abbrev pub IsVisitToCheck : Plan → Option Profile → TreeState → List ℕ
-    → OutState → OutState → List Event → Outcome → Type 0
+    → OutState → OutState → List Event → CheckOutcome → Type 0
 IsVisitToCheck plan profile tree name before after visits outcome =
     (new : TreeState) × (visits ≡ visit_of name new)
     × IsCheckOf plan profile tree new name before after outcome
 
--- the output took the whole report
-abbrev pub is_written : Outcome → Bool
-is_written Clean = true
-is_written (Faults n) = true
-is_written (Stopped n) = true
-is_written (Rest n) = true
-is_written (Unread n stop) = true
-is_written (Unwritten n) = false
-
 -- a check whose whole report was written, its visit, and its status
 pub record IsWholeCheck (plan : Plan) (profile : Option Profile) (tree : TreeState)
     (name : List ℕ) (before after : OutState) (visits : List Event) (n : ℕ) : Type 0 where
-  pub outcome : Outcome
+  pub outcome : CheckOutcome
   pub check : IsVisitToCheck plan profile tree name before after visits outcome
-  pub written : is_written outcome ≡ true
-  pub status_is : n ≡ status outcome
+  -- the output took the whole report
+  pub status_is : check_status outcome ≡ Some n
 
 -- Memory ran out for a folder, and nothing was written: it was asked for and couldn't be given, or
 -- it was given, and its tree was left as it was.
@@ -69,7 +70,8 @@ HasRunOut tree name before after visits =
 abbrev pub IsLastCheck : Plan → Option Profile → TreeState → List ℕ
     → OutState → OutState → List Event → Type 0
 IsLastCheck plan profile tree name before after visits =
-    ((count : ℕ) × IsVisitToCheck plan profile tree name before after visits (Unwritten count))
+    ((outcome : CheckOutcome) × (check_status outcome ≡ None)
+    × IsVisitToCheck plan profile tree name before after visits outcome)
     ⊎ HasRunOut tree name before after visits
 
 -- The checks of the bags of these names in the trees that they name, one after the other, each with

@@ -3,21 +3,21 @@ use Rattle.std.specs.Prelude.{ℕ, ◌≡◌, List, codes, Option, None, Result,
 use Rattle.bag_tree.specs.Out.{OutState}
 use Rattle.bag_tree.specs.Tree.{TreeState}
 use Rattle.bag_cli.specs.Visits.{Event}
-use Rattle.bag_walk.specs.declared.outcome.Outcome.{Outcome}
 use Rattle.bag_profile.specs.Profile.{Profile}
 use Rattle.bag_arguments.specs.declared.plan.Plan.{Plan}
 use Rattle.bag_cli.specs.Sample.{sample_state}
 use Rattle.bag_cli.specs.Checked.{IsCheckOf, IsVisitToCheck, HasRunOut}
+use Rattle.bag_cli.specs.declared.check_outcome.CheckOutcome.{CheckOutcome}
 
 -- a check of the sample, whose device never fails
-abbrev pub IsCheckOfSample : Plan → OutState → OutState → Outcome → Type 0
+abbrev pub IsCheckOfSample : Plan → OutState → OutState → CheckOutcome → Type 0
 IsCheckOfSample plan before after outcome =
     (new : TreeState) × (new.failures ≡ 0)
     × IsCheckOf plan None sample_state new (codes "sample") before after outcome
 
 -- the folder was looked into and its bag checked, or memory ran out for it
 abbrev pub ChecksFolder : {E : Type 0} → Plan → Option Profile → TreeState → List ℕ
-    → OutState → OutState → List Event → Result Outcome E → Type 0
+    → OutState → OutState → List Event → Result CheckOutcome E → Type 0
 ChecksFolder plan profile tree name before after visits checked = MatchResult checked
     (λ outcome. IsVisitToCheck plan profile tree name before after visits outcome)
     (λ _. HasRunOut tree name before after visits)
@@ -25,7 +25,7 @@ ChecksFolder plan profile tree name before after visits checked = MatchResult ch
 -- the tree was checked under this name; or memory for what is asked for ran out, and nothing was
 -- done
 abbrev pub ChecksTree : {E : Type 0} → Plan → Option Profile → TreeState → TreeState → List ℕ
-    → OutState → OutState → Result Outcome E → Type 0
+    → OutState → OutState → Result CheckOutcome E → Type 0
 ChecksTree plan profile tree new name before after checked = MatchResult checked
     (λ outcome. IsCheckOf plan profile tree new name before after outcome)
     (λ _. (after ≡ before) × (new ≡ tree))

@@ -41,13 +41,13 @@ GivesReport plan profile bag name before after n =
     → (n ≡ status (ideal request (above plan.after report)))
     × Appends before.taken after.taken (concat (reported_lines request (above plan.after report)))
 
--- the law: over an honest disk, the check of one directory gives the report of the bag that stands
--- there
+-- the law: over an honest disk, the check of one directory, and not of a part of it, gives the report
+-- of the bag that stands there
 abbrev pub HonestDisksAreReported : Type 0
 HonestDisksAreReported =
     (plan : Plan) (profile : Option Profile) (below : List ℕ → DiskState) (name : List ℕ)
     (before after : OutState) (visits : List Event) (n : ℕ) → IsTrue (below name).honest
-    → AreChecksOf plan profile (λ name. tree_state (below name) 0) (name ∷ []) before after visits n
+    → plan.part ≡ None → AreChecksOf plan profile (λ name. tree_state (below name) 0) (name ∷ []) before after visits n
     → GivesReport plan profile (bag_of (below name).nodes) name before after n
 
 -- The folder's tree was left as the bag that the plan makes of what stood there, which has no fault
@@ -65,6 +65,14 @@ HonestFoldersAreMade =
     (before after : OutState) (visits : List Event) → IsTrue (below name).honest
     → AreMakingsOf plan (λ name. tree_state (below name) 0) (name ∷ []) before after visits 0
     → ReportsMade plan (tree_state (below name) 0) name before after visits
+
+-- the law: a check of a part never ends with 0, so that nobody takes its verdict for the bag's
+abbrev pub NoPartEndsWithZero : Type 0
+NoPartEndsWithZero =
+    (plan : Plan) (profile : Option Profile) (tree_of : List ℕ → TreeState) (name : List ℕ)
+    (names : List (List ℕ)) (before after : OutState) (visits : List Event) (n : ℕ)
+    → plan.part ≢ None → AreChecksOf plan profile tree_of (name ∷ names) before after visits n
+    → n ≢ 0
 
 -- a plan that checks one directory, without a profile
 abbrev pub IsCheckOfOne : Plan → List ℕ → Type 0

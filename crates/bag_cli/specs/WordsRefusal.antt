@@ -5,7 +5,7 @@ use Rattle.bag_arguments.specs.GivenRows.{check_name}
 use Rattle.bag_arguments.specs.declared.usage.Usage.{Usage}
 use Rattle.bag_arguments.specs.declared.usage.Usage.TheVariants.{Refused, NeedsValidate, TwoDepths}
 use Rattle.bag_arguments.specs.declared.usage.Usage.TheVariants.{AfterSeveral, AfterNotALine}
-use Rattle.bag_arguments.specs.declared.usage.Usage.TheVariants.{Memory}
+use Rattle.bag_arguments.specs.declared.usage.Usage.TheVariants.{PartOfDepth, NotAPart, Memory}
 
 -- a text with a line end at its end: its own, or else one after it
 abbrev pub with_line_end : List ℕ → List ℕ
@@ -20,4 +20,7 @@ usage_line TwoDepths =
     codes "bagit: more than one of --declaration-only, --fast, --completeness-only\n"
 usage_line AfterSeveral = codes "bagit: --after takes one directory\n"
 usage_line AfterNotALine = codes "bagit: --after is not a fault line\n"
+usage_line PartOfDepth =
+    codes "bagit: --part takes none of --declaration-only, --fast, --completeness-only\n"
+usage_line NotAPart = codes "bagit: --part is not K/N, with 1 <= K <= N <= 65536\n"
 usage_line Memory = codes "bagit: out of memory\n"

@@ -4,6 +4,7 @@ ghost use Rattle.bag_cli.specs.Checked.{IsSampleChecked};
 ghost use Rattle.bag_cli.specs.Status.{whole_status};
 
 use crate::check::check_sample;
+use crate::check_outcome::CheckOutcome;
 use crate::in_turn::Task;
 use crate::performing::REFUSED;
 use crate::saying::{say_memory, say_refused};
@@ -12,7 +13,6 @@ use crate::{Disks, Visits};
 use bag_arguments::Plan;
 use bag_profile::Profile;
 use bag_tree::Out;
-use bag_walk::{Outcome, status};
 use std::alloc::{AllocError, Global};
 
 /// Checks the sample bag, and says on `err` what was refused beside the report.
@@ -56,15 +56,17 @@ impl<D: Disks> Task<D> for Checks<'_, D> {
 
 /// Says on `err` what was refused beside the report, and gives the status where the whole report
 /// was written.
-fn status_of_whole<E: Out>(checked: &Result<Outcome, AllocError>, err: &mut E) -> Option<u8>
+fn status_of_whole<E: Out>(checked: &Result<CheckOutcome, AllocError>, err: &mut E) -> Option<u8>
     ensures { result ≡ whole_status checked.now }
 {
     match checked {
-        Ok(Outcome::Unwritten(_)) => {
-            say_refused(err);
-            None
+        Ok(outcome) => {
+            let status = outcome.status();
+            if status.is_none() {
+                say_refused(err);
+            }
+            status
         }
-        Ok(outcome) => Some(status(outcome)),
         Err(_) => {
             say_memory(err);
             None

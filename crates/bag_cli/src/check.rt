@@ -1,20 +1,21 @@
-//! One check: the report of one bag.
+//! One check: the report of one bag, or of a part of it.
 ghost use Rattle.std.specs.Prelude.{◌≡◌, IfOk, MatchResult};
 ghost use Rattle.std.specs.Option.{option_copied};
 ghost use Rattle.bag_cli.specs.Folders.{tree_in, visits_of};
-ghost use Rattle.bag_cli.specs.Checked.{request_of};
+ghost use Rattle.bag_cli.specs.Checked.{request_of, IsCheckBy};
 ghost use Rattle.bag_cli.specs.Checking.{ChecksFolder, ChecksTree, IsCheckOfSample};
 ghost use Rattle.bag_cli.specs.InTurn.{HasVisited};
 
+use crate::check_outcome::CheckOutcome;
 use crate::sample::sample_tree;
 use crate::work::Work;
 use crate::{Disks, Visits};
 use bag_arguments::Plan;
-use bag_facts::Fault;
+use bag_facts::{Fault, Part};
 use bag_profile::Profile;
 use bag_text::Text;
 use bag_tree::{Out, Tree};
-use bag_walk::{Outcome, Request, run};
+use bag_walk::{Request, run, run_part};
 use std::alloc::{AllocError, Global};
 
 impl<D: Disks> Work<'_, D> {
@@ -26,7 +27,7 @@ impl<D: Disks> Work<'_, D> {
         directory: &str,
         visits: &mut Visits<D>,
         out: &mut O,
-    ) -> Result<Outcome, AllocError>
+    ) -> Result<CheckOutcome, AllocError>
         ensures { HasVisited (visits_of visits.old) (visits_of visits.new) (λ own.
             ChecksFolder self.now.plan.now (option_copied profile.entry)
             (tree_in D.below self.now.folders.now directory.now) directory.now
@@ -44,7 +45,7 @@ pub(crate) fn check_sample<O: Out>(
     alloc: Global,
     plan: &Plan,
     out: &mut O,
-) -> Result<Outcome, AllocError>
+) -> Result<CheckOutcome, AllocError>
     ensures { MatchResult result
         (λ outcome. IsCheckOfSample plan.now (O.state out.old) (O.state out.new) outcome)
         (λ _. O.state out.new ≡ O.state out.old) }
@@ -63,17 +64,41 @@ fn check_tree<T: Tree, O: Out>(
     profile: Option<&Profile>,
     name: &str,
     out: &mut O,
-) -> (T, Result<Outcome, AllocError>)
+) -> (T, Result<CheckOutcome, AllocError>)
     ensures { ChecksTree plan.now (option_copied profile.entry)
         (T.state tree) (T.state result.0) name.now
         (O.state out.old) (O.state out.new) result.1 }
 {
     match request_for(alloc, plan, name) {
         Ok(request) => {
-            let (tree, outcome) = run(alloc, tree, profile, request, out);
+            let (tree, outcome) = check_asked(alloc, tree, plan.part, profile, request, out);
             (tree, Ok(outcome))
         }
         Err(AllocError) => (tree, Err(AllocError)),
+    }
+}
+
+/// Checks the bag of a tree, or a part of it where one is given, as is asked for.
+fn check_asked<T: Tree, O: Out>(
+    alloc: Global,
+    tree: T,
+    part: Option<Part>,
+    profile: Option<&Profile>,
+    request: Request,
+    out: &mut O,
+) -> (T, CheckOutcome)
+    ensures { IsCheckBy part (option_copied profile.entry) (T.state tree) (T.state result.0)
+        request (O.state out.old) (O.state out.new) result.1 }
+{
+    match part {
+        None => {
+            let (tree, outcome) = run(alloc, tree, profile, request, out);
+            (tree, CheckOutcome::OfBag(outcome))
+        }
+        Some(part) => {
+            let (tree, outcome) = run_part(alloc, tree, profile, part, request, out);
+            (tree, CheckOutcome::OfPart(outcome))
+        }
     }
 }
 

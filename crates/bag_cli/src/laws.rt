@@ -1,11 +1,17 @@
 //! Laws of the definitions, each the contract of a function that gives nothing.
 ghost use Rattle.bag_cli.specs.Reported.{HonestDisksAreReported, HonestFoldersAreMade};
+ghost use Rattle.bag_cli.specs.Reported.{NoPartEndsWithZero};
 ghost use Rattle.bag_cli.specs.Honest.{HonestFoldersAreReported};
 
 /// Over an honest disk the check of one directory, by a profile or without one, writes the report
 /// of the bag that stands there.
 pub fn honest_disks_are_reported()
     ensures { HonestDisksAreReported }
+{}
+
+/// A check of a part of a bag ends with another status than 0, which is a whole check's alone.
+pub fn no_part_ends_with_zero()
+    ensures { NoPartEndsWithZero }
 {}
 
 /// Over an honest disk the making of one directory that ends with status 0 left there the bag of

@@ -19,6 +19,7 @@
 mod all_checks;
 mod all_makings;
 mod check;
+mod check_outcome;
 mod disks;
 mod folders;
 mod in_turn;

@@ -6,6 +6,7 @@ ghost use Rattle.bag_cli.specs.WordsRefusal.{with_line_end, usage_line};
 
 use crate::saying::{say_memory, say_on};
 use bag_arguments::Usage;
+use bag_arguments::said::{NOT_A_PART, PART_OF_DEPTH};
 use bag_text::said;
 use bag_tree::Out;
 
@@ -32,6 +33,8 @@ fn say_usage<E: Out>(usage: &Usage, err: &mut E)
         Usage::TwoDepths => say_on(err, &[said::PROGRAM, said::TWO_DEPTHS, "\n"]),
         Usage::AfterSeveral => say_on(err, &[said::PROGRAM, said::AFTER_SEVERAL, "\n"]),
         Usage::AfterNotALine => say_on(err, &[said::PROGRAM, said::AFTER_NOT_A_LINE, "\n"]),
+        Usage::PartOfDepth => say_on(err, &[said::PROGRAM, PART_OF_DEPTH, "\n"]),
+        Usage::NotAPart => say_on(err, &[said::PROGRAM, NOT_A_PART, "\n"]),
         Usage::Memory => say_memory(err),
     }
 }

@@ -7,7 +7,7 @@ use bag_facts::Depth;
 use bag_text::Alg;
 use std::alloc::Global;
 
-/// How bags are checked, with what is given alone.
+/// How bags are checked, with what is given alone. A part is counted from 0.
 fn put_check(plan: &Plan, out: &mut Bytes) {
     out.put(match plan.options.depth {
         Depth::Declaration => "|declaration",
@@ -29,6 +29,11 @@ fn put_check(plan: &Plan, out: &mut Bytes) {
     if let Some(limit) = &plan.limit {
         out.put("|limit ");
         out.show(limit, "");
+    }
+    if let Some(part) = &plan.part {
+        out.put("|part ");
+        out.show(&part.number(), " of ");
+        out.show(&part.of(), "");
     }
     out.put(if plan.quiet { "|quiet|" } else { "|" });
 }

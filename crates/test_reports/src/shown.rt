@@ -77,6 +77,10 @@ const OPTIONS: &[(CheckOption, (&str, &str))] = &[
             "NeedsValidate(Clashes)",
         ),
     ),
+    (
+        CheckOption::Part,
+        ("bagit: --part needs --validate", "NeedsValidate(Part)"),
+    ),
 ];
 
 #[test]
@@ -97,6 +101,16 @@ fn refused_words(rt: HostRuntime) {
     try_shown(&rt, rt.alloc(), &Usage::AfterSeveral, texts);
     let texts = ("bagit: --after is not a fault line", "AfterNotALine");
     try_shown(&rt, rt.alloc(), &Usage::AfterNotALine, texts);
+    let texts = (
+        "bagit: --part takes none of --declaration-only, --fast, --completeness-only",
+        "PartOfDepth",
+    );
+    try_shown(&rt, rt.alloc(), &Usage::PartOfDepth, texts);
+    let texts = (
+        "bagit: --part is not K/N, with 1 <= K <= N <= 65536",
+        "NotAPart",
+    );
+    try_shown(&rt, rt.alloc(), &Usage::NotAPart, texts);
     let texts = ("bagit: out of memory", "Memory");
     try_shown(&rt, rt.alloc(), &Usage::Memory, texts);
     let refused = Usage::Refused(text_of(&rt, rt.alloc(), "error: 'x'\n"));

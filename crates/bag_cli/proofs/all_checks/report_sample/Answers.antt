@@ -1,5 +1,5 @@
 use Rattle.bag_cli.proofs.Common.{rules, ◌≡◌, inl, ◌∷◌, [], List, None, refl, MatchResult, codes, unwrap_or, Result, Ok}
-use Rattle.bag_cli.proofs.Common.{Err, OutState, Event, NotGiven, Outcome, Plan, HaveNoFailure, HasRunOut}
+use Rattle.bag_cli.proofs.Common.{Err, OutState, Event, NotGiven, CheckOutcome, Plan, HaveNoFailure, HasRunOut}
 use Rattle.bag_cli.proofs.Common.{IsCheckOfSample, IsLastCheck, IsVisitToCheck, IsWholeCheck, visit_of, sample_state}
 use Rattle.bag_cli.proofs.Common.{whole_status}
 use Rattle.bag_cli.proofs.Checks.{next_check}
@@ -8,7 +8,7 @@ use Rattle.bag_cli.proofs.all_checks.report_sample.Goals as goal
 
 -- the check of the sample, as a visit to a folder of its name during which no device failed, or as one that couldn't be
 -- given
-as_visit : {E : Type 0} (plan : Plan) (before after : OutState) (checked : Result Outcome E)
+as_visit : {E : Type 0} (plan : Plan) (before after : OutState) (checked : Result CheckOutcome E)
     → MatchResult checked (λ outcome. IsCheckOfSample plan before after outcome) (λ _. after ≡ before)
     → (visits : List Event) × HaveNoFailure visits
     × MatchResult checked

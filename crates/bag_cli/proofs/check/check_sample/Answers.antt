@@ -1,10 +1,10 @@
 use Rattle.bag_cli.proofs.Common.{◌≡◌, None, refl, subst, MatchResult, codes, Result, Ok, Err, OutState, TreeState}
-use Rattle.bag_cli.proofs.Common.{Outcome, Plan, IsCheckOf, IsCheckOfSample, sample_state}
+use Rattle.bag_cli.proofs.Common.{CheckOutcome, Plan, IsCheckOf, IsCheckOfSample, sample_state}
 use Rattle.bag_memory.specs.MemoryView.{state_of_memory}
 use Rattle.bag_cli.proofs.check.check_sample.Goals as goal
 
 -- the check of a tree that is the sample
-of_sample : {E : Type 0} (plan : Plan) (tree new : TreeState) (before after : OutState) (checked : Result Outcome E)
+of_sample : {E : Type 0} (plan : Plan) (tree new : TreeState) (before after : OutState) (checked : Result CheckOutcome E)
     → tree ≡ sample_state → new.failures ≡ 0
     → MatchResult checked (λ outcome. IsCheckOf plan None tree new (codes "sample") before after outcome) (λ _.
     (after ≡ before) × (new ≡ tree))

@@ -5,6 +5,7 @@ use Rattle.bag_tree.specs.declared.tree_fault.Stop.{Stop}
 use Rattle.bag_facts.specs.declared.fault.Fault.{Fault}
 use Rattle.bag_walk.specs.Ending.{ideal}
 use Rattle.bag_walk.specs.Run.{IsRunOf}
+use Rattle.bag_cli.proofs.Asked.{as_run, whole_status_is}
 use Rattle.bag_cli.proofs.laws.honest_disks_are_reported.Goals as goal
 
 -- a run that ends at the end of its report, or at its limit, with what it showed
@@ -18,4 +19,5 @@ told : (request : Request) (faults : List Fault) (Stops : Stop → Type 0) (befo
 told request faults Stops before after outcome no_failure run = grind arith
 
 pub returns : goal.returns
-returns c plan profile below name before after visits n honest checks no_failure report is = grind (arith, told)
+returns c plan profile below name before after visits n honest whole checks no_failure report is =
+    grind (arith, told, as_run, whole_status_is)
