@@ -1,6 +1,6 @@
 //! The examples of docs/LIBRARY.md, proved: a check by a profile that goes on after an earlier
-//! report, a check that passes over files that can't be read, a report in segments, a making with
-//! each refusal, and a tree and an output of one's own.
+//! report, a check that passes over files that can't be read, a report in segments and one in parts,
+//! a making with each refusal, and a tree and an output of one's own.
 #![tactic(auto)]
 
 mod check;
@@ -8,6 +8,7 @@ mod making;
 mod not_done;
 mod own_out;
 mod own_tree;
+mod parts;
 mod passing;
 mod segments;
 
@@ -16,5 +17,6 @@ pub use making::{Advice, make_bag};
 pub use not_done::NotDone;
 pub use own_out::LinesOut;
 pub use own_tree::CountingTree;
+pub use parts::check_part;
 pub use passing::check_what_can_be_read;
 pub use segments::check_in_segments;
