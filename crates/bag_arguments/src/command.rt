@@ -92,7 +92,7 @@ fn with_check_arguments<'a>(alloc: Global, command: Command<'a>) -> Result<Comma
             alloc,
             "part",
             "PART",
-            "Check part K of N alone, given as K/N: one process a part, for one DIRECTORY",
+            "Check part K of N alone, given as K/N; all parts together are the report",
         ))
 }
 

@@ -12,7 +12,7 @@ each fault is written on a line of its own, in a fixed order.";
 pub(crate) const AFTER: &str = "\
 Exit statuses, of several directories the greatest:
   0  each bag is without the faults that were looked for, or was made
-  1  a bag has faults, or the report began at --after or stopped at --max-faults
+  1  a bag has faults, or the report began at --after, stopped at --max-faults or is of a part
   2  the words or the profile are refused
   3  something wasn't read or written, a bag wasn't made, or memory ran out
 

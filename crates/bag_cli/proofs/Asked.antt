@@ -1,22 +1,25 @@
 -- What was asked for, a whole check or one of a part, is what was done.
-use Rattle.bag_cli.proofs.Common.{◌≡◌, ◌≢◌, ◌≤◌, ℕ, Option, Some, None, refl, arith, OutState, TreeState, Outcome}
+use Rattle.bag_cli.proofs.Common.{◌≡◌, ◌≢◌, ◌≤◌, ℕ, Option, Some, None, refl, subst, arith, OutState, TreeState, Outcome}
 use Rattle.bag_cli.proofs.Common.{Profile, Request, status, CheckOutcome}
 use Rattle.bag_facts.specs.Part.{Part}
 use Rattle.bag_walk.specs.WholeRun.{IsRunOver}
 use Rattle.bag_walk.specs.declared.part_run.PartOutcome.{PartOutcome}
-use Rattle.bag_walk.specs.PartRuns.{part_status}
 use Rattle.bag_cli.specs.Checked.{IsCheckBy}
 use Rattle.bag_cli.specs.Status.{check_status}
 use Rattle.bag_cli.specs.declared.check_outcome.CheckOutcome.TheVariants.{OfBag, OfPart}
 
 module _ (profile : Option Profile) (tree new : TreeState) (request : Request) (before after : OutState) where
+  run_of_none : (outcome : CheckOutcome) → IsCheckBy None profile tree new request before after outcome
+      → (whole : Outcome) × (outcome ≡ OfBag whole) × IsRunOver tree new profile request before after whole
+  run_of_none (OfBag whole) run = (whole, refl, run)
+  run_of_none (OfPart outcome) run = absurd run
+
   -- where no part is asked for, the whole report was
   pub as_run : (part : Option Part) (outcome : CheckOutcome) → part ≡ None
       → IsCheckBy part profile tree new request before after outcome
       → (whole : Outcome) × (outcome ≡ OfBag whole) × IsRunOver tree new profile request before after whole
-  as_run None (OfBag whole) e run = (whole, refl, run)
-  as_run None (OfPart outcome) e run = absurd run
-  as_run (Some part) outcome e run = cc
+  as_run part outcome e run =
+      run_of_none outcome (subst (λ p. IsCheckBy p profile tree new request before after outcome) e run)
 
   -- where a part is asked for, the status isn't 0
   pub part_is_no_zero : (part : Option Part) (outcome : CheckOutcome) (n : ℕ) → part ≢ None

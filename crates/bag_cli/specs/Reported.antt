@@ -74,7 +74,8 @@ NoPartEndsWithZero =
     → plan.part ≢ None → AreChecksOf plan profile tree_of (name ∷ names) before after visits n
     → n ≢ 0
 
--- a plan that checks one directory, without a profile
+-- a plan that checks one directory, all of it, without a profile
 abbrev pub IsCheckOfOne : Plan → List ℕ → Type 0
 IsCheckOfOne plan name =
     (plan.action ≡ Check) × (plan.profile ≡ None) × (plan.directories ≡ name ∷ [])
+    × (plan.part ≡ None)

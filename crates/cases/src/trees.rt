@@ -7,7 +7,7 @@ use crate::world::World;
 use bag_cli::{Action, Plan, elements, make_and_report, request_for};
 use bag_store::{FailTree, MemoryTree, Tree, WriteTree, WriterOut};
 use bag_text::Text;
-use bag_walk::{Request, run, status};
+use bag_walk::{Part, Request, run, run_part, status};
 use case_files::{Answer, Bytes, Mistake, Report, Sight};
 use std::alloc::{AllocError, Global};
 
@@ -36,6 +36,18 @@ fn checked<T: Tree + Drop>(alloc: Global, tree: T, request: Request) -> (T, Vec<
     (tree, out.into_inner(), status(&outcome))
 }
 
+/// The tree after a check of a part, what it wrote, and its exit status.
+fn checked_part<T: Tree + Drop>(
+    alloc: Global,
+    tree: T,
+    part: Part,
+    request: Request,
+) -> (T, Vec<u8>, u8) {
+    let mut out = WriterOut::new(Vec::<u8>::new(alloc));
+    let (tree, outcome) = run_part(alloc, tree, None, part, request, &mut out);
+    (tree, out.into_inner(), outcome.status())
+}
+
 /// The tree after a making, what was reported of the making, and the exit status.
 fn made<T: WriteTree + Drop>(
     alloc: Global,
@@ -62,7 +74,13 @@ fn done<T: WriteTree + Drop>(
             let info = elements(alloc, plan.info.as_slice())?;
             Ok(made(alloc, tree, plan, name, &info))
         }
-        _ => Ok(checked(alloc, tree, request_for(alloc, plan, name)?)),
+        _ => {
+            let request = request_for(alloc, plan, name)?;
+            Ok(match plan.part {
+                Some(part) => checked_part(alloc, tree, part, request),
+                None => checked(alloc, tree, request),
+            })
+        }
     }
 }
 

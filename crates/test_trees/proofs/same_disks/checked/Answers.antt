@@ -27,4 +27,4 @@ returns g c name one =
     let tree_of : List ℕ → TreeState = λ name. tree_state (below name) 0 in
     let check =
     subst (λ (names : List (List ℕ)). AreChecksOf plan None tree_of names before after visits n) one.2 checks in
-    c.honest_disks_are_reported.ensures plan None below name before after visits n refl check
+    c.honest_disks_are_reported.ensures plan None below name before after visits n refl one.3 check
