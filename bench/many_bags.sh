@@ -1,10 +1,11 @@
 #!/usr/bin/env bash
-# How long checks of 200 bags take, one process a bag and a report each, by one, two and four processes at a time: by the clock, the
-# least of several runs, with the files in the page cache. Each bag has 20 files of 256 KiB, with manifests of SHA-256 and SHA-512.
+# How long bagit-check-many takes over 200 bags, by one, two and four processes at a time: by the clock, the least of
+# several runs, with the files in the page cache. Each bag has 20 files of 256 KiB, with manifests of SHA-256 and
+# SHA-512.
 #
 # usage: bench/many_bags.sh [PROGRAM] [RUNS]
 #
-# PROGRAM is crates/bagit/out/bagit by default, which `rt run` and `rt ci` leave there.
+# PROGRAM is crates/bagit/out/bagit by default, which `rt run` and `rt ci` leave there. It needs Python.
 set -euo pipefail
 source "$(dirname "$0")/common.sh"
 
@@ -13,7 +14,7 @@ runs=${2:-3}
 
 make_room many
 cd "$work"
-mkdir bags reports
+mkdir bags
 
 for ((bag = 100; bag < 300; bag++)); do
     mkdir -p "bags/$bag/data"
@@ -22,17 +23,20 @@ for ((bag = 100; bag < 300; bag++)); do
     (cd "bags/$bag" && sha256sum data/* >manifest-sha256.txt && sha512sum data/* >manifest-sha512.txt)
 done
 
-# As docs/LARGE_BAGS.md has it, with so many processes.
+# A new round each time, by so many processes.
 check_all() {
+    rm -rf round
     find bags -mindepth 1 -maxdepth 1 -type d -print0 |
-        xargs -0 -P "$1" -I{} sh -c "'$program'"' --validate "$1" >"reports/${1##*/}.txt"; echo "$? $1"' sh {} >statuses
+        BAGIT=$program "$root/packaging/bagit-check-many" round --list - --jobs "$1"
 }
 
 one=
 for processes in 1 2 4; do
     took=
     for ((run = 0; run < runs; run++)); do took=$(least "$took" "$(elapsed check_all "$processes")"); done
-    [[ $(wc -l <statuses) == 200 && $(sort -n statuses | tail -n 1 | cut -d' ' -f1) == 0 ]]
+    [[ $("$root/packaging/bagit-check-many" round --table | grep -c $'^0\t') == 200 ]]
     one=${one:-$took}
-    awk -v processes="$processes" -v took="$took" -v one="$one" 'BEGIN { printf "200 bags, %d at a time: %d ms, %.2f times as fast as one at a time\n", processes, took, one / took }'
+    awk -v processes="$processes" -v took="$took" -v one="$one" 'BEGIN {
+        printf "200 bags, %d at a time: %d ms, %.2f times as fast as one at a time\n", processes, took, one / took
+    }'
 done
