@@ -1,6 +1,7 @@
 #!/usr/bin/env bash
-# Builds the Debian package twice, which has to give the same bytes; unpacks it, runs the program that is in it, renders its manual
-# pages where `man` is there, and completes words by bash. The options are the same set in --help, in bagit(1) and for each shell.
+# Builds the Debian package twice, which has to give the same bytes; unpacks it, runs the programs that are in it,
+# renders its manual pages if `man` is there, and completes arguments by bash, and by fish if that is there. The options
+# of each program are the same set in --help, in its manual page and for each shell.
 #
 # usage: tests/package.sh [PROGRAM]
 #
@@ -20,8 +21,13 @@ dpkg-deb --info "$package" control | grep -qx "Version: $(<"$root/VERSION")" || 
 dpkg-deb --control "$package" control
 (cd tree && md5sum --check --quiet ../control/md5sums)
 
-# The program, and the one that checks large bags by it.
+# The programs: bagit, and each script beside it.
 export PATH=$work/tree/usr/bin:$PATH
+programs=$(ls tree/usr/bin)
+diff <(cd "$root/packaging" && printf '%s\n' bagit bagit-*) - <<<"$programs" || give_up 'it has other programs'
+! grep -rl @VERSION@ tree || give_up 'a version is missing'
+
+# The program, and the one that checks large bags by it.
 [[ $(bagit) == 'sample has a good declaration' ]] || give_up 'the program does not check its sample'
 mkdir deposit
 echo a >deposit/a
@@ -30,17 +36,18 @@ bagit-check-large deposit report >printed
 diff report - <<<'deposit is valid'
 bagit-check-large --help >printed
 
-# Where the program is killed in the middle of a piece, no report is closed; started again, it goes on. A report that can't be
-# written doesn't end as one with faults.
+# If the program is killed in the middle of a piece, no report is closed; started again, it goes on. A report that can't
+# be written doesn't end as one with faults.
 echo b >deposit/data/b
 echo x >>deposit/data/a
 printf '#!/bin/sh\nbagit "$@" | head -c 250; exit 137\n' >killed
 chmod +x killed
 status=0
 BAGIT=$work/killed bagit-check-large deposit faults 2>printed || status=$?
-[[ $status == 3 && ! -e faults && -s faults.part ]] || give_up "bagit-check-large ends with $status where the program is killed"
+[[ $status == 3 && ! -e faults && -s faults.part ]] ||
+    give_up "bagit-check-large ends with $status if the program is killed"
 status=0
-bagit-check-large deposit faults >printed || status=$?
+bagit-check-large deposit faults >printed 2>errors || status=$?
 [[ $status == 1 ]] && ! bagit --validate deposit >printed
 diff faults printed || give_up 'bagit-check-large goes on otherwise after the program was killed'
 status=0
@@ -53,15 +60,17 @@ until [[ -e twice.part ]]; do sleep 0.1; done
 status=0
 bagit-check-large deposit twice 2>printed || status=$?
 touch asked
-[[ $status == 3 && $(<printed) == *'another bagit-check-large writes twice' ]] || give_up "a second bagit-check-large ends with $status"
+[[ $status == 3 && $(<printed) == *'another bagit-check-large writes twice' ]] ||
+    give_up "a second bagit-check-large ends with $status"
 wait "$!" || [[ $? == 1 ]]
 diff twice faults || give_up 'bagit-check-large was disturbed by a second one'
 [[ ! $(ls faults.* report.* twice.* 2>/dev/null) ]] || give_up "bagit-check-large leaves $(ls faults.* report.*)"
 
 # The manual pages have no warnings, and show no line of markup.
 share=$work/tree/usr/share
+manual() { gzip -dc "$share/man/$1".?.gz | sed 's/\\-/-/g'; }
 pages=0
-for page in man1/bagit man1/bagit-check-large man7/bagit-faults; do
+for page in man7/bagit-faults $(printf 'man1/%s\n' $programs); do
     gzip -dc "$share/man/$page".?.gz >page
     grep -q "bagit $(<"$root/VERSION")" page || give_up "$page has another version"
     if type -P man >/dev/null; then
@@ -72,36 +81,75 @@ for page in man1/bagit man1/bagit-check-large man7/bagit-faults; do
     fi
 done
 sed -n 's/^| \([1-8][0-9][0-9]\) | `\([a-z0-9-]*\)`.*/\1 \2/p' "$root/docs/FAULTS.md" | sort >written
-gzip -dc "$share/man/man7/bagit-faults.7.gz" | sed 's/\\-/-/g' | sed -n 's/^\.B \([1-8][0-9][0-9] [a-z0-9-]*\)$/\1/p' | sort | diff written - ||
+manual man7/bagit-faults | sed -n 's/^\.B \([1-8][0-9][0-9] [a-z0-9-]*\)$/\1/p' | sort | diff written - ||
     give_up 'bagit-faults(7) has other codes than docs/FAULTS.md'
 [[ $(wc -l <written) -gt 40 ]] || give_up 'docs/FAULTS.md has no codes'
 
-# The options of each.
-options() { grep -oE -- '(^|[^a-z0-9-])(--[a-z][a-z0-9-]*|-h)\b' | grep -oE -- '--?[a-z0-9-]+' | LC_ALL=C sort -u; }
-bagit --help | sed -n '/^Options:/,/^Exit statuses/p' | grep -E '^ +(-h, )?--' | sed -E 's/  +[A-Z].*//' | options >in_help
-[[ $(wc -l <in_help) -gt 30 ]] || give_up '--help has no options'
-gzip -dc "$share/man/man1/bagit.1.gz" | sed 's/\\-/-/g' | sed -n '/^.SH OPTIONS/,/^.SH OUTPUT/p' | options | diff in_help - ||
-    give_up 'bagit(1) has other options than --help'
-options <"$share/bash-completion/completions/bagit" | diff in_help - || give_up 'bash completes other options'
-sed -n "s/^ *'\(-[a-z0-9-]*\)\[.*/\1/p" "$share/zsh/vendor-completions/_bagit" | LC_ALL=C sort | diff in_help - || give_up 'zsh completes other options'
-sed -nE 'h; s/.* -l ([a-z0-9-]+).*/--\1/p; g; s/.* -s (h) .*/-\1/p' "$share/fish/vendor_completions.d/bagit.fish" | LC_ALL=C sort |
-    diff in_help - || give_up 'fish completes other options'
+# The options of each program.
+bash=$share/bash-completion/completions zsh=$share/zsh/vendor-completions fish=$share/fish/vendor_completions.d
+all_options=0
+for name in $programs; do
+    "$name" --help | sed -nE 's/^ {2,}(-[a-z], )?(--[a-z0-9-]+) ?.*/\1\2/p' | sed 's/, /\n/' | sort >in_help
+    (($(wc -l <in_help) > 5)) || give_up "$name --help has no options"
+    manual "man1/$name" | sed -n '/^\.SH OPTIONS/,/^\.SH/p' | grep -oE -- '(^|[^a-z0-9-])(--[a-z][a-z0-9-]*|-h)\b' |
+        grep -oE -- '--?[a-z0-9-]+' | sort -u | diff in_help - || give_up "$name(1) has other options than --help"
+    sed -n "s/.*compgen -W '\(.*\)' -- .*/\1/p" "$bash/$name" | tr ' ' '\n' | sort | diff in_help - ||
+        give_up "bash completes other options of $name"
+    sed -n "s/^ *'\(-[a-z0-9-]*\)=\{0,1\}\[.*/\1/p" "$zsh/_$name" | sort | diff in_help - ||
+        give_up "zsh completes other options of $name"
+    sed -nE 'h; s/.* -l ([a-z0-9-]+).*/--\1/p; g; s/.* -s ([a-z]) .*/-\1/p' "$fish/$name.fish" | sort |
+        diff in_help - || give_up "fish completes other options of $name"
+    all_options=$((all_options + $(wc -l <in_help)))
+done
 
-# What bash completes.
-source "$share/bash-completion/completions/bagit"
+# What bash completes. After `--` there are no options; an equals sign is an argument of its own.
 mkdir -p here/photographs here/plans
 touch here/profile.json
 completes() {
     local wanted=$1
     shift
+    source "$bash/$1"
     COMP_WORDS=("$@") COMP_CWORD=$(($# - 1))
-    (cd here && _bagit && printf '%s\n' "${COMPREPLY[@]}") | sort | paste -sd ' ' | diff - <(echo "$wanted") ||
+    (cd here && "_${1//-/_}" && printf '%s\n' "${COMPREPLY[@]}") | sort | paste -sd ' ' | diff - <(echo "$wanted") ||
         give_up "bash completes '$*' otherwise"
 }
 completes '--fast' bagit --validate --fa
 completes '--completeness-only --contact-email --contact-name --contact-phone' bagit --co
 completes 'photographs plans' bagit --validate p
 completes 'photographs plans profile.json' bagit --validate --profile p
+completes 'photographs plans profile.json' bagit --validate --profile = p
+completes 'photographs plans profile.json' bagit --validate --profile =
+completes 'profile.json' bagit --profile = pr --validate --profile = pr
 completes '' bagit --contact-name p
+completes '' bagit --contact-name = p
+completes 'photographs plans' bagit -- p
+completes '' bagit -- --v
+completes 'photographs plans' bagit -- --validate p
+completes 'photographs plans profile.json' bagit-report p
+completes '--files' bagit-report --fi
+completes '' bagit-report --files 6
+completes '' bagit-report -- --fi
+completes 'photographs plans profile.json' bagit-check-large --profile = p
+completes 'photographs plans profile.json' bagit-check-large photographs p
+completes '' bagit-check-large -- --p
+completes 'photographs plans' bagit-check-many round p
+completes 'photographs plans profile.json' bagit-check-many round --list = p
+completes 'photographs plans' bagit-check-many --since p
+completes '' bagit-check-many --jobs p
 
-echo "the package is built twice the same, and has $(wc -l <in_help) options and $(wc -l <written) codes in all its pages; $pages pages were rendered"
+# What fish completes: the arguments in the first column.
+if type -P fish >/dev/null; then
+    fish_completes() {
+        (cd here && HOME=$work fish --no-config -c "source $fish/${2%% *}.fish; complete -C '$2'") | cut -f1 | sort |
+            paste -sd ' ' | diff - <(echo "$1") || give_up "fish completes '$2' otherwise"
+    }
+    fish_completes '--fast' 'bagit --validate --fa'
+    fish_completes 'photographs/ plans/' 'bagit --validate p'
+    fish_completes '--profile=photographs/ --profile=plans/ --profile=profile.json' 'bagit --profile=p'
+    fish_completes '' 'bagit -- --v'
+    fish_completes 'photographs/ plans/' 'bagit -- p'
+    fish_completes 'photographs/ plans/ profile.json' 'bagit-report p'
+fi
+
+echo "the package is built twice the same, and has $(wc -w <<<"$programs") programs, $all_options options" \
+    "and $(wc -l <written) codes in all its pages; $pages pages were rendered"
