@@ -1,0 +1,140 @@
+"""Cuts the power of real Linux file systems while a folder is made a bag, and says what is lost.
+
+Each trial is a small virtual machine. In it the folder is made a bag on a disk that notes each write and flush that
+the kernel's file system asks for. At each moment a power cut may leave more than one disk, since the disk has a cache
+that is lost: what was flushed is on it, and of all other writes none, all, all but one, only one, some, some blocks,
+or the last one torn. As many of these states are taken as --states says, each different. The kernel mounts each, and
+this is a loss:
+
+  not mounted    the kernel can't mount it
+  files lost     a file of the folder is whole neither at its place nor in .bagit-new or data
+  bag lost       after the line `made` the folder isn't the whole bag, or isn't valid
+  falsely valid  the program says that a bag is valid which lacks a file of the folder
+  no way back    before `made`, what docs/NOT_MADE.md says doesn't bring the folder back
+
+It doesn't show: other kernels than the one it names, large folders, disks that tear a block of 4 KiB, several disks
+together, network shares. File systems with a * lose files or bags: they are shown, and don't count. `without syncs` is
+the laboratory's own test, and must lose something.
+
+The status is 0 if nothing is lost, 1 if something is, 2 if a trial failed, or `without syncs` lost nothing, and 77 if
+this machine can't: it needs Debian's packages, which are named then, and 1 GB of memory for each job.
+"""
+import argparse
+import sys
+from concurrent.futures import ThreadPoolExecutor
+from datetime import date
+from os import access, X_OK
+from pathlib import Path
+
+from file_systems import FILE_SYSTEMS
+from machine import answer_to, missing_packages, starts, stop
+
+FAILED, SKIPPED = 2, 77
+PROGRAM = Path(__file__).resolve().parents[2] / "crates/bagit/out/bagit"
+QUICK = ["ext4", "xfs", "btrfs", "f2fs"]
+VARIANTS = {"no-syncs": "without syncs", "lying-disk": "on a disk that lies"}
+LOSSES = ("not mounted", "files lost", "bag lost", "falsely valid", "no way back")
+COLUMNS = ("writes", "flushes", "states", "folders", *LOSSES, "states that lose", "seconds")
+
+
+def file_systems(text):
+    names = text.split(",")
+    if not set(names) <= set(FILE_SYSTEMS):
+        raise argparse.ArgumentTypeError(f"these are known: {' '.join(FILE_SYSTEMS)}")
+    return names
+
+
+def options():
+    form = argparse.RawDescriptionHelpFormatter
+    parser = argparse.ArgumentParser("tests/real_disks.sh", description=__doc__, formatter_class=form)
+    add = parser.add_argument
+    add("program", metavar="PROGRAM", nargs="?", default=str(PROGRAM), help="by default crates/bagit/out/bagit")
+    add("--quick", action="store_true", help=f"{', '.join(QUICK)} in 200 states each: some minutes")
+    add("--file-systems", type=file_systems, metavar="NAME,..", help=f"of these: {' '.join(FILE_SYSTEMS)}")
+    add("--variant", choices=VARIANTS, help="no-syncs: no sync does anything; lying-disk: no flush keeps anything")
+    add("--states", type=int, metavar="N", help="how many are tried of each file system (1500)")
+    add("--jobs", type=int, default=2, metavar="N", help="how many machines run at once (2)")
+    add("--seed", type=int, default=1, metavar="N", help="for the choice of the states (1)")
+    return parser.parse_args()
+
+
+def jobs_of(chosen):
+    """The trials that were asked for, and without a variant also one that must lose something."""
+    names = chosen.file_systems or (QUICK if chosen.quick else list(FILE_SYSTEMS))
+    job = {"program": str(Path(chosen.program).resolve()), "seed": chosen.seed, "settle": 1 if chosen.quick else 7}
+    job.update(variant=chosen.variant, states=chosen.states or (200 if chosen.quick else 1500), must_lose=False)
+    jobs = [{**job, "file system": name} for name in names]
+    if not chosen.variant:
+        jobs.append({**jobs[0], "variant": "no-syncs", "states": 60, "must_lose": True})
+    return jobs
+
+
+def answers_to(jobs, at_once):
+    answers = []
+    with ThreadPoolExecutor(at_once) as pool:
+        try:
+            for job, answer in zip(jobs, pool.map(answer_to, jobs)):
+                print("done:", name_of(job), file=sys.stderr)
+                answers.append(answer)
+        except KeyboardInterrupt:
+            stop()
+            raise
+    return answers
+
+
+def name_of(job):
+    star = "" if FILE_SYSTEMS[job["file system"]].is_promised else "*"
+    return f"{job['file system']}{star} {VARIANTS.get(job['variant'], '')}".strip()
+
+
+def print_table(jobs, answers):
+    rows = [["", *COLUMNS]]
+    for job, answer in zip(jobs, answers):
+        cells = {**answer, **answer.get("losses", {})}
+        rows.append([name_of(job), *(str(cells.get(column, 0)) for column in COLUMNS)])
+    widths = [max(map(len, column)) for column in zip(*rows)]
+    for name, *cells in rows:
+        print(name.ljust(widths[0]), *(cell.rjust(width) for cell, width in zip(cells, widths[1:])), sep="  ")
+
+
+def print_details(jobs, answers):
+    for job, answer in zip(jobs, answers):
+        texts = [answer["failed"]] if "failed" in answer else answer["examples"]
+        for text in [] if job["must_lose"] and "failed" not in answer else texts:
+            print(f"{name_of(job)}: {text}")
+
+
+def status_of(jobs, answers):
+    status = 0
+    for job, answer in zip(jobs, answers):
+        has_lost = answer.get("losses", {}).get("states that lose", 0) > 0
+        if "failed" in answer or job["must_lose"] and not has_lost:
+            return FAILED
+        if has_lost and not job["must_lose"] and FILE_SYSTEMS[job["file system"]].is_promised:
+            status = 1
+    return status
+
+
+def main():
+    chosen = options()
+    jobs = jobs_of(chosen)
+    if not access(chosen.program, X_OK):
+        print(f"there is no program {chosen.program}", file=sys.stderr)
+        return FAILED
+    missing = missing_packages({job["file system"] for job in jobs})
+    if missing:
+        print("skipped: packages are missing; as root: apt-get install", *missing)
+        return SKIPPED
+    if not starts():
+        print("skipped: user-mode Linux doesn't start here")
+        return SKIPPED
+    answers = answers_to(jobs, chosen.jobs)
+    kernels = {answer["kernel"] for answer in answers if "kernel" in answer}
+    print(f"Linux {' '.join(kernels)}, {date.today()}, {chosen.program}")
+    print_table(jobs, answers)
+    print_details(jobs, answers)
+    return status_of(jobs, answers)
+
+
+if __name__ == "__main__":
+    sys.exit(main())
