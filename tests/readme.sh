@@ -1,21 +1,22 @@
 #!/usr/bin/env bash
-# Follows the pages for users as they are written: README's first session, with what it says that is printed; the ways back of
-# docs/NOT_MADE.md, over folders as a making leaves them; the scripts of docs/LARGE_BAGS.md over 40 bags of which five are bad; the
-# commands of docs/FAULTS.md that find too long paths and go on after a file that can't be read; the keys of docs/PROFILES.md; what
-# docs/LIBRARY.md quotes.
+# Follows the pages for users as they are written: README's sessions, with what they say that is printed, and its
+# commands; the ways back of docs/NOT_MADE.md, over folders as a making leaves them; the scripts of docs/LARGE_BAGS.md
+# over 40 bags of which five are bad; the commands of docs/FAULTS.md, which mend no damage away and run no name; the
+# keys of docs/PROFILES.md; what docs/LIBRARY.md quotes.
 #
 # usage: tests/readme.sh [PROGRAM]
 #
-# PROGRAM is crates/bagit/out/bagit by default. It needs Python; GNU parallel is tried where it is there. The last line says how much
-# was followed.
+# PROGRAM is crates/bagit/out/bagit by default. It needs Python, and rt for README's first look; GNU parallel is tried
+# where it is there. The last line says how much was followed.
 set -euo pipefail
 source "$(dirname "$0")/common.sh"
 take_program bagit "${1:-}"
 needs python3
+needs rt
 enter pages
 mkdir bin
 ln -s "$program" bin/bagit
-ln -s "$root/packaging/bagit-check-large" bin/
+ln -s "$root"/packaging/bagit-* bin/
 export PATH=$work/bin:$PATH
 followed=0
 
@@ -37,15 +38,41 @@ blocks() {
 # The block of a number.
 block() { blocks "$1" "$2" | awk -v RS='\n?\f\n' -v n="$3" 'NR == n'; }
 
-# README's first session: what stands below a line "$ COMMAND" is what it prints. A file that a command shows is made first, and
-# `ls` writes in columns to a terminal alone.
-follow_session() {
+# Follows a block of a page in a shell of its own, with other texts in the place of some of its own.
+follow() { # PAGE HEADING NUMBER [TEXT OTHER]..
+    local way
+    way=$(block "$1" "$2" "$3")
+    [[ $way ]] || give_up "$1: no block $3 below $2"
+    shift 3
+    while (($#)); do
+        [[ $way == *"$1"* ]] || give_up "no block has $1: $way"
+        way=${way//"$1"/"$2"}
+        shift 2
+    done
+    bash <<<"$way"
+}
+
+# Runs a command that has to fail; what it prints is in `printed`.
+fails() { # WHAT COMMAND..
+    ! "${@:2}" >printed 2>&1 || give_up "$1: ${*:2} ends with 0"
+}
+
+# README's first look builds the program without its proofs, which takes a while: that is done beside all else.
+mkdir look session installed
+echo a >look/a
+bagit --quiet look
+(cd "$root" && follow README.md 'A first look, and two commands' 1 /path/to/a/bag "$work/look") >looked 2>&1 &
+looks=$!
+trap 'wait; rm -rf "$work"' EXIT
+
+# README's sessions: what is below a line "$ COMMAND" is what it prints. A file that a command shows, and that isn't
+# there, is made first; `ls` writes in columns to a terminal alone.
+follow_sessions() {
     local line command='' wanted='' status=0
     compare() {
         local ended=0
         [[ $command ]] || return 0
-        [[ $command != cat\ * ]] || printf '%s' "$wanted" >"${command#cat }"
-        [[ $command != ls\ * ]] || wanted=$(xargs -n 1 <<<"$wanted")$'\n'
+        [[ $command != cat\ * || -e ${command#cat } ]] || printf '%s' "$wanted" >"${command#cat }"
         eval "${command/'$?'/$status}" >"$work/printed" 2>&1 || ended=$?
         status=$ended
         printf '%s' "$wanted" | diff - "$work/printed" || give_up "README: $command prints something else"
@@ -57,14 +84,60 @@ follow_session() {
             $'\f' | '') ;;
             *) wanted+=$line$'\n' ;;
         esac
-    done < <(blocks README.md 'A first session')
+    done < <(blocks README.md bagit; blocks README.md 'Stopping, and checking by a profile')
     compare
 }
 
-mkdir session
-(cd session && follow_session && echo "$followed" >"$work/followed")
+(cd session && follow_sessions && echo "$followed" >"$work/followed")
 followed=$(<followed)
-((followed > 10)) || give_up 'README: its first session was not found'
+((followed > 10)) || give_up 'README: its sessions were not found'
+
+# A bag with a file whose name would run `touch pwned`.
+hostile=$'it\'s;touch${IFS}pwned;$(touch pwned)`touch pwned`"\\x41 50%'
+new_hostile() {
+    rm -rf "$1"
+    mkdir "$1"
+    echo a >"$1/a"
+    echo b >"$1/$hostile"
+    bagit --quiet --md5 --sha512 "$1"
+}
+runs_nothing() { [[ ! $(find . -name pwned) ]] || give_up "$1: a name ran a command"; }
+
+# README goes on after a line of it.
+new_hostile letters
+rm "letters/data/$hostile"
+fails README bagit --validate --max-faults 2 letters
+mv printed report
+goes_on=$(blocks README.md 'Stopping, and checking by a profile' | sed -n 's/^\$ \(.* --after .*\)/\1/p')
+fails README eval "$goes_on"
+[[ $(tail -n 1 printed) == 'letters rest done, faults: 1' ]] || give_up "README: $goes_on says $(<printed)"
+runs_nothing README
+rm -r letters report
+
+# README's two commands, by a stand-in for rt; the gate, which runs this script, isn't run. What is installed runs.
+cat >rt <<END
+#!/usr/bin/env bash
+[[ \${PWD##*/} == bagit && "\$1 \$2 \$4" == 'run --jobs --' ]] && exec "$program" "\${@:5}"
+END
+chmod +x rt
+mapfile -t commands < <(block README.md 'A first look, and two commands' 2 | grep -v '^#')
+[[ ${#commands[@]} == 2 && ${commands[1]} == 'bash .ci/run' && -x $root/.ci/run ]] && bash -n "$root/.ci/run" ||
+    give_up 'README: the gate is another command'
+(cd "$root" && PATH=$work:$PATH bash <<<"${commands[0]/"/path/to/a/bag"/$work/look}") >printed || true
+[[ $(<printed) == "$work/look is valid" ]] || give_up "README: ${commands[0]} says $(<printed)"
+rm rt
+(cd "$root" && follow README.md Install 1 crates/bagit/out/bagit "$work/bin/bagit" /usr/local/bin/ "$work/installed/")
+for companion in installed/bagit-*; do
+    "$companion" --help >printed && [[ -s printed ]] || give_up "README: $companion is not installed"
+done
+[[ $(installed/bagit) == 'sample has a good declaration' ]] || give_up 'README: bagit is not installed'
+followed=$((followed + 4))
+
+# Ends the script with what was printed last.
+wrong() {
+    cat printed
+    give_up "$*"
+}
 
 # A folder, and what a making that was cut off leaves of it.
 new_folder() {
@@ -77,46 +150,371 @@ new_folder() {
     cp -a photographs whole
 }
 
-# Follows a block in a shell of its own, and sees that the folder is again what it was.
-goes_back() {
-    block docs/NOT_MADE.md "$1" "$2" >way
-    [[ -s way ]] || give_up "docs/NOT_MADE.md: no block $2 below $1"
-    bash -e way >printed 2>&1 < <(yes 2>/dev/null) || { cat printed; give_up "docs/NOT_MADE.md: block $2 of '$1' ended with an error"; }
-    diff -r whole photographs || give_up "docs/NOT_MADE.md: block $2 of '$1' leaves something else ($3)"
+# Follows a way back in a shell of its own, and sees that the folder is again what it was.
+goes_back() { # NUMBER WHAT-IS-THERE
+    block docs/NOT_MADE.md 'If making a bag failed or was interrupted' "$1" >way
+    [[ -s way ]] || give_up "docs/NOT_MADE.md: no way back $1"
+    [[ $2 != 'a bag' ]] || sed -i 's/^rm -f/rm -i/' way
+    bash -e way >printed 2>&1 < <(yes 2>/dev/null) || wrong "docs/NOT_MADE.md: way back $1 ended with an error"
+    diff -r whole photographs || give_up "docs/NOT_MADE.md: way back $1 leaves something else ($2)"
     followed=$((followed + 1))
 }
 
-title='After `not made`, or a making that was cut off'
 for moved in '' a 'a inner' 'a inner data .hidden'; do
     new_folder
     mkdir photographs/.bagit-new
     for name in $moved; do mv "photographs/$name" photographs/.bagit-new/; done
-    goes_back "$title" 1 "moved: $moved"
+    goes_back 1 "moved: $moved"
 done
 for written in 0 1 3 6; do
     new_folder
     bagit photographs >printed
     (cd photographs && ls ./*.txt | tail -n +$((written + 1)) | xargs -r rm)
-    goes_back "$title" 2 "$written tag files"
+    goes_back 2 "$written tag files"
 done
 new_folder
 bagit photographs >printed
 rm -rf whole
 cp -a photographs whole
 bagit photographs >printed
-goes_back 'A bag in a bag' 1 'a bag'
+goes_back 2 'a bag'
 (cd photographs && [[ $(bagit --validate .) == '. is valid' ]]) || give_up 'the inner bag is not what it was'
 
-# A copy elsewhere is made a bag.
-new_folder
-mkdir archive
-block docs/NOT_MADE.md 'Changing a bag, or making one elsewhere' 1 | sed "s#/archive/#$work/archive/#g" | bash -e >printed
-[[ $(<printed) == "$work/archive/photographs made" ]] && bagit --validate --quiet archive/photographs && diff -r whole photographs ||
-    give_up 'docs/NOT_MADE.md: a copy elsewhere is made otherwise'
-followed=$((followed + 1))
+# The picture: stopped at the step of a tag file, a folder is as the row above says.
+pictured() { # TAG-FILE ANSWER ROW
+    local names name
+    rm -rf pictured
+    mkdir -p pictured/b ${1:+"pictured/$1"}
+    touch pictured/a.txt pictured/b/c.txt
+    [[ $(bagit pictured || true) == "pictured $2" ]] || give_up "docs/NOT_MADE.md: the step of $1 has another number"
+    read -r -a names < <(sed -n "s/^$3  //p" "$root/docs/NOT_MADE.md") || true
+    ((${#names[@]} > 2)) || give_up "docs/NOT_MADE.md: its picture has no row $3"
+    for name in "${names[@]}"; do
+        [[ $name != */* || -e pictured/$name ]] || give_up "docs/NOT_MADE.md: in the row $3 there is no $name"
+    done
+    followed=$((followed + 1))
+}
+pictured bagit.txt 'not made: step 5 exists' 4
+pictured bag-info.txt 'not made: step 6 exists' '5, 6, \.\.'
+pictured '' made made
 
-# LARGE_BAGS: a bag in pieces, and forty bags.
-page=$root/docs/LARGE_BAGS.md
+# The script of a page, as a file that runs.
+script() { # PAGE FILE
+    awk '/^```/ { inside = /^```sh$/; next } inside' "$root/docs/$1" >"$2"
+    [[ -s $2 ]] || give_up "docs/$1: it has no script"
+    chmod +x "$2"
+}
+script NOT_MADE.md renew
+script RECEIVING.md fetch
+
+# `sync` waits for all that a machine writes, which a test needn't.
+ln -s "$(type -P true)" bin/sync
+
+# Puts a program into `meanwhile` that runs a command before or after its Nth call: damage that comes meanwhile.
+between() { # PROGRAM N before|after COMMAND
+    rm -rf meanwhile
+    mkdir meanwhile
+    cat >"meanwhile/$1" <<END
+#!/usr/bin/env bash
+echo >>"$work/meanwhile/calls"
+came() { if [[ \$(wc -l <"$work/meanwhile/calls") == $2 && \$1 == $3 ]]; then (cd "$work" && $4); fi }
+came before
+status=0
+"$(type -P "$1")" "\$@" || status=\$?
+came after
+exit \$status
+END
+    chmod +x "meanwhile/$1"
+}
+flip() { printf X | dd of="$1" bs=1 seek=1 conv=notrunc status=none; }
+export -f flip
+
+# Follows a block among such programs: with the damage `true` it has to succeed, and else to fail.
+tells_damage() { # WHAT DAMAGE BLOCK
+    local status=0 wanted=1
+    [[ $3 ]] || give_up "$1: there is no such block"
+    [[ $2 != true ]] || wanted=0
+    PATH=$work/meanwhile:$PATH bash <<<"$3" >printed 2>&1 || status=1
+    ((status == wanted)) || wrong "$1 ends with $status after '$2'"
+    followed=$((followed + 1))
+}
+
+# A bag of MD5, with a name that must not run, a tag file of its own and elements that no option has; and what is added.
+odd=$'-b/it\'s $(touch pwned) 100%\n"x" '
+new_bag() {
+    rm -rf photographs* letters scans whole
+    mkdir -p photographs/{2023,2024,drafts,b,-b} letters scans/2025
+    for name in 2023/a.txt 2024/a drafts/d b/c.txt "$odd"; do echo "$name" >"photographs/$name"; done
+    cp -a photographs whole
+    echo letter >'letters/a letter'
+    echo scan >scans/2025/s
+    bagit --quiet --md5 photographs
+    bagit --quiet --sha1 letters
+    printf 'X-Own: 1\r\n x\r\nX-Own: 2\r\n%s' "$(<photographs/bag-info.txt)" >elements
+    mv elements photographs/bag-info.txt
+    mkdir photographs/own
+    echo note >'photographs/own/100%'
+    sed -i /bag-info/d photographs/tagmanifest-md5.txt
+    (cd photographs && md5sum bag-info.txt own/* | sed s/%/%25/ >>tagmanifest-md5.txt)
+    bagit --validate photographs >printed || wrong 'the bag that is to be changed is not valid'
+}
+mapfile -t changes < <(block docs/NOT_MADE.md 'Changing a bag' 1)
+((${#changes[@]} == 4)) || give_up "docs/NOT_MADE.md: ${#changes[@]} ways to change a bag"
+
+# Changes the bag; it is valid then, with its elements and tag files and the payload that it should have.
+is_changed_by() { # CHANGE
+    local page="docs/NOT_MADE.md: '$1'" others
+    bash <<<"$1" >printed 2>&1 || wrong "$page fails"
+    bagit --validate --quiet photographs photographs.old >printed || wrong "$page leaves no valid bag"
+    diff -r whole photographs/data || give_up "$page makes another payload"
+    grep -v ^Payload-Oxum photographs/bag-info.txt >elements
+    [[ $(<elements) == $'X-Own: 1\n x\nX-Own: 2' ]] || give_up "$page loses elements"
+    grep -q ' own/100%25$' photographs/tagmanifest-md5.txt || give_up "$page loses a tag file"
+    others=$(find . -name pwned -o -name photographs.new)
+    [[ ! $others ]] || give_up "$page leaves $others"
+    rm -r photographs.old
+    followed=$((followed + 1))
+}
+new_bag
+is_changed_by "${changes[0]}"
+cp -a scans/. whole/
+is_changed_by "${changes[1]}"
+mkdir whole/2024/letters
+cp -a letters/data/. whole/2024/letters/
+is_changed_by "${changes[2]}"
+rm -r whole/drafts whole/b
+is_changed_by "${changes[3]}"
+manifests=$(cd photographs && echo manifest-*.txt)
+[[ $manifests == 'manifest-md5.txt manifest-sha1.txt manifest-sha256.txt manifest-sha512.txt' ]] ||
+    give_up "docs/NOT_MADE.md: a changed bag has $manifests"
+
+# Damage that comes at the Nth call of bagit stops the change, and the bag stays where it is.
+stops() { # CHANGE MESSAGE N before|after COMMAND
+    local page="docs/NOT_MADE.md: '$1', with '${*:5}' $4 call $3"
+    between bagit "$3" "$4" "${*:5}"
+    tells_damage "$page" damage "$1"
+    [[ -d photographs && ! -e photographs.old ]] || wrong "$page goes on"
+    grep -qE "$2" printed || wrong "$page does not say $2"
+}
+damaged=data/2023/a.txt
+for change in "${changes[@]}"; do
+    call=1
+    [[ $change != bagit* ]] || call=2
+    new_bag
+    stops "$change" "^701 payload-sum-differs $damaged md5 " $call before flip photographs/$damaged
+    new_bag
+    stops "$change" "changed or lost: md5 .* $damaged" $call after flip photographs/$damaged
+done
+while read -r call moment damage; do
+    read -r message
+    new_bag
+    stops "${changes[3]}" "$message" "$call" "$moment" "$damage"
+done <<'END'
+1 after rm photographs/data/2024/a
+changed or lost: md5 .* data/2024/a
+1 after echo more >photographs/data/more
+^> data/more
+1 after flip photographs/bag-info.txt
+changed or lost: md5 .* bag-info.txt
+1 after flip photographs/own/100%
+changed or lost: md5 .* own/100%25
+1 after flip photographs/manifest-md5.txt
+changed or lost
+2 after flip photographs/data/2023/a.txt
+^701 payload-sum-differs data/2023/a.txt md5
+2 after flip photographs.new/manifest-md5.txt
+changed or lost: md5
+2 before kill -9 $PPID $$
+Killed
+END
+rm -r photographs.new whole/drafts whole/b
+is_changed_by "${changes[3]}"
+new_bag
+stops "${changes[2]}" 'changed or lost: sha1 .* data/2024/letters/a letter' 1 after 'flip "letters/data/a letter"'
+
+# What other tools write, by version 0.97, is compared too.
+for spelling in 's/  / */' 's/$/\r/' 's/^[0-9a-f]*/\U&/; s/  / \t.\//' '1s/^/\xef\xbb\xbf/'; do
+    for damage in '' "flip photographs/$damaged"; do
+        new_bag
+        sed -i s/1.0/0.97/ photographs/bagit.txt
+        sed -i "s/%25/%/; $spelling" photographs/*manifest-md5.txt
+        sed -i '/bagit.txt/d; /manifest-/d' photographs/tagmanifest-md5.txt
+        if [[ $damage ]]; then
+            stops "${changes[0]}" "changed or lost: md5 .* $damaged" 1 after "$damage"
+        else
+            is_changed_by "${changes[0]}"
+        fi
+    done
+done
+
+# One bag becomes two; what is in both, or in none, is named.
+split=$(block docs/NOT_MADE.md 'Changing a bag' 2)
+for damage in true 'rm photographs/data/2023/a' 'rm drafts/data/drafts/d'; do
+    rm -rf photographs* drafts*
+    mkdir -p photographs/{2023,2024,drafts}
+    for name in 2023/a 2023/b 2024/a drafts/d drafts/e; do echo "$name" >"photographs/$name"; done
+    bagit --quiet --sha256 photographs
+    gone=${damage#rm }
+    [[ $damage == true ]] || gone="rm -r ${gone%%/*}.old; ./renew ${gone%%/*} remove ${gone#*/data/}"
+    tells_damage 'docs/NOT_MADE.md: a bag that is split' "$damage" "${split/$'\n'/$'\n'"$gone"$'\n'}"
+done
+
+# A bag elsewhere is one of the folder; what copying flips or loses, and a name that is there, is found.
+elsewhere() { # BLOCK DAMAGE: of the copy
+    local way
+    way=$(block docs/NOT_MADE.md 'Making one elsewhere' "$1")
+    between cp 1 after "$2"
+    tells_damage "docs/NOT_MADE.md: elsewhere, block $1" "$2" "${way//"/archive/"/$work/archive/}"
+}
+for copied in '1 data/a' '3 a'; do
+    read -r number file <<<"$copied"
+    for damage in "flip archive/photographs/$file" "rm archive/photographs/$file" true; do
+        new_folder
+        rm -rf archive
+        mkdir archive
+        elsewhere "$number" "$damage"
+    done
+    diff -r whole archive/photographs/data || give_up "docs/NOT_MADE.md: elsewhere, block $number makes another bag"
+    new_folder
+    rm -rf there
+    cp -a archive/photographs there
+    elsewhere "$number" 'echo the name is there'
+    diff -r there archive/photographs || give_up "docs/NOT_MADE.md: elsewhere, block $number copies into a bag"
+done
+new_folder
+elsewhere 2 true
+diff -r whole photographs
+diff -r whole photographs.bag/data
+bagit --validate --quiet photographs.bag
+
+# RECEIVING: only a whole archive file with one folder, which is a good bag, is received; nothing is written beside it.
+pack() { # KIND FOLDER [PATH]: with a file of that path beside the folder, also a hostile one
+    rm -f "deposit.$1"
+    if [[ $1 == tar ]]; then
+        tar -cf deposit.tar "$2"
+        [[ ! ${3-} ]] || tar -rPf deposit.tar --transform "s#.*#$3#" printed
+    else
+        python3 - "${@:2}" <<'END'
+import sys, zipfile
+folder, *paths = sys.argv[1:]
+zipfile.main(["-c", "deposit.zip", folder])
+with zipfile.ZipFile("deposit.zip", "a") as file:
+    for path in paths:
+        file.writestr(path, "")
+END
+    fi
+}
+unzips=$(grep -o 'unzip -qn [^`]*' "$root/docs/RECEIVING.md")
+receives() { # KIND WHAT-IS-WRONG
+    local way
+    rm -rf unpacked
+    way=$(block docs/RECEIVING.md 'Archive files' 1)
+    [[ $1 == tar ]] || way=${way/tar --no-same-owner -xf deposit.tar -C unpacked/$unzips}
+    [[ $way == *"deposit.$1"* ]] || give_up "docs/RECEIVING.md: no way to unpack a .$1: $way"
+    tells_damage "docs/RECEIVING.md: a .$1" "$2" "$way"
+    [[ ! -e evil && ! -e $work.evil ]] || give_up "docs/RECEIVING.md: a .$1 with $2 is written outside its folder"
+}
+new_deposit() {
+    rm -rf deposit again meanwhile
+    mkdir deposit
+    echo 'kept as it is' >deposit/a
+    bagit --quiet deposit
+}
+kinds=(tar)
+if type -P unzip >/dev/null; then kinds+=(zip); else echo 'there is no unzip here, so no .zip is unpacked'; fi
+for kind in "${kinds[@]}"; do
+    new_deposit
+    pack "$kind" deposit
+    receives "$kind" true
+    for place in ../evil "$work.evil" .other; do
+        pack "$kind" deposit "$place"
+        receives "$kind" "$place"
+    done
+    pack "$kind" deposit
+    truncate -s 600 "deposit.$kind"
+    receives "$kind" 'its end lost'
+    flip deposit/data/a
+    pack "$kind" deposit
+    receives "$kind" 'a damaged bag'
+done
+for damage in true 'sed -i "s/as it is/as it wa/" deposit.tar'; do
+    new_deposit
+    between tar 1 after "$damage"
+    tells_damage 'docs/RECEIVING.md: a bag that is sent' "$damage" "$(block docs/RECEIVING.md 'Archive files' 2)"
+done
+
+# RECEIVING: files are fetched to the paths that fetch.txt spells, and nothing of it is run or written elsewhere.
+new_holey() { # fetch.txt, with @ in place of the server
+    rm -rf holey
+    mkdir -p holey/data
+    declare_bag >holey/bagit.txt
+    printf '%s  %s\n' "$ma" 'data/x/%250A$(touch pwned) {1,2}' "$mb" 'data/line%0Aend ' >holey/manifest-md5.txt
+    printf "${1//@/http://127.0.0.1:$port}" >holey/fetch.txt
+}
+fetches() { # true, or WHAT-IS-WRONG
+    tells_damage 'docs/RECEIVING.md: fetching' "$1" 'timeout 30 ./fetch holey'
+    [[ ! $(find . -name pwned -o -name evil) ]] || give_up "docs/RECEIVING.md: $1 in fetch.txt does harm"
+}
+follow_fetching() {
+    local port hosts good='@/{1,2}[a] - data/x/%%250A$(touch pwned) {1,2}\r\n\n@/b\t1 \t./data/line%%0aend '
+    mkdir served
+    printf a >'served/{1,2}[a]'
+    printf b >served/b
+    timeout 100 python3 -u -c 'import functools, http.server as s
+server = s.ThreadingHTTPServer(("127.0.0.1", 0), functools.partial(s.SimpleHTTPRequestHandler, directory="served"))
+print(server.server_port)
+server.serve_forever()' >port 2>>requests &
+    server=$!
+    trap 'kill "$server"' EXIT
+    until [[ -s port ]]; do sleep 0.1; done
+    port=$(<port)
+    hosts=$(grep -o 'cut [^`]*fetch.txt[^`]*' "$root/docs/RECEIVING.md")
+    new_holey "$good"
+    bash <<<"${hosts/deposit/holey}" | grep -qx "127.0.0.1:$port" || give_up "docs/RECEIVING.md: $hosts lacks it"
+    fetches true
+    fetches true
+    [[ $(grep -c GET requests) == 2 ]] || give_up 'docs/RECEIVING.md: what is there is fetched again'
+    new_holey "${good/'/b\t'/'/{1,2}[a]\t'}"
+    fetches 'another file'
+    new_holey "$good"
+    sed -i 's/1\.0/0.97/' holey/bagit.txt
+    fetches true
+    [[ -e holey/data/x/'%250A$(touch pwned) {1,2}' ]] || give_up 'docs/RECEIVING.md: by 0.97 %25 is read otherwise'
+    : >requests
+    for bad in '@/b 1 data/../../evil' '@/b 1 /evil' '@/b 1 data/evil' '@/b?\xff 1 data/line%%0Aend ' '@/b'; do
+        new_holey "$bad\n$good"
+        fetches "$bad"
+    done
+    new_holey '@/b 1 data/\0../\0../\0../evil\n'
+    printf '%s  data/\0../\0../\0../evil\n' "$mb" >>holey/manifest-md5.txt
+    fetches 'a byte of 0'
+    [[ ! -s requests ]] || give_up "docs/RECEIVING.md: something is fetched by a bad fetch.txt: $(<requests)"
+    new_holey 'file:///proc/version - data/x/%%250A$(touch pwned) {1,2}'
+    fetches 'a file of this machine'
+    [[ ! -e holey/data/x ]] || give_up 'docs/RECEIVING.md: a file of this machine is fetched'
+    echo "$followed" >followed
+}
+if type -P curl >/dev/null; then
+    (follow_fetching)
+    followed=$(<followed)
+else
+    echo 'there is no curl here, so nothing is fetched'
+fi
+
+# RECEIVING: a bag has what links name, and what copying flips is found.
+for damage in 'flip copy/to' true; do
+    rm -rf photographs copy
+    mkdir photographs
+    echo named >photographs/file
+    ln -s file photographs/to
+    between cp 1 after "$damage"
+    tells_damage 'docs/RECEIVING.md: links' "$damage" "$(block docs/RECEIVING.md Links 1)"
+done
+[[ ! -L copy/data/to && $(<copy/data/to) == named ]] || give_up 'docs/RECEIVING.md: links are not followed'
+rm -rf photographs* whole letters scans drafts* archive there deposit* unpacked again holey served copy meanwhile
+
+# LARGE_BAGS: forty bags, of which five are bad, by one command and by a job array, whose Slurm is played here.
+for companion in "$root"/packaging/bagit-*; do ln -sf "$companion" bin/; done
 for ((bag = 10; bag < 50; bag++)); do
     mkdir -p "bags/bag $bag"
     echo "$bag" >"bags/bag $bag/file"
@@ -128,38 +526,104 @@ rm 'bags/bag 33/bagit.txt'
 ln -s file 'bags/bag 44/data/link'
 mv 'bags/bag 45' $'bags/bag\n45'
 echo y >>$'bags/bag\n45/data/file'
-wanted='1 bags/bag%0A45 has faults: 2
-1 bags/bag%2011 has faults: 2
-1 bags/bag%2022 has faults: 2
-1 bags/bag%2033 has faults: 2
-3 bags/bag%2044 unread - special, faults: 0'
-
-awk '/^```sh$/ { n++; next } /^```$/ { inside = 0; next } { if (n) print > ("script" n) } ' <(
-    awk '/^```sh$/ { inside = 1 } inside { print } /^```$/ { inside = 0 }' "$page"
-)
-mv script1 check-one
-mv script2 table
-ways=$(sed -n 's/^    \(find bags .*check-one\)$/\1/p' "$page")
-while IFS= read -r way; do
-    [[ $way == *parallel* && ! $(type -P parallel) ]] && continue
-    rm -rf reports
-    read -r prepares < <(block docs/LARGE_BAGS.md 'Many bags' 1)
-    bash -e <<<"$prepares"$'\n'"$way"
-    # interrupted: what has a status isn't checked again
-    rm reports/bag\ 1?.status
-    find reports -name '*.status' -newer check-one -printf '%T@ %p\0' | sort -z >before
-    bash -e <<<"$way"
-    find reports -name '*.status' -printf '%T@ %p\0' | sort -z | comm -z -12 before - | cmp before - ||
-        give_up "docs/LARGE_BAGS.md: '$way' checked a bag again that had its status"
-    status=0
-    ./table || status=$?
-    [[ $status == 3 && $(grep -c '^0 ' statuses) == 35 ]] || give_up "docs/LARGE_BAGS.md: the table of '$way' ends with $status"
-    diff <(grep -v '^0 ' statuses) - <<<"$wanted" || give_up "docs/LARGE_BAGS.md: the table of '$way' says something else"
+wanted="1 $work/bags/bag%0A45 has faults: 2
+1 $work/bags/bag%2011 has faults: 2
+1 $work/bags/bag%2022 has faults: 2
+1 $work/bags/bag%2033 has faults: 2
+3 $work/bags/bag%2044 unread - special, faults: 0"
+cat >bin/sbatch <<'SBATCH'
+#!/bin/bash
+for word; do [[ $word != --array=1-* ]] || count=${word##*-}; done
+for ((task = 1; task <= count; task++)); do
+    SLURM_ARRAY_TASK_ID=$task SLURM_ARRAY_TASK_COUNT=$count sh -c "${!#}" &
+done
+wait
+SBATCH
+chmod +x bin/sbatch
+follows() {
+    local status=0
+    bash "$2" >printed 2>messages || status=$?
+    [[ $status == "$1" ]] || { cat printed messages; give_up "docs/LARGE_BAGS.md: this ends with $status: $(<"$2")"; }
     followed=$((followed + 1))
-done <<<"$ways"
-block docs/LARGE_BAGS.md 'Many bags' 4 | bash -e
-[[ ! -e 'reports/bag 44.status' && -e 'reports/bag 11.status' ]] || give_up 'docs/LARGE_BAGS.md: statuses of 3 are not taken away alone'
+}
+for way in 1 3; do
+    block docs/LARGE_BAGS.md 'Many bags' "$way" >way
+    follows 3 way
+    [[ $(grep -c $'^0\t' printed) == 35 ]] || give_up "docs/LARGE_BAGS.md: not 35 bags are valid (way $way)"
+    diff <(grep -P '^[1-3]\t' printed | cut -f 1,2 --output-delimiter ' ' | sort) - <<<"$wanted" ||
+        give_up "docs/LARGE_BAGS.md: the table of many bags says something else (way $way)"
+    # The round goes on by the lines below the first one, and its reports are summed up.
+    rm 'bags/bag 44/data/link'
+    { echo "export round=$(echo 20??-??-??-??????)" && sed 1d way; } >goes_on
+    follows 1 goes_on
+    [[ $(grep -c $'^0\t' printed) == 36 ]] || give_up "docs/LARGE_BAGS.md: the round didn't go on (way $way)"
+    { sed 1q goes_on && block docs/LARGE_BAGS.md 'Many bags' 2; } >sums_up
+    follows 1 sums_up
+    grep -q payload-sum-differs printed || give_up 'docs/LARGE_BAGS.md: the summary lacks a fault'
+    ln -s file 'bags/bag 44/data/link'
+    rm -r 20??-??-??-??????
+done
 
+# The nights: the script as it stands, with other folders, a calendar and a letter box.
+awk '/^```sh$/ { inside = 1; next } /^```$/ { inside = 0 } inside' "$root/docs/LARGE_BAGS.md" |
+    sed "s#/srv/#$work/srv/#g; s#/usr/local/bin#$work/bin#" >bagit-night
+chmod +x bagit-night
+printf '#!/bin/sh\ncat "%s/today"\n' "$work" >bin/date
+printf '#!/bin/bash\n{ printf "%%s\\n" "$*"; cat; } >>"%s/mailed"\n' "$work" >bin/mail
+chmod +x bin/date bin/mail
+mkdir -p srv/rounds srv/bags
+touch srv/rounds/bags
+for bag in one 'the other' "it's"; do
+    mkdir -p "srv/bags/$bag"
+    echo "$bag" >"srv/bags/$bag/file"
+done
+bagit --quiet srv/bags/*
+night() {
+    local wanted=$2 status=0
+    echo "2026-01-$1" >today
+    rm -f mailed
+    ./bagit-night >printed 2>&1 || status=$?
+    [[ $status == "$wanted" ]] || { cat mailed; give_up "docs/LARGE_BAGS.md: night $1 ends with $status"; }
+    [[ ! -s printed ]] || { cat printed; give_up "docs/LARGE_BAGS.md: night $1 prints something"; }
+    if [[ $wanted == 0 ]]; then
+        [[ ! -e mailed ]] || { cat mailed; give_up "docs/LARGE_BAGS.md: night $1 mails something"; }
+    else
+        [[ $(head -n 1 mailed) == "-s bags, 2026-01-$1: status $wanted archivist@example.org" ]] ||
+            { cat mailed; give_up "docs/LARGE_BAGS.md: night $1 has another subject"; }
+    fi
+    followed=$((followed + 1))
+}
+mails() { grep -qP -- "$1" mailed || { cat mailed; give_up "docs/LARGE_BAGS.md: it isn't mailed: $1"; }; }
+night 01 0
+night 01 2
+mails 'is finished, and nothing was checked'
+printf X | dd of="srv/bags/it's/data/file" conv=notrunc status=none
+night 02 1
+mails "^1\t.*/bags/it's has faults: 2\t.*\tworse\t0\t"
+printf i | dd of="srv/bags/it's/data/file" conv=notrunc status=none
+mv srv/bags away
+mkdir srv/bags
+for day in 03 04; do
+    night "$day" 3
+    [[ $(grep -c 'is not there' mailed) == 6 ]] || { cat mailed; give_up 'docs/LARGE_BAGS.md: bags that are gone are not mailed'; }
+done
+rmdir srv/bags
+night 05 3
+mails "^find: .*srv/bags"
+mv away srv/bags
+night 06 0
+rm -r 'srv/bags/the other'
+for day in 07 08; do
+    night "$day" 3
+    mails '^3\t.*/bags/the%20other is not there\t'
+done
+mv srv/rounds away
+mkdir srv/rounds
+night 09 3
+rm bin/date bin/mail
+hash -r
+
+# LARGE_BAGS: a bag in pieces.
 cp -a 'bags/bag 11' deposit
 status=0
 $(block docs/LARGE_BAGS.md 'A check that survives a failing disk' 1) >printed || status=$?
@@ -186,23 +650,124 @@ END
 done
 followed=$((followed + 1))
 
-# FAULTS: after a file that can't be read the check goes on by the line that the page gives. Root may read each file.
+# FAULTS: after a file that can't be read the check goes on by the line that the page gives, and the file's path is read
+# from the report. Root may read each file.
 mkdir closed
-for name in a "it's here" z; do echo "$name" >"closed/$name"; done
+for name in a "$hostile" z; do echo "$name" >"closed/$name"; done
 bagit --quiet --sha256 closed
 echo x >>closed/data/z
 cp "$program" bagit
-chmod 755 . closed closed/data bagit
+chmod 755 closed closed/data bagit
 chmod 644 closed/*.txt closed/data/*
-chmod 000 "closed/data/it's here"
+chmod 000 "closed/data/$hostile"
+chmod 777 .
 reads() { if ((EUID)); then "$@"; else setpriv --reuid 65534 --regid 65534 --clear-groups "$@"; fi; }
-! reads ./bagit --validate closed >printed || give_up 'a file of mode 000 was read'
-path=$(sed -n 's/^closed unread \(.*\) device, faults: 1$/\1/p' printed)
+fails 'a file of mode 000' reads ./bagit --validate closed
+mv printed report
 way=$(block docs/FAULTS.md "Going on after a file that can't be read" 1 | sed 's/^bagit/.\/&/; s/DIR/closed/')
-way=${way/PATH/${path//\'/\'\\\'\'}}
-! reads bash -c "$way" >printed || give_up "docs/FAULTS.md: $way ends with 0"
-[[ $(cut -d ' ' -f 1-3 printed) == $'701 payload-sum-differs data/z\nclosed rest done,' ]] || give_up "docs/FAULTS.md: $way says: $(<printed)"
-followed=$((followed + 1))
+fails docs/FAULTS.md reads bash -c "$way"
+[[ $(cut -d ' ' -f 1-3 printed) == $'701 payload-sum-differs data/z\nclosed rest done,' ]] ||
+    give_up "docs/FAULTS.md: $way says: $(<printed)"
+way=$(block docs/FAULTS.md "\`unread\`: what couldn't be read" 1)
+[[ $(reads bash -c "$way"$'\nprintf %s "$path"') == "data/$hostile" ]] ||
+    give_up "docs/FAULTS.md: $way gives another path"
+runs_nothing docs/FAULTS.md
+followed=$((followed + 2))
+
+# FAULTS: a tag file is changed or removed together with its lines, also one whose name is spelled otherwise in them.
+note=$'notes/-'$hostile$'\nend'
+spelled_note="*./$(sed 's/%/%25/' <<<"${note%$'\n'*}")%0A${note#*$'\n'}"
+new_mended() {
+    rm -rf mended mended.kept.*
+    new_hostile mended
+    mkdir mended/notes
+    echo note >"mended/$note"
+    for algorithm in md5 sha512; do
+        echo "$("${algorithm}sum" <"mended/$note" | cut -d ' ' -f 1) $spelled_note" \
+            >>"mended/tagmanifest-$algorithm.txt"
+    done
+    [[ $(bagit --validate mended) == 'mended is valid' ]] || give_up "a bag with the tag file $note isn't valid"
+}
+mends() { # FILE CHANGE ANSWER: how the page's last check begins each line after a command has changed the file
+    {
+        block docs/FAULTS.md 'Changing a tag file' 1 | sed 's/^cd DIR$/cd mended/; s/^file=bag-info.txt /file=$1 /'
+        echo "$2; echo changed"
+        block docs/FAULTS.md 'Changing a tag file' 2
+    } >way
+    bash way "$1" >printed 2>complaints || true
+    [[ $(sed '1,/^changed$/d' printed | cut -d ' ' -f 1-3) == "$3" ]] ||
+        { cat printed; give_up "docs/FAULTS.md: after '$2' of $1 the last check says something else"; }
+    followed=$((followed + 1))
+}
+adds='echo Bag-Software-Agent: us >>"$file"' removes='rm -- "$file" && gone=yes'
+new_mended
+mends bag-info.txt "$adds" '. is valid'
+grep -v '^Bag-Software-Agent: us$' mended/bag-info.txt | cmp - mended.kept.*/bag-info.txt
+for change in "$adds" "$removes"; do
+    new_mended
+    mends "$note" "$change" '. is valid'
+done
+[[ ! -e mended/$note && $(sort mended/tagmanifest-*.txt | wc -l) == 8 ]] ||
+    give_up "docs/FAULTS.md: a tag file isn't removed from the tag manifests alone"
+new_mended
+mends manifest-md5.txt "$removes" '. is valid'
+
+# What was damaged or removed before stays a fault, and so does a damaged byte of another file.
+twice() { printf '%s\n' "$1" "$1" '. has faults:'; }
+new_mended
+sed -i s/Oxum/Oxun/ mended/bag-info.txt
+mends bag-info.txt "$adds" "$(twice '702 tag-sum-differs bag-info.txt')"
+new_mended
+sed -i '1s/[a-f]/\U&/' mended/manifest-md5.txt
+mends bag-info.txt "$adds" "$(twice '702 tag-sum-differs manifest-md5.txt')"
+new_mended
+sed -i s/a/e/ mended/data/a
+mends bag-info.txt "$adds" "$(twice '701 payload-sum-differs data/a')"
+new_mended
+rm mended/bag-info.txt
+mends bag-info.txt "$adds" "$(twice '702 tag-sum-differs bag-info.txt')"
+new_mended
+mends bag-info.txt 'rm "$file"' "$(printf '501 manifest-line tagmanifest-%s.txt\n' md5 sha512; echo '. has faults:')"
+runs_nothing docs/FAULTS.md
+
+# FAULTS: tag files in Latin-1 are converted beside the bag, which stays as it is.
+new_latin() {
+    rm -rf latin utf8
+    mkdir -p latin/data
+    echo e >latin/data/é
+    printf 'BagIt-Version: 1.0\nTag-File-Character-Encoding: ISO-8859-1\n' >latin/bagit.txt
+    printf 'Contact-Name: Andr\xe9\nPayload-Oxum: 2.1\n' >latin/bag-info.txt
+    (cd latin && sha256sum data/é | iconv -f UTF-8 -t ISO-8859-1 >manifest-sha256.txt)
+    (cd latin && sha256sum -- *.txt) >tagmanifest
+    mv tagmanifest latin/tagmanifest-sha256.txt
+}
+new_latin
+cp -a latin unconverted
+converts() { follow docs/FAULTS.md 'Tag files in another encoding' "$1" DIR latin; }
+[[ $(converts 1) == 'utf8 is valid' && ! -e utf8.new ]] && diff -r unconverted latin && converts 2 ||
+    give_up 'docs/FAULTS.md: a bag in Latin-1 is converted otherwise'
+new_latin
+echo x >latin/data/é
+fails 'a bag in Latin-1 with a changed file' converts 1
+[[ $(<printed) == '701 payload-sum-differs data/%C3%A9 sha256 - '* ]] || give_up "docs/FAULTS.md: it says $(<printed)"
+sed -i s/Andr/Endr/ latin/bag-info.txt
+fails 'a bag in Latin-1 with a changed tag file' converts 2
+followed=$((followed + 2))
+
+# FAULTS: what is kept elsewhere tells a bag that was altered so that it is valid.
+title="What a check can't show"
+for alters in true 'rm kept/tagmanifest-*.txt; echo X: y >>kept/bag-info.txt' \
+    'rm -r kept/tagmanifest-*.txt kept/data/* kept/bag-info.txt; truncate -s 0 kept/manifest-*.txt'; do
+    new_hostile kept
+    follow docs/FAULTS.md "$title" 1 DIR kept
+    eval "$alters"
+    [[ $(bagit --validate kept) == 'kept is valid' ]] || give_up "a bag isn't valid after $alters"
+    status=0
+    follow docs/FAULTS.md "$title" 2 DIR kept >printed 2>&1 || status=$?
+    [[ $status == 0 && $alters == true || $status != 0 && $alters != true ]] ||
+        give_up "docs/FAULTS.md: what is kept elsewhere ends with $status after $alters"
+    followed=$((followed + 1))
+done
 
 # PROFILES: of the keys with a wrong value the first of its table is named, and the archive file's way round lets a bag pass.
 mapfile -t keys < <(sed -n '/^## The keys$/,/^## /s/^| `\([^`]*\)` .*/\1/p' "$root/docs/PROFILES.md")
@@ -222,6 +787,26 @@ echo '{"BagIt-Profile-Info": {"BagIt-Profile-Identifier": "x"}, "Serialization":
 (cd asks && block docs/PROFILES.md 'Profiles that ask for an archive file' 1 | bash -e) >printed
 [[ $(<printed) == 'deposit is valid' ]] || give_up "docs/PROFILES.md: by the copy of a profile: $(<printed)"
 followed=$((followed + ${#keys[@]}))
+
+# PROFILES: an element that no making writes is added as FAULTS says; `?` in a pattern is itself, and a folded value is
+# another one.
+new_mended
+cat >asks.json <<'END'
+{"BagIt-Profile-Info": {"BagIt-Profile-Identifier": "x"}, "Tag-Files-Allowed": ["notes/*", "?"],
+ "Bag-Info": {"Bag-Software-Agent": {"required": true, "values": ["us and them"]}}}
+END
+asks() { bagit --validate --profile asks.json mended; }
+finds() { # CODE-AND-PATH: the only fault
+    fails docs/PROFILES.md asks
+    [[ $(wc -l <printed) == 2 && $(<printed) == "$1"* ]] || give_up "docs/PROFILES.md: not $1 but $(<printed)"
+}
+mends bag-info.txt 'printf "BagIt-Profile-Identifier: x\nBag-Software-Agent: us and them\n" >>"$file"' '. is valid'
+[[ $(asks) == 'mended is valid' ]] || give_up 'docs/PROFILES.md: an element that was added is not found'
+echo >mended/x
+finds '810 tag-file-not-allowed x '
+rm mended/x
+mends bag-info.txt 'sed -i "s/us and/us\n and/" "$file"' '. is valid'
+finds '804 value-not-allowed bag-info.txt '
 
 # LIBRARY: the crates that its commands copy are all that these need of this repository (they are linked here, as what is made of them
 # is large), and what it quotes stands in the crates of its examples, line by line.
@@ -245,5 +830,8 @@ for quoted in quoted*; do
     give_up 'docs/LIBRARY.md: this stands nowhere in crates/examples and crates/deposits'
 done
 followed=$((followed + 1 + $(ls quoted* | wc -l)))
+
+wait "$looks" && grep -qxF "$work/look is valid" looked || { cat looked; give_up 'README: the first look fails'; }
+followed=$((followed + 1))
 
 echo "followed $followed parts of the pages as they are written"
