@@ -1,27 +1,36 @@
 #!/usr/bin/env python3
-"""Compares what the pages name with what is there: links and files, definitions and clauses, modules, and the public functions;
-the fault codes and the options that pages list with those of the sources. Sees that each page, and some answers that readers look
-for, are found within three pages from README.md by following links.
+"""Compares what the pages name with what is there: links and files, definitions and clauses, modules, and the public
+functions; the fault codes and the options that pages list with those of the sources; how many lines a file has; the
+numbers of the kit; and the files of cases with those that are run. Sees that each page, and some answers that readers
+look for, are found within three pages from README.md by following links; that a page says first for whom it is, and
+that its lines aren't too long.
 
 usage: tests/docs.py ROOT
 
-Prints each name that is stale, and at last how many were compared; the status is 1 where one is stale, or where a kind of name
-was found nowhere. Definitions and clauses are cited as `CRATE/specs/PAGE.antt`: `A`, `B`, and modules as `CRATE`'s `A`.
+Prints each name that is stale, and at last how many were compared; the status is 1 where one is stale, or where a kind
+of name was found nowhere. Definitions and clauses are cited as `CRATE/specs/PAGE.antt`: `A`, `B`, modules as `CRATE`'s
+`A`, and lengths as `CRATE/src/FILE.rt` (N lines). Without `rt` the numbers of the kit aren't compared.
 """
 import re
+import shutil
+import subprocess
 import sys
 from functools import lru_cache
 from pathlib import Path
 
 KINDS = ["link", "heading", "file", "definition or clause", "module", "name", "file of a way", "case file"]
 KINDS += ["public function", "law", "public call", "clause of a call", "crate", "fault code", "option", "page", "answer"]
+KINDS += ["length", "line", "first paragraph", "file of cases"]
+KIT_KINDS = ["number of the kit"]
 FOLDERS = r"docs|tests|bench|packaging|tools|crates|\.ci|\w+(?=/(?:src|specs|proofs|must-fail)/)"
 FILE = re.compile(rf"(?<![\w/.~-])((?:{FOLDERS})/[\w./*-]*|[A-Z]+\.md|crates\.txt)")
 NAMES = r"`[^`\n]+`(?:(?:,| and|, and)\s+`[^`\n]+`)*"
 CITATION = re.compile(rf"`([\w/]+\.(?:rt|antt))`:\s+({NAMES})")
 MODULES = re.compile(rf"`(\w+)`'s ({NAMES})")
 ANSWERS = {  # what a reader looks for: the page, and what stands there
-    "how to undo a making that was refused": ("docs/NOT_MADE.md", r"^# After `not made`.*^      rmdir \.bagit-new$"),
+    "how to undo a making that failed": ("docs/NOT_MADE.md", r"^# If making a bag failed.*^      rmdir \.bagit-new$"),
+    "how to change a bag": ("docs/NOT_MADE.md", r"^### Changing a bag$.*^```sh$"),
+    "how to receive a bag": ("docs/RECEIVING.md", r"^## Archive files$.*^    .*bagit --validate"),
     "how to check with a profile, by the program": ("README.md", r"^    \$ bagit --validate .*--profile profile\.json letters$"),
     "which keys of a profile are checked": ("docs/PROFILES.md", r"^    bagit --validate --profile .*^## The keys$"),
     "how to check with a profile, from a program": ("docs/LIBRARY.md", r"^## A check$.*\bProfile::read\(.*\bSome\(&profile\)"),
@@ -30,6 +39,7 @@ ANSWERS = {  # what a reader looks for: the page, and what stands there
     "how to prove one function": ("CONTRIBUTING.md", r"^## One function$.*^    rt check --only "),
 }
 MOST_LINKS = 2  # of a way to an answer, so that it takes three pages
+MOST_COLUMNS = 120
 WITH_NAMES = ("THEOREM.md", "PROVED.md", "NOT_PROVED.md", "DEFINITIONS.md", "MAP.md")
 
 root = Path(sys.argv[1]).resolve()
@@ -51,6 +61,10 @@ def text_of(path):
 @lru_cache(None)
 def source_of(crate):
     return "\n".join(text_of(path) for path in sorted((crates / crate / "src").glob("*.rt")))
+
+
+def output_of(*words):
+    return subprocess.run(words, stdin=subprocess.DEVNULL, capture_output=True, text=True, check=True).stdout
 
 
 def quoted(text):
@@ -129,12 +143,28 @@ def compare_cases(page, text):
             compare("case file", page, name, any((crates / "cases" / "data").glob(f"{name}.cases")))
 
 
+def crates_proved_again():
+    """How many crates are proved again if one changes: itself, and all that need it."""
+    needs = {}
+    for crate, names in re.findall(r"^(\w+):(.*)$", text_of(root / "crates.txt"), re.M):
+        needs[crate] = set(names.split()).union(*(needs.get(name, ()) for name in names.split()))
+    return {crate: 1 + sum(crate in needed for needed in needs.values()) for crate in needs}
+
+
 def compare_crates(page, text):
-    """Each crate has a row, and each row is of a crate."""
+    """Each crate has a row, with how many crates are proved again if it changes, and each row is of crates."""
     table = text[: text.index("\n## The way of a check")]
-    rows = {name for cells in re.findall(r"^\| (`[^|]*) \|", table, re.M) for name in quoted(cells)}
+    again, rows = crates_proved_again(), set()
+    for cells, counts in re.findall(r"^\| (`[^|]*) \|.*\| ([\d, ]+) \|$", table, re.M):
+        names, counted = quoted(cells), [int(count) for count in counts.split(", ")]
+        if len(counted) == 1:
+            counted *= len(names)
+        is_right = counted == [again.get(name) for name in names]
+        compare("crate", page, f"{cells}: {counts} crates proved again", is_right)
+        rows.update(names)
     for name in rows | {path.parent.name for path in crates.glob("*/src")}:
-        compare("crate", page, f"{name} without a row, or a row without it", name in rows and (crates / name).exists())
+        is_there = name in rows and (crates / name).exists()
+        compare("crate", page, f"{name} without a row, or a row without it", is_there)
 
 
 def fault_codes():
@@ -172,19 +202,23 @@ def program_options():
     return {f"--{name}" for name in names} | {"-h", "--help"}
 
 
+def companion_options(name):
+    """The options of a program that is installed beside bagit, as its --help lists them."""
+    return options_in("\n".join(re.findall(r"^  (-.*?)(?:  |$)", output_of(root / "packaging" / name, "--help"), re.M)))
+
+
 def compare_options():
-    """The options of the manual pages and of README are those of the sources; the script's are those that it takes."""
-    taken = re.findall(r"^        (--[a-z][a-z| -]*)\)", text_of(root / "packaging" / "bagit-check-large"), re.M)
-    script = {name for arm in taken for name in arm.split(" | ")} - {"--"}
-    manual, script_manual = (text_of(root / "docs" / f"{name}.1") for name in ("bagit", "bagit-check-large"))
+    """The options of README and of each manual page are those of the sources; a companion's are those of its --help."""
+    companions = {path.name: companion_options(path.name) for path in sorted((root / "packaging").glob("bagit-*"))}
+    for name, options in {"bagit": program_options(), **companions}.items():
+        page = root / "docs" / f"{name}.1"
+        listed = options_in(text_of(page).partition("\n.SH OPTIONS")[2].split("\n.SH ")[0])
+        for option in options | listed:
+            compare("option", page, option, option in options & listed)
     readme = part_of(text_of(root / "README.md"), "Options", "Exit statuses")
     large_bags = part_of(text_of(root / "docs" / "LARGE_BAGS.md"), "A check that survives", "Many bags")
-    pages = [("docs/bagit.1", manual, program_options()), ("docs/bagit-check-large.1", script_manual, script)]
-    for name, text, options in pages:
-        listed = options_in(text[text.index("\n.SH OPTIONS") :].split("\n.SH ")[1])
-        for option in options | listed:
-            compare("option", root / name, option, option in options & listed)
-    for name, text, options in ("README.md", readme, program_options()), ("docs/LARGE_BAGS.md", large_bags, script - {"--help"}):
+    of_large = companions["bagit-check-large"] - {"--help", "-h"}
+    for name, text, options in ("README.md", readme, program_options()), ("docs/LARGE_BAGS.md", large_bags, of_large):
         for option in options:
             compare("option", root / name, f"{option} isn't named", option in options_in(text))
     for option in options_in("\n".join(re.findall(r"^\| (.*?) \|", readme, re.M))):
@@ -259,6 +293,46 @@ def compare_functions(page, text):
             compare("public function", page, f"of {crate} without a row: {owner}::{name}".replace(" ::", " "), (owner, name) in rows)
 
 
+def compare_form(page, text):
+    """Whom a page is for, and its lines: but for tables, marks for scripts, and words that can't be broken."""
+    lines = text.splitlines()
+    if page != root / "README.md":
+        is_said = len(lines) > 2 and lines[2].startswith("For ") and "README.md)" in text.split("\n\n")[1]
+        compare("first paragraph", page, "that doesn't say 'For ..', with a link to README.md", is_said)
+    for number, line in enumerate(lines, 1):
+        is_free = line.startswith(("|", "<!--")) or any(len(word) > MOST_COLUMNS - 40 for word in line.split())
+        compare("line", page, f"{number} of {len(line)} characters", is_free or len(line) <= MOST_COLUMNS)
+
+
+def compare_lengths(page, text):
+    for name, length in re.findall(r"`([\w/]+\.rt)`\s+\((\d+)\s+lines\)", text):
+        found = len(text_of(crates / name).splitlines())
+        compare("length", page, f"of {name} is {length} lines, and should be {found}", int(length) == found)
+
+
+def compare_kit(pages):
+    """Each number of the logic is that of `rt version`, and each version of Unicode that of the kit's crate."""
+    crate = Path(output_of("rt", "doc").strip()).parent / "rattle" / "unicode_normalization"
+    logic = re.search(r"logic (\w+)", output_of("rt", "version"))[1]
+    unicode = re.search(r"at Unicode (\d+\.\d+)", text_of(crate / "README.md"))[1]
+    for form, right in (r"`([0-9a-f]{16})`", logic), (r"Unicode (\d+\.\d+)", unicode):
+        found = [(page, number) for page in pages for number in re.findall(form, text_of(page))]
+        compare("number of the kit", root / "README.md", f"{right}, which no page names", found)
+        for page, number in found:
+            compare("number of the kit", page, f"{number} should be {right}", number == right)
+
+
+def compare_case_files():
+    """Each file of cases is an argument of the program that runs them, and each broken one is named by a case."""
+    cases = crates / "cases"
+    broken = set(re.findall(r"[\w-]+\.cases", text_of(cases / "data" / "broken.cases")))
+    lists = {"data": set(text_of(cases / "args").split()), "data/broken": broken}
+    for folder, listed in lists.items():
+        names = {path.name for path in (cases / folder).glob("*.cases")}
+        for name in sorted(names | listed if folder == "data" else names):
+            compare("file of cases", cases / "args", f"{name} isn't run, or isn't in {folder}", name in names & listed)
+
+
 def main():
     sources = [path for form in ("*/src/*.rt", "*/specs/*.antt") for path in crates.glob(form)] + [root / "crates.txt"]
     words = {word for path in sources for word in re.findall(r"\w+", text_of(path))}
@@ -267,6 +341,8 @@ def main():
         text = text_of(page)
         compare_files(page, text)
         compare_citations(page, text)
+        compare_form(page, text)
+        compare_lengths(page, text)
         if page.name in WITH_NAMES:
             compare_names(page, text, words)
     parts = [("MAP", compare_crates), ("MAP", compare_ways), ("FAULTS", compare_codes), ("TESTED", compare_cases)]
@@ -275,9 +351,14 @@ def main():
         compare_page(page, text_of(page))
     compare_options()
     compare_answers(pages)
+    compare_case_files()
+    kinds = KINDS
+    if shutil.which("rt"):
+        compare_kit(pages)
+        kinds = KINDS + KIT_KINDS
     print(*stale, sep="\n", end="\n" if stale else "")
-    print("compared: " + ", ".join(f"{compared.get(kind, 0)} times {kind}" for kind in KINDS))
-    sys.exit(bool(stale) or not all(compared.get(kind) for kind in KINDS))
+    print("compared: " + ", ".join(f"{compared.get(kind, 0)} times {kind}" for kind in kinds))
+    sys.exit(bool(stale) or not all(compared.get(kind) for kind in kinds))
 
 
 main()
