@@ -58,7 +58,7 @@ fails() { # WHAT COMMAND..
 }
 
 # README's first look builds the program without its proofs, which takes a while: that is done beside all else.
-mkdir look session installed
+mkdir -p look session installed/bin
 echo a >look/a
 bagit --quiet look
 (cd "$root" && follow README.md 'A first look, and two commands' 1 /path/to/a/bag "$work/look") >looked 2>&1 &
@@ -126,11 +126,11 @@ mapfile -t commands < <(block README.md 'A first look, and two commands' 2 | gre
 (cd "$root" && PATH=$work:$PATH bash <<<"${commands[0]/"/path/to/a/bag"/$work/look}") >printed || true
 [[ $(<printed) == "$work/look is valid" ]] || give_up "README: ${commands[0]} says $(<printed)"
 rm rt
-(cd "$root" && follow README.md Install 1 crates/bagit/out/bagit "$work/bin/bagit" /usr/local/bin/ "$work/installed/")
-for companion in installed/bagit-*; do
+(cd "$root" && follow README.md Install 1 crates/bagit/out/bagit "$work/bin/bagit" /usr/local/ "$work/installed/")
+for companion in installed/bin/bagit-*; do
     "$companion" --help >printed && [[ -s printed ]] || give_up "README: $companion is not installed"
 done
-[[ $(installed/bagit) == 'sample has a good declaration' ]] || give_up 'README: bagit is not installed'
+[[ $(installed/bin/bagit) == 'sample has a good declaration' ]] || give_up 'README: bagit is not installed'
 followed=$((followed + 4))
 
 # Ends the script with what was printed last.
@@ -534,6 +534,9 @@ wanted="1 $work/bags/bag%0A45 has faults: 2
 cat >bin/sbatch <<'SBATCH'
 #!/bin/bash
 for word; do [[ $word != --array=1-* ]] || count=${word##*-}; done
+[[ " $* " != *' --parsable '* ]] || echo 1
+exec >>slurm.out
+[[ $count ]] || exec sh -c "${!#}"
 for ((task = 1; task <= count; task++)); do
     SLURM_ARRAY_TASK_ID=$task SLURM_ARRAY_TASK_COUNT=$count sh -c "${!#}" &
 done
@@ -630,6 +633,12 @@ $(block docs/LARGE_BAGS.md 'A check that survives a failing disk' 1) >printed ||
 [[ $status == 1 && $(<printed) == 'deposit has faults: 2' ]] || give_up 'docs/LARGE_BAGS.md: bagit-check-large ends otherwise'
 diff deposit.txt <(bagit --validate deposit) || give_up 'docs/LARGE_BAGS.md: the report in pieces is another'
 followed=$((followed + 2))
+for way in 1 2 3; do
+    rm deposit.txt
+    block docs/LARGE_BAGS.md 'One bag on several cores, or machines' "$way" >way
+    follows 1 way
+    diff deposit.txt <(bagit --validate deposit) || give_up "docs/LARGE_BAGS.md: the report in parts is another (way $way)"
+done
 
 # FAULTS: of a path of 4,085 bytes in a folder `long` nothing is said, and it can be checked once it is in `data`; not so one byte more.
 for last in 69 70; do
@@ -730,29 +739,31 @@ new_mended
 mends bag-info.txt 'rm "$file"' "$(printf '501 manifest-line tagmanifest-%s.txt\n' md5 sha512; echo '. has faults:')"
 runs_nothing docs/FAULTS.md
 
-# FAULTS: tag files in Latin-1 are converted beside the bag, which stays as it is.
-new_latin() {
-    rm -rf latin utf8
-    mkdir -p latin/data
-    echo e >latin/data/é
-    printf 'BagIt-Version: 1.0\nTag-File-Character-Encoding: ISO-8859-1\n' >latin/bagit.txt
-    printf 'Contact-Name: Andr\xe9\nPayload-Oxum: 2.1\n' >latin/bag-info.txt
-    (cd latin && sha256sum data/é | iconv -f UTF-8 -t ISO-8859-1 >manifest-sha256.txt)
-    (cd latin && sha256sum -- *.txt) >tagmanifest
-    mv tagmanifest latin/tagmanifest-sha256.txt
+# FAULTS: tag files in Latin-1 or UTF-16 are converted beside the bag, which stays as it is.
+new_encoded() { # ENCODING
+    rm -rf encoded unconverted utf8*
+    mkdir -p encoded/data
+    echo e >encoded/data/é
+    printf 'BagIt-Version: 1.0\nTag-File-Character-Encoding: %s\n' "$1" >encoded/bagit.txt
+    printf 'Contact-Name: André\nPayload-Oxum: 2.1\n' | iconv -f UTF-8 -t "$1" >encoded/bag-info.txt
+    (cd encoded && sha256sum data/é | iconv -f UTF-8 -t "$1" >manifest-sha256.txt)
+    (cd encoded && sha256sum -- *.txt) | iconv -f UTF-8 -t "$1" >tagmanifest
+    mv tagmanifest encoded/tagmanifest-sha256.txt
 }
-new_latin
-cp -a latin unconverted
-converts() { follow docs/FAULTS.md 'Tag files in another encoding' "$1" DIR latin; }
-[[ $(converts 1) == 'utf8 is valid' && ! -e utf8.new ]] && diff -r unconverted latin && converts 2 ||
-    give_up 'docs/FAULTS.md: a bag in Latin-1 is converted otherwise'
-new_latin
-echo x >latin/data/é
-fails 'a bag in Latin-1 with a changed file' converts 1
-[[ $(<printed) == '701 payload-sum-differs data/%C3%A9 sha256 - '* ]] || give_up "docs/FAULTS.md: it says $(<printed)"
-sed -i s/Andr/Endr/ latin/bag-info.txt
-fails 'a bag in Latin-1 with a changed tag file' converts 2
-followed=$((followed + 2))
+converts() { follow docs/FAULTS.md 'Tag files in another encoding' "$1" DIR encoded ISO-8859-1 "$encoding"; }
+for encoding in ISO-8859-1 UTF-16; do
+    new_encoded "$encoding"
+    cp -a encoded unconverted
+    [[ $(converts 1) == 'utf8 is valid' && ! -e utf8.new ]] && diff -r unconverted encoded && converts 2 ||
+        give_up "docs/FAULTS.md: a bag in $encoding is converted otherwise"
+    new_encoded "$encoding"
+    echo x >encoded/data/é
+    fails "a bag in $encoding with a changed file" converts 1
+    [[ $(<printed) == '701 payload-sum-differs data/%C3%A9 sha256 - '* ]] || give_up "docs/FAULTS.md: it says $(<printed)"
+    echo >>encoded/bag-info.txt
+    fails "a bag in $encoding with a changed tag file" converts 2
+    followed=$((followed + 2))
+done
 
 # FAULTS: what is kept elsewhere tells a bag that was altered so that it is valid.
 title="What a check can't show"
