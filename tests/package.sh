@@ -34,7 +34,14 @@ echo a >deposit/a
 bagit deposit >printed
 bagit-check-large deposit report >printed
 diff report - <<<'deposit is valid'
+bagit-check-large --jobs 2 deposit in_parts >printed
+diff in_parts report
 bagit-check-large --help >printed
+diff <(cd "$root/packaging/lib" && ls *.py) <(ls tree/usr/lib/bagit) || give_up 'it has other modules'
+status=0
+cp tree/usr/bin/bagit-check-large alone
+./alone deposit unwritten 2>printed || status=$?
+[[ $status == 3 && ! -e unwritten ]] || give_up "bagit-check-large ends with $status without its modules"
 
 # If the program is killed in the middle of a piece, no report is closed; started again, it goes on. A report that can't
 # be written doesn't end as one with faults.

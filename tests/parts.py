@@ -132,4 +132,5 @@ def main(program, bags):
     print(", ".join(f"{count} {name}" for name, count in COUNTS.items()))
 
 
-main(*sys.argv[1:])
+if __name__ == "__main__":
+    main(*sys.argv[1:])

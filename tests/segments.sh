@@ -316,6 +316,54 @@ goes_on_beside 'mv d/data away' 'mv away d/data'
 goes_on_beside 'rm d/data/a' ':'
 goes_on_beside 'rm d/manifest-md5.txt' ':'
 goes_on_beside 'mv d/data/d away' 'mv away d/data/d'
+
+# The bag is altered or exchanged while a check waits after a failure, or between two runs; the clock was set back since
+# it began; or the program's closing line has another name.
+ends_saying() {
+    has_no_report "$1"
+    [[ $(tail -n 1 errors) == "bagit-check-large: $2" ]] || give_up "$1: $(<errors)"
+}
+in_the_wait() {
+    good
+    rm report.part
+    touch -r d before
+    cat >waited <<END
+#!/usr/bin/env bash
+[[ \$* != *--after* || -e ../past_wait ]] || { touch ../past_wait; $1; }
+[[ \$* == *--after* ]] || export BAD_FILE=/data/d
+exec bagit "\$@"
+END
+    sed -i "s#\.\./past_wait#$work/past_wait#g" waited
+    chmod +x waited
+    rm -f past_wait
+    BAGIT=$work/waited check_large --wait 0 --tries 3 d report
+    [[ -e past_wait ]] || give_up "$1: it did not go on"
+    ends_saying "in the wait: $1" "$2 was altered since the check began; remove report.part to begin anew"
+    rm -rf d away
+}
+in_the_wait 'printf X | dd conv=notrunc of=d/data/b 2>said; touch -r before d/data/b' "$work/d/data/b"
+in_the_wait 'rm d/data/b; printf "b\n" >d/data/b' "$work/d/data"
+in_the_wait 'cp -a d away; rm -r d; mv away d' d
+in_the_wait 'mv d away; mkdir d; cp -a away/. d' d
+good
+mv d away
+cp -a away d
+check_large --wait 0 d report
+ends_saying 'exchanged between two runs' 'd was altered since the check began; remove report.part to begin anew'
+good
+sed -i "1s/\"begun\": [0-9.]*/\"begun\": $(($(date +%s) + 3600)).5/" report.part
+check_large --wait 0 d report
+ends_saying 'the clock was set back' \
+    'report.part is of a check that began later than now; remove it to begin anew'
+for other in e ./d "$work/d" D; do
+    good
+    rm -rf report.part
+    printf '#!/bin/sh\necho "%s is valid"\n' "$other" >misnaming
+    chmod +x misnaming
+    BAGIT=$work/misnaming check_large --wait 0 d report
+    ends_saying "the closing line is of $other" "bagit wrote the report of another bag: $other is valid"
+done
+rm -rf away
 altered() {
     good
     touch -r d before
