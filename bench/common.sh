@@ -57,14 +57,18 @@ peak() {
 # How many bars were missed.
 missed=0
 
-# Says how a figure, which is a number or one divided by another, stands beside its bar, the most that it may be. Its arguments are what
-# was measured, the figure, the bar and the unit, which may be missing.
-at_most() {
-    awk -v what="$1" -v figure="$2" -v bar="$3" -v unit="${4:+ $4}" 'BEGIN {
+# Says how a figure, which is a number or one divided by another, stands beside its bar, the most or the least that it
+# may be. Its arguments are what was measured, the figure, the bar and the unit, which may be missing.
+at_most() { beside_bar most "$@"; }
+at_least() { beside_bar least "$@"; }
+
+beside_bar() {
+    awk -v which="$1" -v what="$2" -v figure="$3" -v bar="$4" -v unit="${5:+ $5}" 'BEGIN {
         if (split(figure, part, "/") == 2) figure = part[1] / part[2]
-        over = figure > bar ? sprintf(", over the bar by %.2f", figure - bar) : ""
-        printf "%s: %.2f%s (at most %.2f%s)\n", what, figure, unit, bar, over
-        exit over != ""
+        beyond = which == "most" ? figure - bar : bar - figure
+        by = beyond > 0 ? sprintf(", %s the bar by %.2f", which == "most" ? "over" : "under", beyond) : ""
+        printf "%s: %.2f%s (at %s %.2f%s)\n", what, figure, unit, which, bar, by
+        exit by != ""
     }' || missed=$((missed + 1))
 }
 
