@@ -1,5 +1,5 @@
 //! An output of one's own.
-ghost use Rattle.std.specs.Prelude.{None};
+ghost use Rattle.std.specs.Prelude.{◌≡◌, [], None, false};
 
 use bag_store::{Out, Refused};
 use std::alloc::{AllocError, Global};
@@ -17,7 +17,11 @@ pub struct LinesOut {
 
 impl LinesOut {
     /// No line so far.
-    pub fn new(alloc: Global) -> LinesOut {
+    pub fn new(alloc: Global) -> LinesOut
+        ensures none { result.lines.items ≡ [] }
+        ensures begun { result.line.items ≡ [] }
+        ensures ready { (⟦<LinesOut as Out>⟧.state result).has_refused ≡ false }
+    {
         LinesOut {
             alloc,
             lines: Vec::new(alloc),
@@ -27,7 +31,9 @@ impl LinesOut {
     }
 
     /// The lines that have ended, without their line ends.
-    pub fn lines(&self) -> &[Vec<u8>] {
+    pub fn lines(&self) -> &[Vec<u8>]
+        ensures { result.now ≡ self.now.lines.items }
+    {
         self.lines.as_slice()
     }
 }

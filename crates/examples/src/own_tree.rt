@@ -13,13 +13,16 @@ pub struct CountingTree<T> {
 impl<T: Tree + Drop> CountingTree<T> {
     /// The tree that counts the bytes of this one, none so far.
     pub fn over(tree: T) -> CountingTree<T>
-        ensures { ⟦<CountingTree<T> as Tree>⟧.state result ≡ T.state tree }
+        ensures same { ⟦<CountingTree<T> as Tree>⟧.state result ≡ T.state tree }
+        ensures none { result.count ≡ 0 }
     {
         CountingTree { tree, count: 0 }
     }
 
     /// How many bytes were read.
-    pub fn count(&self) -> u64 {
+    pub fn count(&self) -> u64
+        ensures { result ≡ self.now.count }
+    {
         self.count
     }
 }
