@@ -83,8 +83,9 @@ fn main(rt: HostRuntime) -> io::Result<ExitCode> {
 END
 }
 
-# Whether the library in a crate's `out` is older than what it is built of.
-is_old() { [[ -n $(find "$1"/{src,specs} -newer "$1/out/rlib/${1##*/}.rlib/format") ]]; }
+# Whether what the library in a crate's `out` is built of was changed, or put there, after the library. What counts is when the folder
+# of the library was made: `rt ci` makes a new one also for a library that it kept, whose files may be older than this checkout.
+is_old() { [[ -n $(find "$1"/{src,specs} -newercm "$1/out/rlib/${1##*/}.rlib") ]]; }
 
 # Proves and builds the program over the libraries that `rt ci` leaves, by the commands that `rt` calls. (`rt run` wouldn't take them,
 # since of their proofs they have only the statements.)
