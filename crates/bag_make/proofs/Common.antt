@@ -83,7 +83,7 @@ pub use Rattle.bag_tree.proofs.Parents.{first-under, first_is_base_name, in_fold
 pub use Rattle.bag_tree.proofs.SameText.{exact_texts, one_text, text_itself}
 pub use Rattle.bag_tree.proofs.Within.{goes_itself, goes_under, itself_within, not_within, stays, under_within}
 pub use Rattle.bag_tree.proofs.Within.{within_cases}
-pub use Rattle.bag_tree.specs.Asked.{Adds, AreSyncs, Asking, AsksFile, AsksFolder, AsksMove, AsksPart}
+pub use Rattle.bag_tree.specs.Asked.{Adds, AreSyncs, Asking, AsksFile, AsksFolder, AsksMove, AsksPart, ChangeNothing}
 pub use Rattle.bag_tree.specs.Asked.{has_durable_folders, joined}
 pub use Rattle.bag_tree.specs.Bag.{Bag, HasFile, IsBag, file, files_of, has_file, has_folder}
 pub use Rattle.bag_tree.specs.Cut.{EachCut, LeavesOnly, MayLeave, is_durable, is_file_synced, is_synced}

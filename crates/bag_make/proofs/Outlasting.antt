@@ -2,12 +2,13 @@
 use Rattle.bag_make.proofs.Common.{arith, ◌≡◌, ◌++◌, ◌∷◌, ℕ, inl, inr, true, false, cond, List, [], Some, is_some}
 use Rattle.bag_make.proofs.Common.{get_or, map, refl, ap, sym, ◌∙◌, subst, append-nil, append_assoc, AllByRecursion}
 use Rattle.bag_make.proofs.Common.{list_any, bytes_eq, first_component, under, Bag, HasFile, file, has_folder, create}
-use Rattle.bag_make.proofs.Common.{make_folder, move_in, rename_folder, is_synced, AreSyncs, joined, HasAllFiles}
+use Rattle.bag_make.proofs.Common.{make_folder, move_in, rename_folder, is_synced, AreSyncs, ChangeNothing, joined}
+use Rattle.bag_make.proofs.Common.{HasAllFiles}
 use Rattle.bag_make.proofs.Common.{MayLeave, is_in_the_way, File, new_file, new_folder, data_folder, after_steps}
 use Rattle.bag_make.proofs.Common.{steps_for, AllAsk, AsksFolder, AsksMove, AsksFile, AsksPart, has_durable_folders}
 use Rattle.bag_make.proofs.Common.{MoveIn, Rename}
 use Rattle.bag_tree.proofs.Events.{made_durable, nothing_named}
-use Rattle.bag_tree.proofs.Runs.{started, synced}
+use Rattle.bag_tree.proofs.Runs.{started, synced, unchanged}
 use Rattle.bag_tree.proofs.Within.{IsWithin}
 use Rattle.bag_tree.specs.Cut.{lose}
 use Rattle.bag_tree.specs.Steps.{has_within}
@@ -82,9 +83,9 @@ module _ (bag : Bag) (free : is_in_the_way bag ≡ false) where
   safe : (t : List DeviceEvent) (Q : List DeviceEvent → Bag → Type 0) → Reaches bag t Q → IsSafe bag t
   safe t Q so_far = so_far.each
 
-  refused : (t es : List DeviceEvent) (Q : List DeviceEvent → Bag → Type 0) → Reaches bag t Q → AreSyncs es
+  refused : (t es : List DeviceEvent) (Q : List DeviceEvent → Bag → Type 0) → Reaches bag t Q → ChangeNothing es
       → IsSafe bag (t ++ es)
-  refused t es Q so_far are = (synced es t Q so_far are).each
+  refused t es Q so_far are = (unchanged es t Q so_far are).each
 
   -- each step goes on
   make_on : (t before now : List DeviceEvent) → Reaches bag t (λ later d. d ≡ bag) → AsksFolder new_folder before now
@@ -167,7 +168,7 @@ module _ (bag : Bag) (free : is_in_the_way bag ≡ false) where
       let ws = map (event.Write name) asks.pieces in
       subst (IsSafe bag)
       (in_a_row t asks.syncs ws asks.after name ∙ ap (λ (xs : List DeviceEvent). t ++ xs) (sym asks.asked))
-      (synced asks.after (((t ++ asks.syncs) ++ event.Create name ∷ []) ++ ws) _
+      (unchanged asks.after (((t ++ asks.syncs) ++ event.Create name ∷ []) ++ ws) _
       (written actual t asks.syncs asks.pieces name is so_far asks.are_syncs) asks.are_after).each
 
   -- the tag files, up to one that is refused
@@ -236,7 +237,7 @@ module _ (bag : Bag) (free : is_in_the_way bag ≡ false) where
       some_named : (t before es : List DeviceEvent)
           → ((syncs : List DeviceEvent) → AreSyncs syncs → is_synced new_folder syncs ≡ true → is_synced [] syncs ≡ true
           → Reaches bag (t ++ syncs) (λ later d. d ≡ filled))
-          → ((syncs : List DeviceEvent) → AreSyncs syncs → IsSafe bag (t ++ syncs))
+          → ((syncs : List DeviceEvent) → ChangeNothing syncs → IsSafe bag (t ++ syncs))
           → SomeAsk (Rename ∷ map new_file tags) before es → IsSafe bag (t ++ es)
       some_named t before es durable stops (inl syncs) = stops es syncs
       some_named t before es durable stops (inr (now, later, is, asks, rest)) =
@@ -294,10 +295,10 @@ module _ (bag : Bag) (free : is_in_the_way bag ≡ false) where
 
       -- from the folder on
       folder_durable : (before now : List DeviceEvent) → (made : AsksFolder new_folder before now)
-          → (syncs : List DeviceEvent) → has_durable_folders ((before ++ now) ++ syncs) ≡ true
+          → (syncs : List DeviceEvent) → AreSyncs syncs → has_durable_folders ((before ++ now) ++ syncs) ≡ true
           → is_synced [] syncs ≡ true
-      folder_durable before now made syncs durable =
-          made_durable new_folder (before ++ made.syncs) syncs
+      folder_durable before now made syncs are durable =
+          made_durable new_folder (before ++ made.syncs) syncs are
           (subst (λ (xs : List DeviceEvent). has_durable_folders xs ≡ true) in_order durable)
         where
           in_order : (before ++ now) ++ syncs ≡ (before ++ made.syncs) ++ event.MakeFolder new_folder ∷ syncs
@@ -324,7 +325,7 @@ module _ (bag : Bag) (free : is_in_the_way bag ≡ false) where
           once.1
           (ap (λ (ns : List (List ℕ)). after_steps (map MoveIn ns) (begun bag free)) is)
           (first_on ns top two.0 once.0 t (before ++ now) next asks so_far
-          (folder_durable before now made asks.syncs asks.durable)) rest)
+          (folder_durable before now made asks.syncs asks.are_syncs asks.durable)) rest)
 
       all_from_folder : (e : File) (more : List File) → tags ≡ e ∷ more → (ns : List (List ℕ)) → ns ≡ names
           → (t before now es : List DeviceEvent) → AsksFolder new_folder before now → Reaches bag t (IsMade bag free)
@@ -342,7 +343,7 @@ module _ (bag : Bag) (free : is_in_the_way bag ≡ false) where
           later two.1 once.1
           (ap (λ (ns : List (List ℕ)). after_steps (map MoveIn ns) (begun bag free)) is)
           (first_on ns top two.0 once.0 t (before ++ now) next asks so_far
-          (folder_durable before now made asks.syncs asks.durable)) rest)
+          (folder_durable before now made asks.syncs asks.are_syncs asks.durable)) rest)
 
 -- the bag when all names are moved and the folder has its last name
 abbrev pub named_by : Bag → List (List ℕ) → Bag

@@ -1,6 +1,7 @@
 -- What is added to a trail.
 use Rattle.std.proofs.Common.{◌≡◌, ◌++◌, ◌∷◌, List, [], sym, ap, ◌∙◌, append-nil, append_assoc}
-use Rattle.bag_tree.specs.Asked.{Adds, AreSyncs, Asking, AsksSyncs, IsSync}
+use Rattle.bag_tree.proofs.Events.{sync_alone}
+use Rattle.bag_tree.specs.Asked.{Adds, Asking, AsksSyncs, ChangeNothing, IsSync}
 use Rattle.bag_tree.specs.declared.event.DeviceEvent.{DeviceEvent}
 
 -- nothing
@@ -13,9 +14,9 @@ no_syncs trail = record { now = []; trail = sym (append-nil trail); is = tt }
 
 pub one_sync : (e : DeviceEvent) → IsSync e → (before after : List DeviceEvent) → after ≡ before ++ e ∷ []
     → Adds AsksSyncs before after
-one_sync e is before after added = record { now = e ∷ []; trail = added; is = (is, tt) }
+one_sync e is before after added = record { now = e ∷ []; trail = added; is = (sync_alone e is, tt) }
 
-both_syncs : (xs ys : List DeviceEvent) → AreSyncs xs → AreSyncs ys → AreSyncs (xs ++ ys)
+both_syncs : (xs ys : List DeviceEvent) → ChangeNothing xs → ChangeNothing ys → ChangeNothing (xs ++ ys)
 both_syncs [] ys one two = two
 both_syncs (x ∷ xs) ys one two = (one.0, both_syncs xs ys one.1 two)
 

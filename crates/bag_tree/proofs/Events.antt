@@ -13,14 +13,15 @@ use Rattle.std.specs.Ordering.{eq_by_cmp}
 use Rattle.bag_text.specs.Text.{text_cmp}
 use Rattle.bag_tree.proofs.Parents.{base_not_under, is_slash, name_has_no_slash}
 use Rattle.bag_tree.proofs.SameText.{exact_texts, one_text, text_itself}
-use Rattle.bag_tree.specs.Asked.{AreSyncs, IsSync, has_durable_folders, is_named}
+use Rattle.bag_tree.specs.Asked.{AreSyncs, ChangesNothing, IsSync, has_durable_folders, is_base_synced, is_named}
 use Rattle.bag_tree.specs.Bag.{Bag, has_file, has_folder}
 use Rattle.bag_tree.specs.Cut.{IsLost, appended, done, folder_of, has_below, hold, is_durable, is_file_synced}
 use Rattle.bag_tree.specs.Cut.{is_synced, is_there, lose, rename, without}
 use Rattle.bag_tree.specs.Moved.{is_within, moved}
 use Rattle.bag_tree.specs.Steps.{create, has_within, make_folder, move_in, rename_folder}
 use Rattle.bag_tree.specs.declared.event.DeviceEvent.{DeviceEvent}
-use Rattle.bag_tree.specs.declared.event.DeviceEvent.TheVariants.{MakeFolder, Rename, Create, Write, Sync, SyncFolder}
+use Rattle.bag_tree.specs.declared.event.DeviceEvent.TheVariants.{MakeFolder, Rename, Create, Remove, Write, Sync}
+use Rattle.bag_tree.specs.declared.event.DeviceEvent.TheVariants.{SyncFolder, SyncRefused}
 
 or_false : (a b : Bool) → (a || b) ≡ false → b ≡ false
 or_false a b none = grind arith
@@ -83,7 +84,7 @@ found q c (e ∷ es) at k within =
     ] refl at
 
 -- a file at a path, or below it
-file_within : (d : Bag) (path q c : List ℕ) → file d q ≡ Some c → is_within path q ≡ true → has_within d path ≡ true
+pub file_within : (d : Bag) (path q c : List ℕ) → file d q ≡ Some c → is_within path q ≡ true → has_within d path ≡ true
 file_within d path q c at within = found q c (fin.entries d.files) (sym (fin.get-entries d.files q) ∙ at) path within
 
 -- where nothing stands at a path or below it, nothing is lost there
@@ -116,7 +117,7 @@ done_make name d is none =
     rw is (λ i. record { files = files i; folders = folders i })
 
 -- where a name is another one
-apart : (from to : List ℕ) (d : Bag) → from ≢ to → done (Rename from to) d ≡ rename from to d
+pub apart : (from to : List ℕ) (d : Bag) → from ≢ to → done (Rename from to) d ≡ rename from to d
 unfolding done
 apart from to d other = ap (λ b. cond b d (rename from to d)) (other_name from to other)
 
@@ -177,23 +178,51 @@ done_sync (SyncFolder name) d is = refl
 done_sync (MakeFolder name) d is = absurd is
 done_sync (Rename from to) d is = absurd is
 done_sync (Create name) d is = absurd is
+done_sync (Remove name) d is = absurd is
 done_sync (Write name bytes) d is = absurd is
+done_sync (SyncRefused path) d is = absurd is
 
-pub sync_durable : (e : DeviceEvent) (later : List DeviceEvent) → IsSync e → is_durable e later ≡ false → ⊥
-sync_durable (Sync name) later is missing = cc
-sync_durable (SyncFolder name) later is missing = cc
-sync_durable (MakeFolder name) later is missing = is
-sync_durable (Rename from to) later is missing = is
-sync_durable (Create name) later is missing = is
-sync_durable (Write name bytes) later is missing = is
+-- nor does one that is refused
+pub sync_alone : (e : DeviceEvent) → IsSync e → ChangesNothing e
+sync_alone (Sync name) is = is
+sync_alone (SyncFolder name) is = is
+sync_alone (MakeFolder name) is = is
+sync_alone (Rename from to) is = is
+sync_alone (Create name) is = is
+sync_alone (Remove name) is = is
+sync_alone (Write name bytes) is = is
+sync_alone (SyncRefused path) is = tt
 
-pub sync_lost : (e : DeviceEvent) (d left : Bag) → IsSync e → IsLost e d left → ⊥
-sync_lost (Sync name) d left is lost = lost
-sync_lost (SyncFolder name) d left is lost = lost
-sync_lost (MakeFolder name) d left is lost = is
-sync_lost (Rename from to) d left is lost = is
-sync_lost (Create name) d left is lost = is
-sync_lost (Write name bytes) d left is lost = is
+pub done_nothing : (e : DeviceEvent) (d : Bag) → ChangesNothing e → done e d ≡ d
+unfolding done
+done_nothing (Sync name) d is = refl
+done_nothing (SyncFolder name) d is = refl
+done_nothing (SyncRefused path) d is = refl
+done_nothing (MakeFolder name) d is = absurd is
+done_nothing (Rename from to) d is = absurd is
+done_nothing (Create name) d is = absurd is
+done_nothing (Remove name) d is = absurd is
+done_nothing (Write name bytes) d is = absurd is
+
+pub nothing_undone : (e : DeviceEvent) (later : List DeviceEvent) → ChangesNothing e → is_durable e later ≡ false → ⊥
+nothing_undone (Sync name) later is missing = cc
+nothing_undone (SyncFolder name) later is missing = cc
+nothing_undone (SyncRefused path) later is missing = cc
+nothing_undone (MakeFolder name) later is missing = is
+nothing_undone (Rename from to) later is missing = is
+nothing_undone (Create name) later is missing = is
+nothing_undone (Remove name) later is missing = is
+nothing_undone (Write name bytes) later is missing = is
+
+pub nothing_is_lost : (e : DeviceEvent) (d left : Bag) → ChangesNothing e → IsLost e d left → ⊥
+nothing_is_lost (Sync name) d left is lost = lost
+nothing_is_lost (SyncFolder name) d left is lost = lost
+nothing_is_lost (SyncRefused path) d left is lost = lost
+nothing_is_lost (MakeFolder name) d left is lost = is
+nothing_is_lost (Rename from to) d left is lost = is
+nothing_is_lost (Create name) d left is lost = is
+nothing_is_lost (Remove name) d left is lost = is
+nothing_is_lost (Write name bytes) d left is lost = is
 
 -- a folder that was synced is so whatever follows
 pub synced_front : (folder : List ℕ) (es later : List DeviceEvent) → is_synced folder es ≡ true
@@ -208,8 +237,11 @@ synced_front folder (MakeFolder name ∷ es) later is =
     let two = and_parts _ _ is in and_from _ _ two.0 (synced_front folder es later two.1)
 synced_front folder (Create name ∷ es) later is =
     let two = and_parts _ _ is in and_from _ _ two.0 (synced_front folder es later two.1)
+synced_front folder (Remove name ∷ es) later is =
+    let two = and_parts _ _ is in and_from _ _ two.0 (synced_front folder es later two.1)
 synced_front folder (Write name bytes ∷ es) later is = synced_front folder es later is
 synced_front folder (Sync name ∷ es) later is = synced_front folder es later is
+synced_front folder (SyncRefused path ∷ es) later is = absurd (false≢true is)
 
 file_synced_front : (name : List ℕ) (es later : List DeviceEvent) → is_file_synced name es ≡ true
     → is_file_synced name (es ++ later) ≡ true
@@ -224,7 +256,10 @@ file_synced_front name (MakeFolder n ∷ es) later is =
     let two = and_parts _ _ is in and_from _ _ two.0 (file_synced_front name es later two.1)
 file_synced_front name (Create n ∷ es) later is =
     let two = and_parts _ _ is in and_from _ _ two.0 (file_synced_front name es later two.1)
+file_synced_front name (Remove n ∷ es) later is =
+    let two = and_parts _ _ is in and_from _ _ two.0 (file_synced_front name es later two.1)
 file_synced_front name (Write n bytes ∷ es) later is = file_synced_front name es later is
+file_synced_front name (SyncRefused path ∷ es) later is = absurd (false≢true is)
 
 -- what is durable stays so
 pub durable_front : (e : DeviceEvent) (es later : List DeviceEvent) → is_durable e es ≡ true
@@ -235,9 +270,11 @@ durable_front (Rename from to) es later is =
     and_parts _ _ is
     in and_from _ _ (synced_front (folder_of from) es later two.0) (synced_front (folder_of to) es later two.1)
 durable_front (Create name) es later is = synced_front (folder_of name) es later is
+durable_front (Remove name) es later is = synced_front (folder_of name) es later is
 durable_front (Write name bytes) es later is = file_synced_front name es later is
 durable_front (Sync name) es later is = refl
 durable_front (SyncFolder folder) es later is = refl
+durable_front (SyncRefused path) es later is = refl
 
 -- and a folder that is synced later is synced, where before that there are syncs alone
 pub synced_after : (folder : List ℕ) (es later : List DeviceEvent) → AreSyncs es → is_synced folder later ≡ true
@@ -249,23 +286,40 @@ synced_after folder (Sync name ∷ es) later are is = synced_after folder es lat
 synced_after folder (Rename from to ∷ es) later are is = absurd are.0
 synced_after folder (MakeFolder name ∷ es) later are is = absurd are.0
 synced_after folder (Create name ∷ es) later are is = absurd are.0
+synced_after folder (Remove name ∷ es) later are is = absurd are.0
 synced_after folder (Write name bytes ∷ es) later are is = absurd are.0
+synced_after folder (SyncRefused path ∷ es) later are is = absurd are.0
 
--- a folder that was made is durable by what follows
-pub made_durable : (name : List ℕ) (before ys : List DeviceEvent)
+-- a folder that was made is durable by the syncs that follow
+base_by_syncs : (es : List DeviceEvent) → AreSyncs es → is_base_synced es ≡ true → is_synced [] es ≡ true
+base_by_syncs [] are is = is
+base_by_syncs (SyncFolder f ∷ es) are is =
+    elim (or_cases (bytes_eq f []) (is_base_synced es) is)
+    [ inl a ↦ or_left _ _ a | inr b ↦ or_right (bytes_eq f []) _ (base_by_syncs es are.1 b) ]
+base_by_syncs (Sync name ∷ es) are is = base_by_syncs es are.1 is
+base_by_syncs (MakeFolder name ∷ es) are is = absurd are.0
+base_by_syncs (Rename from to ∷ es) are is = absurd are.0
+base_by_syncs (Create name ∷ es) are is = absurd are.0
+base_by_syncs (Remove name ∷ es) are is = absurd are.0
+base_by_syncs (Write name bytes ∷ es) are is = absurd are.0
+base_by_syncs (SyncRefused path ∷ es) are is = absurd are.0
+
+pub made_durable : (name : List ℕ) (before ys : List DeviceEvent) → AreSyncs ys
     → has_durable_folders (before ++ MakeFolder name ∷ ys) ≡ true → is_synced [] ys ≡ true
-made_durable name [] ys is = (and_parts _ _ is).0
-made_durable name (e ∷ before) ys is = made_durable name before ys (and_parts _ _ is).1
+made_durable name [] ys are is = base_by_syncs ys are (and_parts _ _ is).0
+made_durable name (e ∷ before) ys are is = made_durable name before ys are (and_parts _ _ is).1
 
 -- a sync of the base folder makes all names durable that were given there
-base_at_end : (es : List DeviceEvent) → is_synced [] (es ++ SyncFolder [] ∷ []) ≡ true
+base_at_end : (es : List DeviceEvent) → is_base_synced (es ++ SyncFolder [] ∷ []) ≡ true
 base_at_end [] = refl
 base_at_end (SyncFolder f ∷ es) = or_right (bytes_eq f []) _ (base_at_end es)
 base_at_end (Rename from to ∷ es) = base_at_end es
 base_at_end (MakeFolder name ∷ es) = base_at_end es
 base_at_end (Create name ∷ es) = base_at_end es
+base_at_end (Remove name ∷ es) = base_at_end es
 base_at_end (Write name bytes ∷ es) = base_at_end es
 base_at_end (Sync name ∷ es) = base_at_end es
+base_at_end (SyncRefused path ∷ es) = base_at_end es
 
 pub durable_at_end : (es : List DeviceEvent) → has_durable_folders (es ++ SyncFolder [] ∷ []) ≡ true
 durable_at_end [] = refl
@@ -295,7 +349,7 @@ file_created name bytes d =
     get-insert nat_list_cmp_total d.files name bytes name
     ∙ ap (λ b. cond b (Some bytes) (file d name)) (text_itself name)
 
-created_again : (name bytes more : List ℕ) (d : Bag) → create name more (create name bytes d) ≡ create name more d
+pub created_again : (name bytes more : List ℕ) (d : Bag) → create name more (create name bytes d) ≡ create name more d
 created_again name bytes more d =
     let files =
     fin.same_map nat_list_cmp_total exact_texts (fin.insert (fin.insert d.files name bytes) name more)

@@ -1,13 +1,16 @@
 pub mod Added
 pub mod Calm
+pub mod ChangingFiles
 pub mod Common
 pub mod Events
+pub mod FileChanges
 pub mod HashValues
 pub mod LeftOut
 pub mod ListingLaw
 pub mod Moving
 pub mod Parents
 pub mod PathEntries
+pub mod PutFile
 pub mod Reading
 pub mod Runs
 pub mod SameText

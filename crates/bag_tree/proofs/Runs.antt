@@ -2,8 +2,8 @@
 use Rattle.std.proofs.Common.{◌≡◌, ◌++◌, inl, inr, ⊎_elim, false, List, [], ◌∷◌, ◌⊎◌, refl, sym, ◌∙◌, subst, append-nil}
 use Rattle.std.proofs.Common.{append_assoc}
 use Rattle.std.proofs.lemmas.Bool.{false_from_ne_true, false≢true}
-use Rattle.bag_tree.proofs.Events.{done_sync, durable_front, sync_durable, sync_lost}
-use Rattle.bag_tree.specs.Asked.{AreSyncs}
+use Rattle.bag_tree.proofs.Events.{done_nothing, durable_front, nothing_is_lost, nothing_undone, sync_alone}
+use Rattle.bag_tree.specs.Asked.{AreSyncs, ChangeNothing}
 use Rattle.bag_tree.specs.Bag.{Bag}
 use Rattle.bag_tree.specs.Cut.{IsLost, IsPart, MayBecome, MayLeave, done, is_durable}
 use Rattle.bag_tree.specs.declared.event.DeviceEvent.{DeviceEvent}
@@ -35,6 +35,10 @@ split_last (y ∷ trail) (x ∷ before) after e is =
     let rest_is : trail ++ e ∷ [] ≡ before ++ after = cc in
     ⊎_elim (λ all. inl (λ i. same i ∷ all i)) (λ front. inr (front.0, λ i. sym same i ∷ front.1 i))
     (split_last trail before after e rest_is)
+
+pub syncs_alone : (es : List DeviceEvent) → AreSyncs es → ChangeNothing es
+syncs_alone [] are = tt
+syncs_alone (e ∷ es) are = (sync_alone e are.0, syncs_alone es are.1)
 
 module _ {P : Bag → Type 0} {bag : Bag} where
   -- before the first
@@ -90,17 +94,21 @@ module _ {P : Bag → Type 0} {bag : Bag} where
   }
 
   -- events that change nothing
-  pub synced : (es trail : List DeviceEvent) (Q : List DeviceEvent → Bag → Type 0) → Reaches P bag trail Q → AreSyncs es
-      → Reaches P bag (trail ++ es) (λ later d. Q (es ++ later) d)
-  synced [] trail Q so_far are = subst (λ t. Reaches P bag t Q) (sym (append-nil trail)) so_far
-  synced (e ∷ es) trail Q so_far are =
+  pub unchanged : (es trail : List DeviceEvent) (Q : List DeviceEvent → Bag → Type 0) → Reaches P bag trail Q
+      → ChangeNothing es → Reaches P bag (trail ++ es) (λ later d. Q (es ++ later) d)
+  unchanged [] trail Q so_far are = subst (λ t. Reaches P bag t Q) (sym (append-nil trail)) so_far
+  unchanged (e ∷ es) trail Q so_far are =
       let one = one_more trail Q (λ later d. Q (e ∷ later) d) e so_far
-      (λ later d q. subst (Q (e ∷ later)) (sym (done_sync e d are.0)) q)
-      (λ later d part q missing is. absurd (sync_durable e later are.0 missing))
-      (λ later d left q lost. absurd (sync_lost e d left are.0 lost))
+      (λ later d q. subst (Q (e ∷ later)) (sym (done_nothing e d are.0)) q)
+      (λ later d part q missing is. absurd (nothing_undone e later are.0 missing))
+      (λ later d left q lost. absurd (nothing_is_lost e d left are.0 lost))
       (λ later d q. so_far.whole (e ∷ later) d q) in
       subst (λ t. Reaches P bag t (λ later d. Q (e ∷ (es ++ later)) d)) (append_assoc trail (e ∷ []) es)
-      (synced es (trail ++ e ∷ []) (λ later d. Q (e ∷ later) d) one are.1)
+      (unchanged es (trail ++ e ∷ []) (λ later d. Q (e ∷ later) d) one are.1)
+
+  pub synced : (es trail : List DeviceEvent) (Q : List DeviceEvent → Bag → Type 0) → Reaches P bag trail Q → AreSyncs es
+      → Reaches P bag (trail ++ es) (λ later d. Q (es ++ later) d)
+  synced es trail Q so_far are = unchanged es trail Q so_far (syncs_alone es are)
 
 -- what is left after some events was left after the first of them, and then after the others
 pub left_between : (front back : List DeviceEvent) (first left : Bag) → MayLeave (front ++ back) first left
@@ -117,3 +125,30 @@ left_between (e ∷ front) back first left (next, becomes, may) =
           part,
         ))
     sooner (inr (inr lost)) = inr (inr lost)
+
+-- nothing is left of events that change nothing but what was there
+pub nothing_left : (es : List DeviceEvent) (bag left : Bag) → ChangeNothing es → MayLeave es bag left → left ≡ bag
+nothing_left [] bag left are may = may
+nothing_left (e ∷ es) bag left are (next, becomes, may) =
+    nothing_left es next left are.1 may ∙ same becomes
+  where
+    same : MayBecome e es bag next → next ≡ bag
+    same (inl all) = all ∙ done_nothing e bag are.0
+    same (inr (inl (missing, part))) = absurd (nothing_undone e es are.0 missing)
+    same (inr (inr lost)) = absurd (nothing_is_lost e bag next are.0 lost)
+
+-- a front of two runs of events is a front of the first, or that and a front of the second
+pub front_of_two : (one two front back : List DeviceEvent) → one ++ two ≡ front ++ back
+    → ((rest : List DeviceEvent) × (one ≡ front ++ rest))
+    ⊎ ((more : List DeviceEvent) × (rest : List DeviceEvent) × (front ≡ one ++ more) × (two ≡ more ++ rest))
+front_of_two one two [] back is = inl (one, refl)
+front_of_two [] two (x ∷ front) back is = inr (x ∷ front, back, refl, is)
+front_of_two (y ∷ one) two (x ∷ front) back is =
+    let same : x ≡ y = cc in
+    let rest_is : one ++ two ≡ front ++ back = cc in
+    ⊎_elim (λ a. inl (a.0, λ i. sym same i ∷ a.1 i)) (λ b. inr (b.0, b.1, (λ i. same i ∷ b.2 i), b.3))
+    (front_of_two one two front back rest_is)
+
+pub first_change_nothing : (more rest : List DeviceEvent) → ChangeNothing (more ++ rest) → ChangeNothing more
+first_change_nothing [] rest are = tt
+first_change_nothing (e ∷ more) rest are = (are.0, first_change_nothing more rest are.1)

@@ -11,7 +11,8 @@ use Rattle.bag_tree.specs.Moved.{is_within, moved}
 use Rattle.bag_tree.specs.Steps.{Files, make_folder, create}
 use Rattle.bag_tree.specs.declared.event.DeviceEvent.{DeviceEvent}
 use Rattle.bag_tree.specs.declared.event.DeviceEvent.TheVariants.{MakeFolder, Rename, Create}
-use Rattle.bag_tree.specs.declared.event.DeviceEvent.TheVariants.{Write, Sync, SyncFolder}
+use Rattle.bag_tree.specs.declared.event.DeviceEvent.TheVariants.{Remove, Write, Sync, SyncFolder}
+use Rattle.bag_tree.specs.declared.event.DeviceEvent.TheVariants.{SyncRefused}
 
 -- the folder that holds a path's name: what stands before the path's last slash, or else the base
 -- folder, whose path is empty
@@ -73,48 +74,59 @@ unfoldable pub done : DeviceEvent → Bag → Bag
 done (MakeFolder name) bag = with_made_folder name (lose name bag)
 done (Rename from to) bag = if bytes_eq from to then bag else rename from to bag
 done (Create name) bag = create name [] (lose name bag)
+done (Remove name) bag = lose name bag
 done (Write name bytes) bag = hold name (appended (file bag name) bytes) bag
 done (Sync name) bag = bag
 done (SyncFolder folder) bag = bag
+done (SyncRefused path) bag = bag
 
 -- what has this name is at the path or above it; the base folder is below none
 abbrev pub is_on_way : List ℕ → List ℕ → Bool
 is_on_way path name = not (bytes_eq path []) && is_within name path
 
 -- After the event the path may mean another file or folder: it, or one above it, was made, or was
--- renamed, or is the new name of what was renamed.
+-- renamed, or is the new name of what was renamed, or was removed.
 abbrev pub is_anew : List ℕ → DeviceEvent → Bool
 is_anew path (MakeFolder name) = is_on_way path name
 is_anew path (Rename from to) = is_on_way path from || is_on_way path to
 is_anew path (Create name) = is_on_way path name
+is_anew path (Remove name) = is_on_way path name
 is_anew path (Write name bytes) = false
 is_anew path (Sync name) = false
 is_anew path (SyncFolder folder) = false
+is_anew path (SyncRefused refused) = false
 
--- These events sync the folder, before its path may mean another one. That makes the names in it
--- durable, and not its own.
+-- These events sync the folder, before its path may mean another one, and before any sync is
+-- refused. That makes the names in it durable, and not its own. A device that refused a sync may
+-- have lost what it held, and say so once: a sync that it answers later makes durable what was done
+-- since.
 abbrev pub is_synced : List ℕ → List DeviceEvent → Bool
 is_synced folder [] = false
 is_synced folder (SyncFolder synced ∷ later) = bytes_eq synced folder || is_synced folder later
+is_synced folder (SyncRefused path ∷ later) = false
 is_synced folder (event ∷ later) = not (is_anew folder event) && is_synced folder later
 
--- These events sync the file, before its path may mean another one. That makes its bytes durable,
--- and not its name.
+-- These events sync the file, before its path may mean another one, and before any sync is
+-- refused. That makes its bytes durable, and not its name.
 abbrev pub is_file_synced : List ℕ → List DeviceEvent → Bool
 is_file_synced name [] = false
 is_file_synced name (Sync synced ∷ later) = bytes_eq synced name || is_file_synced name later
+is_file_synced name (SyncRefused path ∷ later) = false
 is_file_synced name (event ∷ later) = not (is_anew name event) && is_file_synced name later
 
--- The later events make an event durable: a new name where its folder is synced, one that moved
--- where the folder it left is synced too, bytes where their file is. A sync changes nothing.
+-- The later events make an event durable: a name, new or removed, where its folder is synced, one
+-- that moved where the folder it left is synced too, bytes where their file is. A sync changes
+-- nothing, and no more does one that is refused.
 abbrev pub is_durable : DeviceEvent → List DeviceEvent → Bool
 is_durable (MakeFolder name) later = is_synced (folder_of name) later
 is_durable (Rename from to) later =
     is_synced (folder_of from) later && is_synced (folder_of to) later
 is_durable (Create name) later = is_synced (folder_of name) later
+is_durable (Remove name) later = is_synced (folder_of name) later
 is_durable (Write name bytes) later = is_file_synced name later
 is_durable (Sync name) later = true
 is_durable (SyncFolder folder) later = true
+is_durable (SyncRefused path) later = true
 
 -- What there may be of an event that isn't durable: nothing, but of a write any bytes in its file.
 -- So a rename is made whole or not at all.

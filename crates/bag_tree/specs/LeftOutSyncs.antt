@@ -2,13 +2,14 @@
 use Rattle.std.specs.Prelude.{ℕ, ◌≡◌, ◌≢◌, ◌⊎◌, ◌++◌, false, IsTrue, Contains, List, [], ◌∷◌, map}
 use Rattle.bag_text.specs.Path.{is_base_name, under}
 use Rattle.bag_tree.specs.Asked.{AreSyncs}
-use Rattle.bag_tree.specs.Bag.{Bag, HasFile, has_file}
+use Rattle.bag_tree.specs.Bag.{Bag, HasFile, LacksFile, has_file}
 use Rattle.bag_tree.specs.Cut.{MayLeave, folder_of, is_there, lose}
 use Rattle.bag_tree.specs.Moved.{is_within}
 use Rattle.bag_tree.specs.Steps.{create}
 use Rattle.bag_tree.specs.declared.event.DeviceEvent.{DeviceEvent}
 use Rattle.bag_tree.specs.declared.event.DeviceEvent.TheVariants.{MakeFolder, Rename, Create}
-use Rattle.bag_tree.specs.declared.event.DeviceEvent.TheVariants.{Write, Sync, SyncFolder}
+use Rattle.bag_tree.specs.declared.event.DeviceEvent.TheVariants.{Remove, Write, Sync, SyncFolder}
+use Rattle.bag_tree.specs.declared.event.DeviceEvent.TheVariants.{SyncRefused}
 
 -- these are syncs, and this one isn't among them
 abbrev pub AreSyncsWithout : DeviceEvent → List DeviceEvent → Type 0
@@ -30,6 +31,17 @@ RenamesMayBeUndone =
     → ¬ (Contains syncs (SyncFolder (folder_of from)) × Contains syncs (SyncFolder (folder_of to)))
     → MayLeave (Rename from to ∷ syncs) bag bag
 
+-- And then a rename to the name that was left loses what was to have been moved: a file that was to
+-- be moved into a folder isn't there, once the folder is given its name.
+abbrev pub RenamesMayLose : Type 0
+RenamesMayLose =
+    (bag : Bag) (folder name : List ℕ) (syncs : List DeviceEvent)
+    → IsTrue (is_base_name folder) → IsTrue (is_base_name name) → folder ≢ name → AreSyncs syncs
+    → ¬ (Contains syncs (SyncFolder []) × Contains syncs (SyncFolder folder))
+    → has_file bag folder ≡ false
+    → (left : Bag) × LacksFile left name
+    × MayLeave (Rename name (under folder name) ∷ syncs ++ Rename folder name ∷ []) bag left
+
 -- a file that was made may be missing, where its folder isn't synced, though its bytes are
 abbrev pub FilesMayBeMissing : Type 0
 FilesMayBeMissing =
@@ -44,10 +56,19 @@ BytesMayBeAny =
     → HasFile bag name → AreSyncsWithout (Sync name) syncs
     → MayLeave (Write name bytes ∷ syncs) bag (create name found bag)
 
+-- What wasn't durable when a sync was refused may be lost, whatever is synced later: bytes, and a
+-- file.
+abbrev pub RefusedSyncsMayLose : Type 0
+RefusedSyncsMayLose =
+    (bag : Bag) (name bytes found path : List ℕ) (syncs : List DeviceEvent) → AreSyncs syncs
+    → (HasFile bag name
+    → MayLeave (Write name bytes ∷ SyncRefused path ∷ syncs) bag (create name found bag))
+    × (has_file bag name ≡ false → MayLeave (Create name ∷ SyncRefused path ∷ syncs) bag bag)
+
 -- this event gives a path to another file or folder, or takes it from one
 abbrev pub GivesAnew : List ℕ → DeviceEvent → Type 0
 GivesAnew path event =
-    (event ≡ MakeFolder path) ⊎ (event ≡ Create path)
+    (event ≡ MakeFolder path) ⊎ (event ≡ Create path) ⊎ (event ≡ Remove path)
     ⊎ ((other : List ℕ) × (event ≡ Rename path other))
     ⊎ ((other : List ℕ) × (event ≡ Rename other path))
 

@@ -1,11 +1,13 @@
 pub mod Asked
 pub mod Bag
 pub mod ChangeCalls
+pub mod ChangeFiles
 pub mod Changes
 pub mod Cut
 pub mod Digest
 pub mod Digests
 pub mod DigestsOf
+pub mod FileChanges
 pub mod FileReads
 pub mod FileSums
 pub mod Hasher
@@ -16,6 +18,7 @@ pub mod Listing
 pub mod Moved
 pub mod MovesAll
 pub mod Out
+pub mod ReplaceCalls
 pub mod Steps
 pub mod Sums
 pub mod Tree

@@ -12,10 +12,15 @@ pub enum DeviceEvent {
     Rename(Text, Text),
     /// An empty file was made in the base folder.
     Create(Text),
+    /// A file of the base folder was removed.
+    Remove(Text),
     /// Bytes were put after those of a file.
     Write(Text, Items<u8>),
     /// The bytes of a file were made durable.
     Sync(Text),
     /// The names in a folder were made durable.
     SyncFolder(Text),
+    /// A sync of a file or a folder was refused: what wasn't durable by then may be lost, whatever
+    /// is synced later.
+    SyncRefused(Text),
 }

@@ -1,6 +1,7 @@
 //! Laws of the definitions, each the contract of a function that does nothing.
 ghost use Rattle.bag_tree.specs.Laws.{ListingsAreOfTheBag};
 ghost use Rattle.std.specs.Prelude.{ℕ, List};
+ghost use Rattle.bag_tree.specs.FileChanges.{ChangesAreDurable, CutsLeaveFirstChanges};
 ghost use Rattle.bag_tree.specs.LeftOutSyncs as left_out;
 ghost use Rattle.bag_tree.specs.MovesAll.{MovedIsThere};
 
@@ -20,8 +21,19 @@ pub fn moved_is_there()
 pub fn what_is_not_synced_may_be_lost()
     ensures moves { left_out.MovesMayLose }
     ensures renames { left_out.RenamesMayBeUndone }
+    ensures renamed_over { left_out.RenamesMayLose }
     ensures files { left_out.FilesMayBeMissing }
     ensures bytes { left_out.BytesMayBeAny }
     ensures new_file { left_out.SyncsAreOfTheNewFile }
     ensures new_folder { left_out.SyncsAreOfTheNewFolder }
+    ensures refused { left_out.RefusedSyncsMayLose }
+{}
+
+/// Files that are put in place of others, or removed, one after another: a power cut at any moment,
+/// also where the last of them was refused, leaves what the first of them made, for some number of
+/// them, and perhaps a file that was begun beside the others. After all of them it leaves what they
+/// make, and nothing else.
+pub fn changes_of_files_are_made_in_order()
+    ensures any_moment { CutsLeaveFirstChanges }
+    ensures durable { ChangesAreDurable }
 {}

@@ -23,8 +23,10 @@
 #![tactic(auto)]
 
 mod answer;
+mod changing_files;
 mod digests;
 mod event;
+mod file_change;
 mod file_sums;
 mod hasher;
 mod heard;
@@ -32,6 +34,7 @@ pub mod laws;
 mod listing;
 mod out;
 mod path_rest;
+mod replace_tree;
 mod sums;
 mod tree;
 mod tree_fault;
@@ -40,13 +43,16 @@ mod write_tree;
 mod writer_out;
 
 pub use answer::Answer;
+pub use changing_files::{RefusedChange, change_files};
 pub use digests::Digests;
 pub use event::DeviceEvent;
+pub use file_change::FileChange;
 pub use file_sums::digest_file;
 pub use heard::Heard;
 pub use listing::{FileEntry, Listing};
 pub use out::{Out, Refused};
 pub use path_rest::rest_within;
+pub use replace_tree::ReplaceTree;
 pub use sums::{HexFault, Sums};
 pub use tree::Tree;
 pub use tree_fault::{Stop, TreeFault};

@@ -16,7 +16,8 @@ use crate::{Tree, TreeFault};
 /// Where its device notes what it does, each call says what it asked of that, in order, so that it
 /// is known what a power cut may leave at any moment. A folder's name is durable before anything is
 /// moved into it, what was moved before the folder is renamed, and a file that was made when its
-/// call is answered. A refused call may have synced.
+/// call is answered. A refused call may have synced, and a sync may be what was refused: then what
+/// wasn't durable may be lost, whatever is synced later, so a caller makes no further step.
 pub trait WriteTree: Tree {
     /// Makes a folder in the base folder.
     fn make_folder(&mut self, name: &str) -> Result<(), TreeFault>

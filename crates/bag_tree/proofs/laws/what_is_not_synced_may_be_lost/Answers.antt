@@ -18,3 +18,9 @@ returns-clause-new_file c = left_out.syncs_are_of_the_new_file
 
 pub returns-clause-new_folder : goal.returns-clause-new_folder
 returns-clause-new_folder c = left_out.syncs_are_of_the_new_folder
+
+pub returns-clause-renamed_over : goal.returns-clause-renamed_over
+returns-clause-renamed_over c = left_out.renames_may_lose
+
+pub returns-clause-refused : goal.returns-clause-refused
+returns-clause-refused c = left_out.refused_syncs_may_lose
