@@ -4,7 +4,6 @@ use Rattle.std.specs.FinMap as map
 use Rattle.std.specs.List.{list_all}
 use Rattle.bag_text.specs.Text.{text_cmp}
 use Rattle.bag_tree.specs.declared.event.DeviceEvent.{DeviceEvent}
-use Rattle.bag_disk.specs.declared.disk.Entry.TheVariants as entry
 
 -- what stands at a path: a regular file with its bytes, a folder, or something else, as a link, or
 -- as what has a name that isn't UTF-8

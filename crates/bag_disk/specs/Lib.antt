@@ -8,6 +8,7 @@ pub mod Laws
 pub mod Location
 pub mod Opening
 pub mod Refusal
+pub mod ReplaceDisk
 pub mod Subject
 pub mod SystemDisk
 pub mod WritableDisk

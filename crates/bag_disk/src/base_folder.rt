@@ -122,6 +122,12 @@ impl BaseFolder {
         answer_of(fs::rename(rt, from.as_str(), to.as_str()))
     }
 
+    /// Removes the file at a path.
+    pub(crate) fn remove<R: Files>(&self, rt: &R, path: &str) -> Result<(), DiskFault> {
+        let location = self.location(path)?;
+        answer_of(fs::remove_file(rt, location.as_str()))
+    }
+
     /// Makes a file at a path, open for writing, with the base folder's owner and group as far as
     /// the system lets it. It replaces none.
     pub(crate) fn create<R: Files>(&self, rt: &R, path: &str) -> Result<R::File, DiskFault>

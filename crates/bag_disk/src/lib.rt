@@ -8,7 +8,8 @@
 //! }
 //! ```
 //!
-//! A `Disk` says what stands at its paths, a `WritableDisk` has the calls that make a bag besides.
+//! A `Disk` says what stands at its paths, a `WritableDisk` has the calls that make a bag besides,
+//! and a `ReplaceDisk` those that put a file in place of another and remove one.
 //! What an honest disk answers is what stands there. `SystemDisk` hands each call to the system, of
 //! which nothing is promised. Of RFC 8493 it keeps which files are in a bag, and by which paths (2,
 //! 2.1.2): regular files below the base folder, to which no link leads.
@@ -29,6 +30,7 @@ mod opening;
 mod path;
 mod path_order;
 mod refusal;
+mod replace_disk;
 mod system_disk;
 mod system_fault;
 mod writable_disk;
@@ -39,5 +41,6 @@ pub use listing::list_below;
 pub use location::path_in;
 pub use opening::{check_is_folder, open_at};
 pub use refusal::{Refusal, Subject};
+pub use replace_disk::ReplaceDisk;
 pub use system_disk::SystemDisk;
 pub use writable_disk::WritableDisk;

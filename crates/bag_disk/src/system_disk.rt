@@ -11,6 +11,7 @@ use crate::base_folder::{BaseFolder, Synced};
 use crate::disk::{Disk, DiskFault, Entry};
 use crate::failures::Failures;
 use crate::refusal::Subject;
+use crate::replace_disk::ReplaceDisk;
 use crate::system_fault::answer_of;
 use crate::writable_disk::WritableDisk;
 use bag_text::{Items, Text};
@@ -221,6 +222,25 @@ where
     {
         let synced = self.base.sync(&self.rt, folder, &mut self.synced);
         self.failures.counted(Subject::Known, synced)
+    }
+}
+
+impl<R: Files + AllocGlobal + Clone + Drop> ReplaceDisk for SystemDisk<R>
+where
+    R::File: AsFd,
+{
+    fn replace(&mut self, from: &str, to: &str) -> Result<(), DiskFault> {
+        let replaced = self.base.rename(&self.rt, from, to);
+        self.failures.counted(Subject::Known, replaced)?;
+        self.close_all();
+        Ok(())
+    }
+
+    fn remove(&mut self, path: &str) -> Result<(), DiskFault> {
+        let removed = self.base.remove(&self.rt, path);
+        self.failures.counted(Subject::Path, removed)?;
+        self.close_all();
+        Ok(())
     }
 }
 

@@ -4,7 +4,8 @@ use Rattle.std.proofs.Common.{subst, append_assoc}
 use Rattle.bag_text.specs.Path.{under}
 use Rattle.bag_tree.proofs.Added.{nothing_added, one_sync, same_syncs}
 use Rattle.bag_tree.proofs.Events.{durable_at_end, same_name}
-use Rattle.std.proofs.lemmas.Bool.{or_left, or_right}
+use Rattle.bag_tree.proofs.Runs.{syncs_alone}
+use Rattle.std.proofs.lemmas.Bool.{and_from, or_left, or_right}
 use Rattle.bag_tree.specs.Asked.{Adds, AsksFolder, AsksMove, AsksRename, AsksSyncs, has_durable_folders}
 use Rattle.bag_tree.specs.declared.event.DeviceEvent.{DeviceEvent}
 use Rattle.bag_tree.specs.declared.event.DeviceEvent.TheVariants as event
@@ -12,7 +13,7 @@ use Rattle.bag_disk.specs.Disk.{DiskState, Nodes}
 use Rattle.bag_disk.specs.DiskNodes.{OnlyLooks, OnlySyncs}
 use Rattle.bag_disk.specs.WritableDisk.{Notes}
 use Rattle.bag_disk.specs.declared.refusal.Refusal.{Refusal}
-use Rattle.bag_store.specs.Asking.{AsksOfDisk, HasDurableFolders, SyncsBoth}
+use Rattle.bag_store.specs.Asking.{AsksAnsweredSyncs, AsksOfDisk, HasDurableFolders, SyncsBoth}
 
 abbrev pub Answer : Type 0
 Answer = Result (Unit {0}) Refusal
@@ -53,9 +54,9 @@ added_next first syncs before after e is then =
 
 -- a sync
 pub sync_asked : (folder : List ℕ) (old new : DiskState) (r : Answer) → NotesIt (event.SyncFolder folder) old new r
-    → OnErr r (OnlyLooks old new) → AsksOfDisk AsksSyncs AsksSyncs old new r
+    → OnErr r (OnlyLooks old new) → AsksOfDisk AsksAnsweredSyncs AsksSyncs old new r
 sync_asked folder old new (Ok u) notes same noted =
-    one_sync (event.SyncFolder folder) tt old.trail new.trail (notes noted)
+    record { now = event.SyncFolder folder ∷ []; trail = notes noted; is = (tt, tt) }
 sync_asked folder old new (Err f) notes same noted = nothing_added AsksSyncs old.trail new.trail same.trail tt
 
 pub base_synced : (old new : DiskState) (r : Answer) → OnlySyncs old new → NotesIt (event.SyncFolder []) old new r
@@ -104,7 +105,7 @@ folder_refused old mid at new one two three noted =
 
 -- a move after syncs
 pub move_asked : (top folder : List ℕ) (old mid new : DiskState) (r : Answer) → OnlySyncs old mid
-    → (IsTrue old.noted → Adds AsksSyncs old.trail mid.trail) → HasDurableFolders mid
+    → (IsTrue old.noted → Adds AsksAnsweredSyncs old.trail mid.trail) → HasDurableFolders mid
     → NotesIt (event.Rename top (under folder top)) mid new r → OnErr r (OnlyLooks mid new)
     → AsksOfDisk (AsksMove top folder) AsksSyncs old new r
 move_asked top folder old mid new (Ok u) syncs adds durable notes same noted =
@@ -125,7 +126,9 @@ move_asked top folder old mid new (Ok u) syncs adds durable notes same noted =
           };
     }
 move_asked top folder old mid new (Err f) syncs adds durable notes same noted =
-    same_syncs old.trail mid.trail new.trail (adds noted) same.trail
+    let so_far = adds noted in
+    same_syncs old.trail mid.trail new.trail
+    (record { now = so_far.now; trail = so_far.trail; is = syncs_alone so_far.now so_far.is }) same.trail
 
 -- to a target that has two names
 pub move_noted : (top to target : List ℕ) (old seen new : DiskState) → OnlyLooks old seen → to ≡ target
@@ -157,6 +160,7 @@ rename_asked from to old first mid at new one two adds three notes noted =
             are_syncs = (tt, (tt, tt));
             durable = or_left _ _ (same_name from);
             base_durable = or_right _ _ refl;
+            in_turn = or_left _ _ (and_from _ _ (same_name from) refl);
             asked = refl;
           };
     }

@@ -1,7 +1,7 @@
 -- What the changes of a disk make of the bag below its base folder.
 use Rattle.bag_store.proofs.Common.{arith, ◌≡◌, ℕ, Bool, true, false, cond, List, [], ◌∷◌, Any, IsTrue, length, Option}
 use Rattle.bag_store.proofs.Common.{Some, None, is_some, refl, ap, sym, ◌∙◌, false≢true, or_left, or_right, find}
-use Rattle.bag_store.proofs.Common.{get-entries, get-insert, list_any, eq_by_cmp, nat_list_cmp_total, text_cmp}
+use Rattle.bag_store.proofs.Common.{get-entries, get-insert, get-remove, list_any, eq_by_cmp, nat_list_cmp_total, text_cmp}
 use Rattle.bag_store.proofs.Common.{is_base_name, under, exact_texts, one_text, text_itself, Bag, file, files_of}
 use Rattle.bag_store.proofs.Common.{has_folder, has_within, is_taken, lacks_folder, lacks_source, make_folder, create}
 use Rattle.bag_store.proofs.Common.{MovesAll, is_within, moved, within_cases, itself_within, not_within, Nodes, Node}
@@ -9,7 +9,7 @@ use Rattle.bag_store.proofs.Common.{node, DiskState, HasSpecial, IsDisk, IsReach
 use Rattle.bag_store.proofs.Common.{is_folder_node, path_in, Folder, HasFileNode, Moves, with_file_node}
 use Rattle.bag_store.proofs.Common.{with_folder_node, nodes_move, bag_of_disk, file_of_disk, folder_of_disk, bag_of}
 use Rattle.bag_store.proofs.Common.{IsStanding}
-use Rattle.std.proofs.Common.{map as list_map}
+use Rattle.std.proofs.Common.{map as list_map, not, inl, inr, ◌⊎◌}
 use Rattle.std.proofs.lemmas.List.Folds.{list_any-from_Any}
 use Rattle.std.specs.FinMap as map
 use Rattle.std.specs.FinSet as set
@@ -17,6 +17,8 @@ use Rattle.bag_tree.proofs.ListingLaw.{listings_are_of_the_bag}
 use Rattle.bag_tree.specs.Listing.{IsListingOf, IsOrdered}
 use Rattle.bag_tree.specs.declared.listing.FileEntry.{FileEntry}
 use Rattle.bag_tree.specs.declared.listing.Listing.{Listing}
+use Rattle.bag_tree.specs.Bag.{LacksFile}
+use Rattle.bag_tree.specs.Cut.{lose}
 use Rattle.bag_tree.specs.Steps as step
 use Rattle.bag_tree.proofs.Moving.{moves_all}
 use Rattle.bag_disk.proofs.DiskPaths.{none_below_no_folder}
@@ -86,6 +88,67 @@ file_made nodes name bytes disk disk_then free =
     )) (λ none.
     no_name (with_file_node nodes name bytes) q disk_then none ∙ sym (no_name nodes q disk none)))
 
+-- the bag with a file in its base folder, in place of any other of its name
+pub file_put : (nodes : Nodes) (name bytes : List ℕ) → IsDisk nodes → IsDisk (with_file_node nodes name bytes)
+    → is_folder_node (node nodes name) ≡ false
+    → bag_of (with_file_node nodes name bytes) ≡ create name bytes (bag_of nodes)
+file_put nodes name bytes disk disk_then none =
+    same_bag (bag_of (with_file_node nodes name bytes)) (create name bytes (bag_of nodes))
+    (λ path. grind (arith, node_put, one_text, text_itself, file_of_disk, get-insert {X = List ℕ} nat_list_cmp_total))
+    (λ q. by_name q _ _
+    (λ named. grind (
+      arith,
+      node_put,
+      one_text,
+      folder_of_disk (with_file_node nodes name bytes) q named,
+      folder_of_disk nodes q named,
+    )) (λ unnamed.
+    no_name (with_file_node nodes name bytes) q disk_then unnamed ∙ sym (no_name nodes q disk unnamed)))
+
+-- the bag without a file of its base folder
+pub file_gone : (nodes : Nodes) (name : List ℕ) → IsDisk nodes → IsDisk (map.remove nodes name)
+    → HasFileNode nodes name → bag_of (map.remove nodes name) ≡ lose name (bag_of nodes)
+unfolding lose
+file_gone nodes name disk disk_then has =
+    same_bag (bag_of (map.remove nodes name)) (lose name (bag_of nodes))
+    (λ path.
+    file_of_disk (map.remove nodes name) path ∙ ap bytes_of (node_gone path)
+    ∙ by_place path (eq_by_cmp text_cmp path name) refl (is_within name path) refl
+    ∙ sym (map.get-retain_keys (bag_of nodes).files (λ p. not (is_within name p)) path (λ x same.
+    ap (λ p. not (is_within name p)) (sym (exact_texts path x same)))))
+    (λ q. by_name q _ _
+    (λ named. grind (
+      arith,
+      node_gone,
+      folder_of_disk (map.remove nodes name) q named,
+      folder_of_disk nodes q named,
+      set.contains-remove nat_list_cmp_total (bag_of nodes).folders name q,
+    )) (λ none. grind (
+      arith,
+      no_name (map.remove nodes name) q disk_then none,
+      no_name nodes q disk none,
+      set.contains-remove nat_list_cmp_total (bag_of nodes).folders name q,
+    )))
+  where
+    node_gone : (q : List ℕ)
+        → node (map.remove nodes name) q ≡ cond (eq_by_cmp text_cmp q name) None (node nodes q)
+    node_gone q = get-remove nat_list_cmp_total nodes name q
+
+    no_folder : node nodes name ≡ Some Folder → ⊥
+    no_folder is = false≢true (sym (ap (λ o. is_some (bytes_of o)) is) ∙ has)
+
+    by_place : (path : List ℕ) (b : Bool) → eq_by_cmp text_cmp path name ≡ b → (c : Bool) → is_within name path ≡ c
+        → bytes_of (cond b None (node nodes path)) ≡ cond (not c) (file (bag_of nodes) path) None
+    by_place path true same true within = refl
+    by_place path true same false out =
+        absurd (false≢true (sym out ∙ ap (is_within name) (one_text path name same) ∙ itself_within name))
+    by_place path false differ false out = sym (file_of_disk nodes path)
+    by_place path false differ true within = elim (within_cases name path within) [
+      | inl itself ↦
+          absurd (false≢true (sym differ ∙ ap (λ p. eq_by_cmp text_cmp p name) itself ∙ text_itself name))
+      | inr below ↦ ap bytes_of (none_below_no_folder nodes path name below.0 disk below.1 no_folder)
+    ]
+
 -- nothing has a free name, and what has one is taken
 pub free_not_taken : (nodes : Nodes) (name : List ℕ) → is_base_name name ≡ true → node nodes name ≡ None
     → is_taken (bag_of nodes) name ≡ false
@@ -94,6 +157,13 @@ free_not_taken nodes name is free = grind (arith, file_of_disk, folder_of_disk)
 pub not_taken : (nodes : Nodes) (name : List ℕ) → is_base_name name ≡ true → node nodes name ≡ None
     → is_taken (bag_of nodes) name ≡ true → ⊥
 not_taken nodes name is free taken = grind (arith, free_not_taken)
+
+pub place_free : (nodes : Nodes) (beside name : List ℕ) → is_base_name beside ≡ true → is_base_name name ≡ true
+    → node nodes beside ≡ None → is_folder_node (node nodes name) ≡ false
+    → (is_taken (bag_of nodes) beside ≡ true) ⊎ (has_folder (bag_of nodes) name ≡ true) → ⊥
+place_free nodes beside name beside_is name_is free none (inl taken) = not_taken nodes beside beside_is free taken
+place_free nodes beside name beside_is name_is free none (inr there) =
+    false≢true (sym none ∙ sym (folder_of_disk nodes name name_is) ∙ there)
 
 -- what was seen has its name
 one_taken : (nodes : Nodes) (name : List ℕ) (seen : Standing) → is_base_name name ≡ true
@@ -104,6 +174,26 @@ pub seen_taken : (disk : DiskState) (name : List ℕ) (o : Option Standing) (see
     → o ≡ Some seen
     → (IsTrue disk.honest → IsReachedByFolders disk.nodes name → IsStanding disk.nodes name o) → IsNameTaken disk name
 seen_taken disk name o seen is some there honest = grind (arith, one_taken, base_reached)
+
+-- what was seen there is a file, a folder, or nothing
+pub folder_seen : (nodes : Nodes) (name : List ℕ) → is_base_name name ≡ true
+    → IsStanding nodes name (Some standing.Folder) → has_folder (bag_of nodes) name ≡ true
+folder_seen nodes name is there = grind (arith, folder_of_disk nodes name is)
+
+pub none_is_no_file : (nodes : Nodes) (name : List ℕ) → IsStanding nodes name None → LacksFile (bag_of nodes) name
+none_is_no_file nodes name there = grind (arith, file_of_disk)
+
+pub folder_is_no_file : (nodes : Nodes) (name : List ℕ) → IsStanding nodes name (Some standing.Folder)
+    → LacksFile (bag_of nodes) name
+folder_is_no_file nodes name there = grind (arith, file_of_disk)
+
+-- nothing stands where something is to be made
+pub nothing_is_no_file : (nodes : Nodes) (name : List ℕ) → node nodes name ≡ None → LacksFile (bag_of nodes) name
+nothing_is_no_file nodes name none = grind (arith, file_of_disk)
+
+-- a file that stands there isn't lacking
+pub has_file_there : (nodes : Nodes) (name : List ℕ) → HasFileNode nodes name → LacksFile (bag_of nodes) name → ⊥
+has_file_there nodes name has none = grind (arith, file_of_disk, false≢true)
 
 abbrev Entries : Type 0
 Entries = List (List ℕ × List ℕ)

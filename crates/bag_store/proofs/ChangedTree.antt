@@ -1,6 +1,6 @@
 -- What a step makes of a tree of the files on a disk.
 use Rattle.bag_store.proofs.Common.{◌≡◌, ℕ, ◌+◌, ◌≤◌, true, IsTrue, List, take, Some, None, is_some, inl, inr, ◌⊎◌, ap}
-use Rattle.bag_store.proofs.Common.{sym, ◌∙◌, arith, false≢true, get-insert, nat_list_cmp_total, is_base_name, Bag}
+use Rattle.bag_store.proofs.Common.{sym, ◌∙◌, arith, false≢true, get-insert, get-remove, nat_list_cmp_total, is_base_name, Bag}
 use Rattle.bag_store.proofs.Common.{LeavesPartialFile, AppliesStep, IsUnchanged, Keeps, DiskState, Nodes, Node, node}
 use Rattle.bag_store.proofs.Common.{IsDisk, OnlyLooks, entry_count, is_plain, is_plain_node, ClosesOpenFile}
 use Rattle.bag_store.proofs.Common.{MakesFolderNode, moved, nodes_move, IsMovedIn, IsRenamed, bag_of, file_state_after}
@@ -10,8 +10,12 @@ use Rattle.bag_tree.specs.declared.answer.Answer.{Answer}
 use Rattle.bag_tree.specs.Steps as step
 use Rattle.bag_disk.specs.DiskNodes.{OnlySyncs, SameDisk}
 use Rattle.bag_store.proofs.AskedOf.{looked}
-use Rattle.bag_store.proofs.EntryCounts.{as_many_moved, more_put}
-use Rattle.bag_store.proofs.BagSteps.{came_from, bag_moved_in, bag_renamed, file_made, folder_made, free_not_taken}
+use Rattle.bag_store.proofs.EntryCounts.{as_many_moved, more_put, no_more_gone}
+use Rattle.bag_store.proofs.BagSteps.{came_from, bag_moved_in, bag_renamed, file_gone, file_made, file_put}
+use Rattle.bag_store.proofs.BagSteps.{folder_made, free_not_taken}
+use Rattle.bag_store.specs.Writing.{LeavesPut, Puts, RemovesIt}
+use Rattle.bag_tree.specs.Cut.{lose}
+use Rattle.bag_tree.specs.ReplaceCalls.{LeavesReplaced}
 
 -- what stands there stood there before, or is a file or a folder
 abbrev NothingElse : Nodes → Nodes → Type 0
@@ -24,6 +28,9 @@ stays_plain old new from plain = grind (arith, all_plain, false≢true, other_no
 nothing_else_put : (nodes : Nodes) (name : List ℕ) (n : Node) → is_plain_node n ≡ true
     → NothingElse nodes (map.insert nodes name n)
 nothing_else_put nodes name n good path m is = grind (arith, get-insert nat_list_cmp_total nodes name n path)
+
+nothing_else_gone : (nodes : Nodes) (name : List ℕ) → NothingElse nodes (map.remove nodes name)
+nothing_else_gone nodes name path n is = grind (arith, get-remove nat_list_cmp_total nodes name path)
 
 nothing_else_moved : (nodes : Nodes) (from to : List ℕ) → IsDisk nodes → node nodes to ≡ None
     → NothingElse nodes (moved from to nodes)
@@ -59,6 +66,20 @@ module _ (old new : DiskState) (own own_then given given_then : ℕ) (last last_
       (file_state_after new own_then given_then last_then)
   file_changed name bytes disk disk_then grows makes =
       grind (arith, changed, file_made, stays_plain, nothing_else_put, more_put)
+
+  pub put_changed : (beside name bytes : List ℕ) → IsDisk old.nodes → IsDisk new.nodes
+      → old.failures + own ≤ new.failures + own_then → Puts old new beside name bytes
+      → AppliesStep (step.create name bytes) 1 (file_state_after old own given last)
+      (file_state_after new own_then given_then last_then)
+  put_changed beside name bytes disk disk_then grows puts =
+      grind (arith, changed, file_put, stays_plain, nothing_else_put, more_put)
+
+  pub gone_changed : (name : List ℕ) → IsDisk old.nodes → IsDisk new.nodes
+      → old.failures + own ≤ new.failures + own_then → RemovesIt old new name
+      → AppliesStep (lose name) 0 (file_state_after old own given last)
+      (file_state_after new own_then given_then last_then)
+  gone_changed name disk disk_then grows removes =
+      grind (arith, changed, file_gone, stays_plain, nothing_else_gone, no_more_gone)
 
   pub moved_changed : (top folder : List ℕ) → IsDisk old.nodes → IsDisk new.nodes → is_base_name top ≡ true
       → new.failures ≡ old.failures → own_then ≡ own → ClosesOpenFile old new → IsMovedIn old new top folder
@@ -115,6 +136,26 @@ module _ (old new : DiskState) (own own_then given given_then : ℕ) (last last_
   step_begun name bytes disk disk_then is grows same (inl looks) = inl (step_same (looked old new looks) grows same)
   step_begun name bytes disk disk_then is grows same (inr begins) =
       grind (arith, file_changed name (take begins.count bytes) disk disk_then grows begins.first, free_not_taken)
+
+  -- a refused change left all, or a file of some first bytes beside, or was made
+  pub put_left : (beside name bytes : List ℕ) → IsDisk old.nodes → IsDisk new.nodes → is_base_name beside ≡ true
+      → old.failures + own ≤ new.failures + own_then → given_then ≡ given → LeavesPut old new beside name bytes
+      → LeavesReplaced beside name bytes (file_state_after old own given last)
+      (file_state_after new own_then given_then last_then)
+  put_left beside name bytes disk disk_then is grows same (inl looks) = inl (step_same (looked old new looks) grows same)
+  put_left beside name bytes disk disk_then is grows same (inr (inl begins)) =
+      elim (step_begun beside bytes disk disk_then is grows same (inr begins))
+      [ inl all ↦ inl all | inr part ↦ inr (inl part) ]
+  put_left beside name bytes disk disk_then is grows same (inr (inr puts)) =
+      inr (inr (put_changed beside name bytes disk disk_then grows puts))
+
+  pub gone_left : (name : List ℕ) → IsDisk old.nodes → IsDisk new.nodes
+      → old.failures + own ≤ new.failures + own_then → given_then ≡ given → OnlyLooks old new ⊎ RemovesIt old new name
+      → IsUnchanged (file_state_after old own given last) (file_state_after new own_then given_then last_then)
+      ⊎ AppliesStep (lose name) 0 (file_state_after old own given last)
+      (file_state_after new own_then given_then last_then)
+  gone_left name disk disk_then grows same (inl looks) = inl (step_same (looked old new looks) grows same)
+  gone_left name disk disk_then grows same (inr removes) = inr (gone_changed name disk disk_then grows removes)
 
 pub looked_same : (old new : DiskState) → OnlyLooks old new → SameDisk old new
 looked_same old new looks =

@@ -1,29 +1,44 @@
 -- Which events leave the names of folders durable.
 use Rattle.std.proofs.Common.{◌≡◌, ◌++◌, ◌||◌, inl, inr, ◌⊎◌, ◌∙◌, ℕ, Bool, true, false, IsTrue, not, map, List, []}
-use Rattle.std.proofs.Common.{◌∷◌, refl, sym, ap, append_assoc}
-use Rattle.std.proofs.lemmas.Bool.{and_from, and_parts, or_left}
+use Rattle.std.proofs.Common.{◌∷◌, bytes_eq, refl, sym, ap, append_assoc}
+use Rattle.std.proofs.lemmas.Bool.{and_from, and_parts, false≢true, or_cases, or_left, or_right}
 use Rattle.bag_text.specs.Path.{under}
-use Rattle.bag_tree.proofs.Events.{not_base, synced_front}
-use Rattle.bag_tree.specs.Asked.{Adds, AreSyncs, AsksFile, AsksMove, AsksSyncs, MayBegin, has_durable_folders, is_named}
-use Rattle.bag_tree.specs.Cut.{is_synced}
+use Rattle.bag_tree.proofs.Events.{not_base}
+use Rattle.bag_tree.proofs.Runs.{syncs_alone}
+use Rattle.bag_tree.specs.Asked.{Adds, AreSyncs, AsksFile, AsksMove, AsksSyncs, ChangeNothing, MayBegin}
+use Rattle.bag_tree.specs.Asked.{has_durable_folders, is_base_synced, is_named}
 use Rattle.bag_tree.specs.declared.event.DeviceEvent.{DeviceEvent}
 use Rattle.bag_disk.specs.Disk.{DiskState}
 use Rattle.bag_disk.specs.DiskNodes.{OnlyLooks}
 use Rattle.bag_store.specs.Asking.{HasDurableFolders}
 use Rattle.bag_store.specs.Writing.{Begins}
-use Rattle.bag_tree.specs.declared.event.DeviceEvent.TheVariants.{MakeFolder, Rename, Create, Write, Sync, SyncFolder}
+use Rattle.bag_tree.specs.declared.event.DeviceEvent.TheVariants.{MakeFolder, Rename, Create, Remove, Write, Sync}
+use Rattle.bag_tree.specs.declared.event.DeviceEvent.TheVariants.{SyncFolder, SyncRefused}
 
-durable_front : (b : Bool) (es more : List DeviceEvent) → (b || is_synced [] es) ≡ true
-    → (b || is_synced [] (es ++ more)) ≡ true
+base_front : (es more : List DeviceEvent) → is_base_synced es ≡ true → is_base_synced (es ++ more) ≡ true
+base_front [] more is = absurd (false≢true is)
+base_front (SyncFolder f ∷ es) more is =
+    elim (or_cases (bytes_eq f []) (is_base_synced es) is)
+    [ inl a ↦ or_left _ _ a | inr b ↦ or_right (bytes_eq f []) _ (base_front es more b) ]
+base_front (Sync name ∷ es) more is = base_front es more is
+base_front (MakeFolder name ∷ es) more is = base_front es more is
+base_front (Rename from to ∷ es) more is = base_front es more is
+base_front (Create name ∷ es) more is = base_front es more is
+base_front (Remove name ∷ es) more is = base_front es more is
+base_front (Write name bytes ∷ es) more is = base_front es more is
+base_front (SyncRefused path ∷ es) more is = base_front es more is
+
+durable_front : (b : Bool) (es more : List DeviceEvent) → (b || is_base_synced es) ≡ true
+    → (b || is_base_synced (es ++ more)) ≡ true
 durable_front true es more is = refl
-durable_front false es more is = synced_front [] es more is
+durable_front false es more is = base_front es more is
 
 -- what was durable stays so whatever follows
 durable_on : (es more : List DeviceEvent) → has_durable_folders es ≡ true → has_durable_folders more ≡ true
     → has_durable_folders (es ++ more) ≡ true
 durable_on [] more one two = two
 durable_on (e ∷ es) more one two =
-    let parts = and_parts (not (is_named e) || is_synced [] es) (has_durable_folders es) one in
+    let parts = and_parts (not (is_named e) || is_base_synced es) (has_durable_folders es) one in
     and_from _ _ (durable_front (not (is_named e)) es more parts.0) (durable_on es more parts.1 two)
 
 -- an event that gives no folder of the base folder its name
@@ -31,26 +46,28 @@ one_more : (e : DeviceEvent) (es : List DeviceEvent) → is_named e ≡ false �
     → has_durable_folders (e ∷ es) ≡ true
 one_more e es none durable = and_from _ _ (or_left (not (is_named e)) _ (ap not none)) durable
 
-syncs_are : (es : List DeviceEvent) → AreSyncs es → has_durable_folders es ≡ true
+syncs_are : (es : List DeviceEvent) → ChangeNothing es → has_durable_folders es ≡ true
 syncs_are [] are = refl
 syncs_are (Sync name ∷ es) are = syncs_are es are.1
 syncs_are (SyncFolder folder ∷ es) are = syncs_are es are.1
 syncs_are (MakeFolder name ∷ es) are = absurd are.0
 syncs_are (Rename from to ∷ es) are = absurd are.0
 syncs_are (Create name ∷ es) are = absurd are.0
+syncs_are (Remove name ∷ es) are = absurd are.0
 syncs_are (Write name bytes ∷ es) are = absurd are.0
+syncs_are (SyncRefused path ∷ es) are = syncs_are es are.1
 
 writes_are : (name : List ℕ) (pieces : List (List ℕ)) → has_durable_folders (map (Write name) pieces) ≡ true
 writes_are name [] = refl
 writes_are name (piece ∷ pieces) = one_more (Write name piece) (map (Write name) pieces) refl (writes_are name pieces)
 
 file_is : (name : List ℕ) (syncs : List DeviceEvent) (pieces : List (List ℕ)) (after : List DeviceEvent)
-    → AreSyncs syncs → AreSyncs after
+    → AreSyncs syncs → ChangeNothing after
     → has_durable_folders (syncs ++ Create name ∷ map (Write name) pieces ++ after) ≡ true
 file_is name syncs pieces after first last =
     let made = Create name ∷ map (Write name) pieces in
     durable_on (syncs ++ made) after
-    (durable_on syncs made (syncs_are syncs first)
+    (durable_on syncs made (syncs_are syncs (syncs_alone syncs first))
     (one_more (Create name) (map (Write name) pieces) refl (writes_are name pieces))) (syncs_are after last)
 
 module _ (before after : List DeviceEvent) where

@@ -30,6 +30,15 @@ no_more_put : (nodes : Nodes) (path : List ℕ) (n : Node) → is_plain_node n �
 no_more_put nodes path n other =
     grind (arith, other_put_alone, len-remove nat_list_cmp_total (files_and_folders nodes) path)
 
+-- nor where something is removed
+pub no_more_gone : (nodes : Nodes) (path : List ℕ) → entry_count (map.remove nodes path) ≤ entry_count nodes + 0
+no_more_gone nodes path = grind (arith, gone_alone, len-remove nat_list_cmp_total (files_and_folders nodes) path)
+  where
+    gone_alone : files_and_folders (map.remove nodes path) ≡ map.remove (files_and_folders nodes) path
+    gone_alone =
+        same_map nat_list_cmp_total exact_texts _ _ (λ q.
+        grind (arith, node_alone, get-remove {X = Node} nat_list_cmp_total))
+
 with_as_many : (from to : List ℕ) (nodes : Nodes) (es : List (List ℕ × Node))
     → entry_count (with_renamed from to nodes es) ≤ entry_count nodes + length (filter plain_entry es)
 with_as_many from to nodes [] = omega arith

@@ -2,6 +2,7 @@
 use Rattle.std.specs.Prelude.{ℕ, ◌≡◌, ◌++◌, true, IsTrue, List, [], ◌∷◌, Option, Some, MatchResult}
 use Rattle.std.specs.Prelude.{Result, map}
 use Rattle.bag_tree.specs.Asked.{Adds, AreSyncs, Asking, has_durable_folders, joined}
+use Rattle.bag_tree.specs.FileChanges.{AsksFirstOf}
 use Rattle.bag_tree.specs.declared.event.DeviceEvent.{DeviceEvent}
 use Rattle.bag_tree.specs.declared.event.DeviceEvent.TheVariants.{Write, Sync, SyncFolder}
 use Rattle.bag_disk.specs.Disk.{DiskState}
@@ -37,12 +38,13 @@ pub record FillsFile (path bytes : List ℕ) (before now : List DeviceEvent) : T
   pub whole : joined pieces ≡ bytes
   pub asked : now ≡ map (Write path) pieces ++ Sync path ∷ SyncFolder [] ∷ []
 
--- some bytes of a file are written
-pub record FillsPart (path : List ℕ) (before now : List DeviceEvent) : Type 0 where
-  pub pieces : List (List ℕ)
-  pub after : List DeviceEvent
-  pub are_after : AreSyncs after
-  pub asked : now ≡ map (Write path) pieces ++ after
+-- some of that is asked: some bytes of a file are written, all of them before it is synced
+abbrev pub FillsPart : List ℕ → List ℕ → Asking
+FillsPart path bytes = AsksFirstOf (FillsFile path bytes)
+
+-- syncs, each of which was answered
+abbrev pub AsksAnsweredSyncs : Asking
+AsksAnsweredSyncs before now = AreSyncs now
 
 -- what filling the file asks that is being written
 abbrev pub HasFilled : (List ℕ → Asking) → (List ℕ → Asking) → Option (List ℕ) → DiskState

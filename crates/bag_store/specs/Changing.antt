@@ -1,16 +1,26 @@
 -- When an honest disk is in the way of a step, and what a step makes of it.
-use Rattle.std.specs.Prelude.{ℕ, ◌≡◌, true, IsTrue, List, None, Some}
+use Rattle.std.specs.Prelude.{ℕ, ◌≡◌, ◌⊎◌, true, IsTrue, List, None, Some}
 use Rattle.bag_disk.specs.Disk.{DiskState, Nodes}
 use Rattle.bag_disk.specs.DiskNodes.{node}
 use Rattle.bag_disk.specs.Disk.Node.{Folder}
 use Rattle.bag_disk.specs.WritableDisk.{Moves}
 use Rattle.bag_disk.specs.DiskBag.{bag_of}
 use Rattle.bag_text.specs.Path.{under}
+use Rattle.bag_tree.specs.Bag.{LacksFile, has_folder}
 use Rattle.bag_tree.specs.Steps.{has_within, is_taken, lacks_folder, lacks_source}
 
 -- a file or a folder of the base folder has this name
 abbrev pub IsNameTaken : DiskState → List ℕ → Type 0
 IsNameTaken disk name = IsTrue disk.honest → is_taken (bag_of disk.nodes) name ≡ true
+
+-- something has the name beside, or a folder has the name
+abbrev pub IsPlaceTaken : DiskState → List ℕ → List ℕ → Type 0
+IsPlaceTaken disk beside name = IsTrue disk.honest
+    → (is_taken (bag_of disk.nodes) beside ≡ true) ⊎ (has_folder (bag_of disk.nodes) name ≡ true)
+
+-- there is no such file
+abbrev pub LacksFileThere : DiskState → List ℕ → Type 0
+LacksFileThere disk name = IsTrue disk.honest → LacksFile (bag_of disk.nodes) name
 
 -- what is to be moved isn't there, or the folder for it isn't
 abbrev pub LacksSource : DiskState → List ℕ → List ℕ → Type 0

@@ -1,7 +1,8 @@
 -- What was written to a file.
-use Rattle.std.specs.Prelude.{ℕ, ◌≡◌, IsTrue, List, Option, None, Some, take}
-use Rattle.bag_disk.specs.Disk.{DiskState, Nodes}
-use Rattle.bag_disk.specs.DiskNodes.{node}
+use Rattle.std.specs.Prelude.{ℕ, ◌≡◌, ◌⊎◌, false, IsTrue, List, Option, None, Some, take}
+use Rattle.bag_disk.specs.Disk.{DiskState, Nodes, is_folder_node}
+use Rattle.bag_disk.specs.DiskNodes.{OnlyLooks, node}
+use Rattle.bag_disk.specs.ReplaceDisk.{without_node}
 use Rattle.bag_disk.specs.WritableDisk.{Appends, ClosesOpenFile, HasFileNode, with_file_node}
 
 -- these bytes were put after those of the file that is being written, and nothing was opened
@@ -34,3 +35,25 @@ pub record Makes (old new : DiskState) (name bytes : List ℕ) : Type 0 where
 pub record Begins (old new : DiskState) (name bytes : List ℕ) : Type 0 where
   pub count : ℕ
   pub first : Makes old new name (take count bytes)
+
+-- a file of these bytes stands at a name, in place of any other: it was made at a name beside, at
+-- which nothing stood, and no folder had its own
+pub record PutsFile (old new : Nodes) (beside name bytes : List ℕ) : Type 0 where
+  pub free : node old beside ≡ None
+  pub no_folder : is_folder_node (node old name) ≡ false
+  pub put : new ≡ with_file_node old name bytes
+
+pub record Puts (old new : DiskState) (beside name bytes : List ℕ) : Type 0 where
+  pub closed : ClosesOpenFile old new
+  pub file : IsTrue old.honest → PutsFile old.nodes new.nodes beside name bytes
+
+-- nothing was changed, or a file was begun beside, or the file was put
+abbrev pub LeavesPut : DiskState → DiskState → List ℕ → List ℕ → List ℕ → Type 0
+LeavesPut old new beside name bytes =
+    OnlyLooks old new ⊎ Begins old new beside bytes ⊎ Puts old new beside name bytes
+
+-- a file was removed
+pub record RemovesIt (old new : DiskState) (name : List ℕ) : Type 0 where
+  pub closed : ClosesOpenFile old new
+  pub was : IsTrue old.honest → HasFileNode old.nodes name
+  pub removed : IsTrue old.honest → new.nodes ≡ without_node old.nodes name

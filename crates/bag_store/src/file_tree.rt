@@ -3,9 +3,9 @@ ghost use Rattle.std.specs.Prelude.{◌≡◌, true};
 ghost use Rattle.bag_store.specs.Asking.{HasDurableFolders};
 
 use crate::answered::Answered;
-use crate::{changing, writing};
-use bag_disk::{Disk, Refusal, SystemDisk, WritableDisk, list_below, open_at};
-use bag_tree::{Listing, Tree, TreeFault, WriteTree};
+use crate::{changing, replacing, writing};
+use bag_disk::{Disk, Refusal, ReplaceDisk, SystemDisk, WritableDisk, list_below, open_at};
+use bag_tree::{Listing, ReplaceTree, Tree, TreeFault, WriteTree};
 use std::alloc::{AllocError, Global};
 use std::rt::Files;
 
@@ -25,7 +25,7 @@ use std::rt::Files;
 /// renames, and so does the first `move_in` after one of them: where the device refuses that, they
 /// are refused, and nothing is changed. What a disk calls a wrong name, as one that is too long, is
 /// `Device` too. A refused `create` may leave a file of some first bytes, which stays open until
-/// the next step or until the tree is dropped.
+/// the next step or until the tree is dropped; so may a refused `replace` at the name beside.
 #[derive(Drop)]
 pub struct FileTree<D: Disk> {
     alloc: Global,
@@ -194,6 +194,49 @@ impl<D: WritableDisk + Drop> WriteTree for FileTree<D> {
             ReportsDisk ⊥ (D.state (disk_of self.old)) (D.state (disk_of self.new))) }
     {
         match writing::create(&mut self.disk, name, bytes) {
+            Ok(()) => {
+                self.answered.give();
+                Ok(())
+            }
+            Err(refusal) => Err(self.answered.refuse(refusal)),
+        }
+    }
+}
+
+impl<D: ReplaceDisk + Drop> ReplaceTree for FileTree<D> {
+    ghost use Rattle.std.specs.Prelude.{◌≢◌, IsTrue, IfErr};
+    ghost use Rattle.bag_text.specs.Path.{is_base_name};
+    ghost use Rattle.bag_tree.specs.ReplaceCalls.{Removes, Replaces};
+    ghost use Rattle.bag_store.specs.FileTreeCalls.{ReportsDisk, disk_of, state_of};
+
+    fn replace(&mut self, beside: &str, name: &str, bytes: &[u8]) -> Result<(), TreeFault>
+        requires beside { IsTrue (is_base_name beside.now) }
+        requires name { IsTrue (is_base_name name.now) }
+        requires two { beside.now ≢ name.now }
+        ensures replaces { Replaces beside.now name.now bytes.now
+            (state_of D.state self.old) (state_of D.state self.new) result }
+        ensures cause { IfErr result (
+            ReportsDisk ⊥ (D.state (disk_of self.old)) (D.state (disk_of self.new))) }
+    {
+        self.is_synced = false;
+        match replacing::replace(&mut self.disk, beside, name, bytes) {
+            Ok(()) => {
+                self.answered.give();
+                Ok(())
+            }
+            Err(refusal) => Err(self.answered.refuse(refusal)),
+        }
+    }
+
+    fn remove(&mut self, name: &str) -> Result<(), TreeFault>
+        requires { IsTrue (is_base_name name.now) }
+        ensures removes { Removes name.now (state_of D.state self.old) (state_of D.state self.new)
+            result }
+        ensures cause { IfErr result (
+            ReportsDisk ⊥ (D.state (disk_of self.old)) (D.state (disk_of self.new))) }
+    {
+        self.is_synced = false;
+        match replacing::remove(&mut self.disk, name) {
             Ok(()) => {
                 self.answered.give();
                 Ok(())

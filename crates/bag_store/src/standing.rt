@@ -1,9 +1,12 @@
 //! Looks at what stands where a step is to be made.
-ghost use Rattle.std.specs.Prelude.{◌≡◌, IfErr, IfOk, IsTrue, None, OnOk, false};
+ghost use Rattle.std.specs.Prelude.{◌≡◌, IfErr, IfOk, IsTrue, None, OnOk, false, true};
 ghost use Rattle.bag_text.specs.Path.{is_base_name, is_path};
+ghost use Rattle.bag_tree.specs.Bag.{has_folder};
 ghost use Rattle.bag_tree.specs.Steps.{is_taken};
+ghost use Rattle.bag_disk.specs.Disk.{is_folder_node};
 ghost use Rattle.bag_disk.specs.DiskNodes.{HasSpecial, IsReachedByFolders, OnlyLooks, node};
-ghost use Rattle.bag_store.specs.Changing.{IsNameTaken};
+ghost use Rattle.bag_disk.specs.WritableDisk.{HasFileNode};
+ghost use Rattle.bag_store.specs.Changing.{IsNameTaken, LacksFileThere};
 ghost use Rattle.bag_disk.specs.DiskBag.{bag_of};
 ghost use Rattle.bag_disk.specs.Refusal.{IsCounted, IsDue, IsDueInStep, MeetsSpecial};
 ghost use Rattle.bag_store.specs.Standing.{IsStanding};
@@ -72,5 +75,41 @@ pub(crate) fn check_taken<D: Disk>(disk: &mut D, name: &str) -> Result<(), Refus
     match standing_at(disk, name)? {
         None => Err(Refusal::NotFound),
         Some(_) => Ok(()),
+    }
+}
+
+/// Refuses a name of the base folder that a folder has.
+pub(crate) fn check_no_folder<D: Disk>(disk: &mut D, name: &str) -> Result<(), Refusal>
+    requires { IsTrue (is_base_name name.now) }
+    ensures looks { OnlyLooks (D.state disk.old) (D.state disk.new) }
+    ensures none { OnOk result
+        (IsTrue (D.state disk.old).honest
+        → is_folder_node (node (D.state disk.old).nodes name.now) ≡ false) }
+    ensures refused { IfErr result
+        (IsDueInStep (MeetsSpecial (D.state disk.old)) ⊥
+        (IsTrue (D.state disk.old).honest
+        → has_folder (bag_of (D.state disk.old).nodes) name.now ≡ true)) }
+    ensures failures { IsCounted result (D.state disk.old) (D.state disk.new) }
+{
+    match standing_at(disk, name)? {
+        None | Some(Standing::File) => Ok(()),
+        Some(Standing::Folder) => Err(Refusal::Exists),
+    }
+}
+
+/// Refuses a name of the base folder that no file has.
+pub(crate) fn check_is_file<D: Disk>(disk: &mut D, name: &str) -> Result<(), Refusal>
+    requires { IsTrue (is_base_name name.now) }
+    ensures looks { OnlyLooks (D.state disk.old) (D.state disk.new) }
+    ensures file { OnOk result
+        (IsTrue (D.state disk.old).honest → HasFileNode (D.state disk.old).nodes name.now) }
+    ensures refused { IfErr result
+        (IsDueInStep (MeetsSpecial (D.state disk.old))
+        (LacksFileThere (D.state disk.old) name.now) ⊥) }
+    ensures failures { IsCounted result (D.state disk.old) (D.state disk.new) }
+{
+    match standing_at(disk, name)? {
+        Some(Standing::File) => Ok(()),
+        None | Some(Standing::Folder) => Err(Refusal::NotFound),
     }
 }

@@ -5,7 +5,8 @@ ghost use Rattle.bag_tree.specs.declared.event.DeviceEvent.TheVariants.{Sync, Sy
 ghost use Rattle.bag_disk.specs.DiskNodes.{OnlyLooks, OnlySyncs};
 ghost use Rattle.bag_disk.specs.Refusal.{IsCounted, IsDueInStep};
 ghost use Rattle.bag_disk.specs.WritableDisk.{ClosesOpenFile, Notes};
-ghost use Rattle.bag_store.specs.Asking.{AsksOfDisk, HasDurableFolders, SyncsBoth};
+ghost use Rattle.bag_store.specs.Asking.{AsksAnsweredSyncs, AsksOfDisk, HasDurableFolders};
+ghost use Rattle.bag_store.specs.Asking.{SyncsBoth};
 
 use bag_disk::{Refusal, WritableDisk};
 
@@ -60,7 +61,8 @@ pub(crate) fn sync_folder_names<D: WritableDisk>(
 ) -> Result<(), Refusal>
     requires { is_synced ≡ true → HasDurableFolders (D.state disk.old) }
     ensures syncs { OnlySyncs (D.state disk.old) (D.state disk.new) }
-    ensures asked { AsksOfDisk AsksSyncs AsksSyncs (D.state disk.old) (D.state disk.new) result }
+    ensures asked { AsksOfDisk AsksAnsweredSyncs AsksSyncs
+        (D.state disk.old) (D.state disk.new) result }
     ensures durable { OnOk result (HasDurableFolders (D.state disk.new)) }
     ensures refused { IfErr result (IsDueInStep ⊥ ⊥ ⊥) }
     ensures failures { IsCounted result (D.state disk.old) (D.state disk.new) }

@@ -1,7 +1,8 @@
 //! Files that are made in the base folder.
 ghost use Rattle.std.specs.Prelude.{◌≡◌, ◌⊎◌, IfErr, IsTrue, OnErr, OnOk, is_some};
 ghost use Rattle.bag_text.specs.Path.{is_base_name};
-ghost use Rattle.bag_tree.specs.Asked.{AsksFile, MayBegin};
+ghost use Rattle.bag_tree.specs.Asked.{AsksFile};
+ghost use Rattle.bag_tree.specs.FileChanges.{AsksFirstOf};
 ghost use Rattle.bag_store.specs.Asking.{FillsFile, FillsPart, AsksOfDisk, HasFilled, WritesPieces};
 ghost use Rattle.bag_disk.specs.DiskNodes.{OnlyLooks};
 ghost use Rattle.bag_store.specs.Changing.{IsNameTaken};
@@ -18,8 +19,8 @@ pub(crate) fn create<D: WritableDisk>(disk: &mut D, name: &str, bytes: &[u8]) ->
     ensures made { OnOk result (Makes (D.state disk.old) (D.state disk.new) name.now bytes.now) }
     ensures begun { OnErr result (OnlyLooks (D.state disk.old) (D.state disk.new)
         ⊎ Begins (D.state disk.old) (D.state disk.new) name.now bytes.now) }
-    ensures asked { AsksOfDisk (AsksFile name.now bytes.now) (MayBegin name.now)
-        (D.state disk.old) (D.state disk.new) result }
+    ensures asked { AsksOfDisk (AsksFile name.now bytes.now)
+        (AsksFirstOf (AsksFile name.now bytes.now)) (D.state disk.old) (D.state disk.new) result }
     ensures refused { IfErr result
         (IsDueInStep (MeetsSpecial (D.state disk.old)) ⊥
         (IsNameTaken (D.state disk.old) name.now)) }
@@ -38,7 +39,8 @@ fn fill<D: WritableDisk>(disk: &mut D, bytes: &[u8]) -> Result<(), Refusal>
         (HasWritten (D.state disk.old) (D.state disk.new) (D.written disk.old) bytes.now) }
     ensures part { OnErr result
         (HasWrittenSome (D.state disk.old) (D.state disk.new) (D.written disk.old) bytes.now) }
-    ensures asked { HasFilled (λ path. FillsFile path bytes.now) FillsPart
+    ensures asked { HasFilled
+        (λ path. FillsFile path bytes.now) (λ path. FillsPart path bytes.now)
         (D.written disk.old) (D.state disk.old) (D.state disk.new) result }
     ensures refused { IfErr result (IsDueInStep ⊥ ⊥ ⊥) }
     ensures failures { IsCounted result (D.state disk.old) (D.state disk.new) }
@@ -56,7 +58,8 @@ fn write_all<D: WritableDisk>(disk: &mut D, bytes: &[u8]) -> Result<(), Refusal>
     ensures same_file { D.written disk.new ≡ D.written disk.old }
     ensures part { OnErr result
         (HasWrittenSome (D.state disk.old) (D.state disk.new) (D.written disk.old) bytes.now) }
-    ensures asked { HasFilled (λ path. WritesPieces path bytes.now) FillsPart
+    ensures asked { HasFilled
+        (λ path. WritesPieces path bytes.now) (λ path. FillsPart path bytes.now)
         (D.written disk.old) (D.state disk.old) (D.state disk.new) result }
     ensures refused { IfErr result (IsDueInStep ⊥ ⊥ ⊥) }
     ensures failures { IsCounted result (D.state disk.old) (D.state disk.new) }

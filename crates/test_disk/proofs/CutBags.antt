@@ -6,7 +6,8 @@ use Rattle.std.specs.FinMap as map
 use Rattle.std.specs.FinMap.{get-insert}
 use Rattle.std.specs.Cmp.Lexicographic.{nat_list_cmp_total}
 use Rattle.bag_text.specs.Path.{is_base_name, under}
-use Rattle.bag_tree.proofs.Events.{done_create, done_make, done_move, done_rename, done_sync, nothing_named}
+use Rattle.bag_tree.proofs.Events.{done_create, done_make, done_move, done_nothing, done_rename, done_sync}
+use Rattle.bag_tree.proofs.Events.{nothing_named}
 use Rattle.bag_tree.specs.Asked.{IsSync}
 use Rattle.bag_tree.specs.declared.event.DeviceEvent.{DeviceEvent}
 use Rattle.bag_tree.proofs.SameText.{one_text}
@@ -41,11 +42,11 @@ pub disk_is : (disk : MemoryDisk) → IsDisk (nodes_of disk.nodes.entries)
 disk_is disk = passing_is_disk (nodes_of disk.nodes.entries) disk.passes
 
 -- where nothing stands at a path
-none_within : (nodes : Nodes) (path : List ℕ) → IsDisk nodes → node nodes path ≡ None
+pub none_within : (nodes : Nodes) (path : List ℕ) → IsDisk nodes → node nodes path ≡ None
     → has_within (bag_of nodes) path ≡ false
 none_within nodes path disk free = false_from_ne_true _ (free_not_within nodes path disk free)
 
-no_folder : (nodes : Nodes) (name : List ℕ) → IsDisk nodes → node nodes name ≡ None
+pub no_folder : (nodes : Nodes) (name : List ℕ) → IsDisk nodes → node nodes name ≡ None
     → has_folder (bag_of nodes) name ≡ false
 no_folder nodes name disk free =
     by_name name _ _ (λ named. folder_of_disk nodes name named ∙ ap is_folder_node free) (λ none.
@@ -270,3 +271,17 @@ pub synced_then : (left disk : MemoryDisk) (e s : DeviceEvent) → e ≡ s → I
     → nodes_of left.nodes.entries ≡ nodes_of disk.nodes.entries → bag_in left ≡ done e (bag_in disk)
 synced_then left disk e s is sync same =
     ap bag_of same ∙ sym (done_sync s (bag_in disk) sync) ∙ ap (λ (x : DeviceEvent). done x (bag_in disk)) (sym is)
+
+pub refused_then : (left disk : MemoryDisk) (e : DeviceEvent) (path : List ℕ) → e ≡ event.SyncRefused path
+    → nodes_of left.nodes.entries ≡ nodes_of disk.nodes.entries → bag_in left ≡ done e (bag_in disk)
+refused_then left disk e path is same =
+    ap bag_of same ∙ sym (done_nothing (event.SyncRefused path) (bag_in disk) tt)
+    ∙ ap (λ (x : DeviceEvent). done x (bag_in disk)) (sym is)
+
+pub removed_then : (r : Result MemoryDisk DiskFault) (disk : MemoryDisk) (e : DeviceEvent) (name given : List ℕ)
+    → e ≡ event.Remove name → given ≡ name → IfOk r (λ left. bag_in left ≡ done (event.Remove given) (bag_in disk))
+    → IfOk r (λ left. bag_in left ≡ done e (bag_in disk))
+removed_then (Ok left) disk e name given is same made =
+    made ∙ ap (λ (n : List ℕ). done (event.Remove n) (bag_in disk)) same
+    ∙ ap (λ (x : DeviceEvent). done x (bag_in disk)) (sym is)
+removed_then (Err fault) disk e name given is same made = tt

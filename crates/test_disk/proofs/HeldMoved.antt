@@ -35,7 +35,8 @@ ascending [] s = refl
 ascending (e ∷ held) s = and_from _ _ (below e.0 held s.0) (ascending held s.1)
 
 -- the entries of what is held are what is held, in order
-entries_are : (held : Held) → IsStrictlySortedBy held_cmp (keys_of held) → fin.entries (nodes_of held) ≡ entries_of held
+pub entries_are : (held : Held) → IsStrictlySortedBy held_cmp (keys_of held)
+    → fin.entries (nodes_of held) ≡ entries_of held
 entries_are held up =
     same_entries text_cmp nat_list_cmp_total exact_texts (fin.entries (nodes_of held)) (entries_of held)
     (entries_sorted (nodes_of held)) (subst T (sym (ascending held up)) tt)

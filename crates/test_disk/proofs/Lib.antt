@@ -1,6 +1,8 @@
 pub mod CutBags
+pub mod CutNames
 pub mod CutPaths
 pub mod HeldCopied
+pub mod HeldGone
 pub mod HeldMoved
 pub mod HeldNames
 pub mod HeldNodes

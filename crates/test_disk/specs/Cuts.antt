@@ -1,11 +1,17 @@
 -- What a power cut may leave of a disk in memory.
-use Rattle.std.specs.Prelude.{◌≡◌, ◌++◌, All, Contains, List}
+use Rattle.std.specs.Prelude.{◌≡◌, ◌++◌, All, Bool, Contains, List, false, true}
 use Rattle.bag_tree.specs.Bag.{Bag}
 use Rattle.bag_tree.specs.Cut.{MayBecome, MayLeave}
 use Rattle.bag_tree.specs.declared.event.DeviceEvent.{DeviceEvent}
+use Rattle.bag_tree.specs.declared.event.DeviceEvent.TheVariants.{SyncRefused}
 use Rattle.bag_disk.specs.DiskBag.{bag_of}
 use Rattle.test_disk.specs.Held.{nodes_of}
 use Rattle.test_disk.specs.declared.memory_disk.MemoryDisk.{MemoryDisk}
+
+-- a sync was refused
+abbrev pub is_refused_sync : DeviceEvent → Bool
+is_refused_sync (SyncRefused path) = true
+is_refused_sync event = false
 
 -- the bag below the base folder of a disk
 abbrev pub bag_in : MemoryDisk → Bag

@@ -1,5 +1,5 @@
 -- What a call of a disk makes of what the disk means, and what it answers: of each call the clauses
--- of `Disk` and `WritableDisk`.
+-- of `Disk`, `WritableDisk` and `ReplaceDisk`.
 use Rattle.std.specs.Prelude.{◌≡◌, ◌<◌, ◌≤◌, ◌∷◌, ◌++◌, [], ℕ, List, Option, None, Some, is_some}
 use Rattle.std.specs.Prelude.{IfOk, IsErrOf, IsTrue, MatchOption, OnErr, OnOk, Result, length, take}
 use Rattle.std.specs.Prelude.{⊤}
@@ -11,10 +11,11 @@ use Rattle.bag_disk.specs.DiskNodes.{AreNamesIn, Has, HasUnnamed, IsReachedByFol
 use Rattle.bag_disk.specs.DiskNodes.{IsFileWith, IsFolder, OnlyLooks, OnlySyncs, SameDisk, node}
 use Rattle.bag_text.specs.Path.{is_path}
 use Rattle.bag_disk.specs.Refusal.{IsCountedAs, at_known, of_making, of_name, refusal_at_path}
+use Rattle.bag_disk.specs.ReplaceDisk.{Removes, Replaces}
 use Rattle.bag_disk.specs.WritableDisk.{Appends, ClosesOpenFile, HasFileNode, MakesFile}
 use Rattle.bag_disk.specs.WritableDisk.{MakesFolderNode, Moves, Notes}
 use Rattle.bag_tree.specs.declared.event.DeviceEvent.TheVariants.{MakeFolder, Rename, Create, Write}
-use Rattle.bag_tree.specs.declared.event.DeviceEvent.TheVariants.{Sync, SyncFolder}
+use Rattle.bag_tree.specs.declared.event.DeviceEvent.TheVariants.{Remove, Sync, SyncFolder}
 use Rattle.bag_disk.specs.declared.disk.Entry.{Entry}
 use Rattle.bag_disk.specs.declared.disk.DiskFault.{DiskFault}
 use Rattle.bag_disk.specs.declared.disk.DiskFault.TheVariants.{Exists, Name, NotFound}
@@ -191,3 +192,32 @@ pub record SyncsFolder (old new : DiskState) (written written_then : Option (Lis
   pub unnamed : IsErrOf answer Name → IsTrue old.honest → ⊥
   pub noted : IsTrue old.noted → OnOk answer (Notes (SyncFolder folder) old new)
   pub failures : IsCountedAs at_known answer old.failures new.failures
+
+-- what putting a file in place of another does
+pub record PutsInPlaceAt (old new : DiskState) (written written_then : Option (List ℕ))
+    (from to : List ℕ) (answer : Result (Unit {0}) DiskFault) : Type 0 where
+  pub replaced : OnOk answer
+      (IsTrue old.honest → IsReachedByFolders old.nodes from → IsReachedByFolders old.nodes to
+      → (bytes : List ℕ) → IsFileWith old.nodes from bytes
+      → Replaces old.nodes new.nodes from to bytes)
+  pub closed : OnOk answer (ClosesOpenFile old new)
+  pub ended : OnOk answer (written_then ≡ None)
+  pub same : OnErr answer (OnlyLooks old new)
+  pub same_file : OnErr answer (written_then ≡ written)
+  pub noted : IsTrue old.noted → OnOk answer (Notes (Rename from to) old new)
+  pub failures : IsCountedAs at_known answer old.failures new.failures
+
+-- what removing a file does
+pub record RemovesAt (old new : DiskState) (written written_then : Option (List ℕ)) (path : List ℕ)
+    (answer : Result (Unit {0}) DiskFault) : Type 0 where
+  pub removed : OnOk answer
+      (IsTrue old.honest → IsReachedByFolders old.nodes path
+      → Removes old.nodes new.nodes path)
+  pub closed : OnOk answer (ClosesOpenFile old new)
+  pub ended : OnOk answer (written_then ≡ None)
+  pub absent : IsErrOf answer NotFound → IsTrue old.honest → IsReachedByFolders old.nodes path
+      → node old.nodes path ≡ None
+  pub same : OnErr answer (OnlyLooks old new)
+  pub same_file : OnErr answer (written_then ≡ written)
+  pub noted : IsTrue old.noted → OnOk answer (Notes (Remove path) old new)
+  pub failures : IsCountedAs refusal_at_path answer old.failures new.failures

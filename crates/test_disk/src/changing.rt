@@ -1,14 +1,17 @@
 //! Changes of what a disk in memory holds.
-ghost use Rattle.std.specs.Prelude.{◌≡◌, ◌∷◌, ◌++◌, [], IfErr, IfOk, None, OnErr, OnOk, Some};
+ghost use Rattle.std.specs.Prelude.{◌≡◌, ◌∷◌, ◌++◌, [], ℕ, IfErr, IfOk, IsErrOf, List, None};
+ghost use Rattle.std.specs.Prelude.{OnErr, OnOk, Some};
 ghost use Rattle.std.specs.FinMap as map;
 ghost use Rattle.bag_text.specs.Path.{slash};
 ghost use Rattle.bag_tree.specs.Moved as moving;
-ghost use Rattle.bag_disk.specs.DiskNodes.{IsDisk, IsReachedByFolders, node};
-ghost use Rattle.bag_disk.specs.WritableDisk.{Appends, Moves};
+ghost use Rattle.bag_disk.specs.DiskNodes.{IsDisk, IsFileWith, IsReachedByFolders, node};
+ghost use Rattle.bag_disk.specs.ReplaceDisk.{Removes, Replaces, without_node};
+ghost use Rattle.bag_disk.specs.WritableDisk.{Appends, HasFileNode, Moves};
+ghost use Rattle.bag_disk.specs.declared.disk.DiskFault.TheVariants.{NotFound};
 ghost use Rattle.test_disk.specs.Changing.{MayRefuseAdding, MayRefuseMoving, MayRefuseWriting};
 ghost use Rattle.test_disk.specs.Held.{node_of, nodes_of};
 
-use crate::held::{Node, SLASH, node_at};
+use crate::held::{Node, SLASH, is_folder, node_at};
 use crate::placing::{are_placed, is_reached};
 use bag_disk::DiskFault;
 use std::alloc::{AllocError, Global};
@@ -99,6 +102,76 @@ pub(crate) fn moved_to(
         return Err(DiskFault::Device);
     }
     Ok(moved)
+}
+
+/// What is held without what stands at a path.
+pub(crate) fn without(
+    alloc: Global,
+    nodes: &BTreeMap<Vec<u8>, Node>,
+    path: &[u8],
+) -> Result<BTreeMap<Vec<u8>, Node>, AllocError>
+    ensures { IfOk result (λ left.
+        nodes_of left.entries ≡ without_node (nodes_of nodes.now.entries) path.now) }
+{
+    let mut left = BTreeMap::new(alloc);
+    for (at, node) in nodes.iter() {
+        if at.as_slice() != path {
+            put_node(&mut left, at.as_slice().to_vec(alloc)?, node.clone()?)?;
+        }
+    }
+    Ok(left)
+}
+
+/// What is held when the file at `from` stands at `to`, in place of any file there.
+pub(crate) fn put_in_place(
+    alloc: Global,
+    nodes: &BTreeMap<Vec<u8>, Node>,
+    from: &[u8],
+    to: &[u8],
+) -> Result<BTreeMap<Vec<u8>, Node>, DiskFault>
+    ensures there { OnOk result (HasFileNode (nodes_of nodes.now.entries) from.now) }
+    ensures put { IfOk result (λ put. (bytes : List ℕ)
+        → IsFileWith (nodes_of nodes.now.entries) from.now bytes
+        → Replaces (nodes_of nodes.now.entries) (nodes_of put.entries) from.now to.now bytes) }
+    ensures disk { IfOk result (λ put. IsDisk (nodes_of put.entries)) }
+{
+    let Some(Node::File(bytes)) = node_at(nodes, from) else {
+        return Err(DiskFault::NotFound);
+    };
+    if is_folder(nodes, to) {
+        return Err(DiskFault::Device);
+    }
+    let mut put = without(alloc, nodes, from)?;
+    let bytes = bytes.as_slice().to_vec(alloc)?;
+    put_node(&mut put, to.to_vec(alloc)?, Node::File(bytes))?;
+    if !are_placed(&put) {
+        return Err(DiskFault::Device);
+    }
+    Ok(put)
+}
+
+/// What is held without what is no folder at a path.
+pub(crate) fn removed(
+    alloc: Global,
+    nodes: &BTreeMap<Vec<u8>, Node>,
+    path: &[u8],
+) -> Result<BTreeMap<Vec<u8>, Node>, DiskFault>
+    ensures removed { IfOk result (λ left.
+        Removes (nodes_of nodes.now.entries) (nodes_of left.entries) path.now) }
+    ensures disk { IfOk result (λ left. IsDisk (nodes_of left.entries)) }
+    ensures absent { IsErrOf result NotFound → node (nodes_of nodes.now.entries) path.now ≡ None }
+{
+    if node_at(nodes, path).is_none() {
+        return Err(DiskFault::NotFound);
+    }
+    if is_folder(nodes, path) {
+        return Err(DiskFault::Device);
+    }
+    let left = without(alloc, nodes, path)?;
+    if !are_placed(&left) {
+        return Err(DiskFault::Device);
+    }
+    Ok(left)
 }
 
 /// What is held when `from` has become `to`, with all that is below it.

@@ -3,6 +3,7 @@ ghost use Rattle.std.specs.Prelude.{◌≡◌, ◌↔◌, IsTrue, true};
 ghost use Rattle.bag_text.specs.Path as spec;
 ghost use Rattle.bag_tree.specs.Cut as cut;
 ghost use Rattle.bag_tree.specs.Moved as moving;
+ghost use Rattle.test_disk.specs.Cuts.{is_refused_sync};
 
 use crate::held::SLASH;
 use crate::placing::is_path;
@@ -13,24 +14,23 @@ pub(crate) fn is_durable(event: &DeviceEvent, later: &[DeviceEvent]) -> bool
     ensures { result ≡ cut.is_durable event.now later.now }
 {
     match event {
-        DeviceEvent::MakeFolder(name) | DeviceEvent::Create(name) => {
-            is_synced(folder_of(name.as_str()), later)
-        }
+        DeviceEvent::MakeFolder(name) | DeviceEvent::Create(name) | DeviceEvent::Remove(name) =>
+            is_synced(folder_of(name.as_str()), later),
         DeviceEvent::Rename(from, to) => {
             is_synced(folder_of(from.as_str()), later) && is_synced(folder_of(to.as_str()), later)
         }
         DeviceEvent::Write(name, _) => is_file_synced(name.as_str(), later),
-        DeviceEvent::Sync(_) | DeviceEvent::SyncFolder(_) => true,
+        DeviceEvent::Sync(_) | DeviceEvent::SyncFolder(_) | DeviceEvent::SyncRefused(_) => true,
     }
 }
 
-/// Whether the events sync a folder, before its path may mean another one.
+/// Whether the events sync a folder, before its path may mean another one, or a sync is refused.
 fn is_synced(folder: &str, later: &[DeviceEvent]) -> bool
     ensures { result ≡ cut.is_synced folder.now later.now }
 {
     let mut rest = later;
     while let Some((event, after)) = rest.split_first() {
-        if is_anew(folder, event) {
+        if is_anew(folder, event) || is_refused(event) {
             return false;
         }
         if let DeviceEvent::SyncFolder(synced) = event {
@@ -43,13 +43,13 @@ fn is_synced(folder: &str, later: &[DeviceEvent]) -> bool
     false
 }
 
-/// Whether the events sync a file, before its path may mean another one.
+/// Whether the events sync a file, before its path may mean another one, or a sync is refused.
 fn is_file_synced(name: &str, later: &[DeviceEvent]) -> bool
     ensures { result ≡ cut.is_file_synced name.now later.now }
 {
     let mut rest = later;
     while let Some((event, after)) = rest.split_first() {
-        if is_anew(name, event) {
+        if is_anew(name, event) || is_refused(event) {
             return false;
         }
         if let DeviceEvent::Sync(synced) = event {
@@ -67,13 +67,31 @@ fn is_anew(path: &str, event: &DeviceEvent) -> bool
     ensures { result ≡ cut.is_anew path.now event.now }
 {
     match event {
-        DeviceEvent::MakeFolder(name) | DeviceEvent::Create(name) => {
-            is_on_way(path, name.as_str())
-        }
+        DeviceEvent::MakeFolder(name) | DeviceEvent::Create(name) | DeviceEvent::Remove(name) =>
+            is_on_way(path, name.as_str()),
         DeviceEvent::Rename(from, to) => {
             is_on_way(path, from.as_str()) || is_on_way(path, to.as_str())
         }
-        DeviceEvent::Write(_, _) | DeviceEvent::Sync(_) | DeviceEvent::SyncFolder(_) => false,
+        DeviceEvent::Write(_, _)
+        | DeviceEvent::Sync(_)
+        | DeviceEvent::SyncFolder(_)
+        | DeviceEvent::SyncRefused(_) => false,
+    }
+}
+
+/// Whether a sync was refused.
+fn is_refused(event: &DeviceEvent) -> bool
+    ensures { result ≡ is_refused_sync event.now }
+{
+    match event {
+        DeviceEvent::SyncRefused(_) => true,
+        DeviceEvent::MakeFolder(_)
+        | DeviceEvent::Rename(_, _)
+        | DeviceEvent::Create(_)
+        | DeviceEvent::Remove(_)
+        | DeviceEvent::Write(_, _)
+        | DeviceEvent::Sync(_)
+        | DeviceEvent::SyncFolder(_) => false,
     }
 }
 

@@ -2,13 +2,13 @@
 ghost use Rattle.test_disk.specs.Held.{nodes_of};
 ghost use Rattle.test_disk.specs.Placing.{PassesAsDisk};
 
-use crate::changing::{add_node, append, moved_to};
+use crate::changing::{add_node, append, moved_to, put_in_place, removed};
 use crate::held::{Node, is_folder, names_in, node_at};
 use crate::placing::are_placed;
 use crate::reading::read_at;
 use crate::swap::Swap;
 use crate::trail::{Trail, renamed, written};
-use bag_disk::{Disk, DiskFault, Entry, Failures, Refusal, WritableDisk};
+use bag_disk::{Disk, DiskFault, Entry, Failures, Refusal, ReplaceDisk, WritableDisk};
 use bag_text::{Items, Text};
 use bag_tree::DeviceEvent;
 use std::alloc::{AllocError, Global};
@@ -557,6 +557,39 @@ impl WritableDisk for MemoryDisk {
         }
         let synced = Text::from_str(self.alloc, folder)?;
         self.trail.note(DeviceEvent::SyncFolder(synced))?;
+        Ok(())
+    }
+}
+
+impl ReplaceDisk for MemoryDisk {
+    fn replace(&mut self, from: &str, to: &str) -> Result<(), DiskFault> {
+        let put = match put_in_place(self.alloc, &self.nodes, from.as_bytes(), to.as_bytes()) {
+            Ok(put) => put,
+            Err(fault) => {
+                self.failures.refuse(Refusal::at_known(fault));
+                return Err(fault);
+            }
+        };
+        self.trail.note(renamed(self.alloc, from, to)?)?;
+        self.nodes = put;
+        self.open = None;
+        self.written = None;
+        Ok(())
+    }
+
+    fn remove(&mut self, path: &str) -> Result<(), DiskFault> {
+        let left = match removed(self.alloc, &self.nodes, path.as_bytes()) {
+            Ok(left) => left,
+            Err(fault) => {
+                self.failures.refuse(Refusal::of_path(fault));
+                return Err(fault);
+            }
+        };
+        let gone = Text::from_str(self.alloc, path)?;
+        self.trail.note(DeviceEvent::Remove(gone))?;
+        self.nodes = left;
+        self.open = None;
+        self.written = None;
         Ok(())
     }
 }

@@ -3,13 +3,13 @@ ghost use Rattle.std.specs.Prelude.{◌≡◌, IfOk, List, OnOk, ℕ, is_some, t
 ghost use Rattle.bag_text.specs.Path.{is_base_name};
 ghost use Rattle.bag_tree.specs.Cut as cut;
 ghost use Rattle.bag_tree.specs.declared.event.DeviceEvent.TheVariants.{Create, MakeFolder, Rename};
-ghost use Rattle.bag_tree.specs.declared.event.DeviceEvent.TheVariants.{Write};
+ghost use Rattle.bag_tree.specs.declared.event.DeviceEvent.TheVariants.{Remove, Write};
 ghost use Rattle.bag_disk.specs.Disk.{bytes_of};
 ghost use Rattle.bag_disk.specs.DiskNodes.{node};
 ghost use Rattle.test_disk.specs.Held.{nodes_of};
 ghost use Rattle.test_disk.specs.Cuts.{AddsLeft, AreLeftBy, MayBeLeft, bag_in};
 
-use crate::changing::{add_node, append, moved_to, put_node};
+use crate::changing::{add_node, append, moved_to, put_in_place, put_node, without};
 use crate::durable::{is_base_name, is_durable};
 use crate::held::{Node, is_folder, node_at};
 use crate::memory_disk::MemoryDisk;
@@ -23,10 +23,11 @@ use std::collections::BTreeMap;
 ///
 /// Each event that isn't durable is done and left out, in every combination. Of bytes that weren't
 /// synced anything may be there: no bytes stand for that, and as many zeros as were written. The
-/// events are those of steps: what is made has a name in the base folder, and so has what is moved,
-/// to another name or into a folder. Others are refused by `Device`, and so is what no disk can
-/// hold. A move into a folder that may be missing is refused by `NotFound`, and a name that may be
-/// taken by `Exists`, since what was moved or stood there might be lost.
+/// events are those of steps and of changes of files: what is made has a name in the base folder,
+/// and so has what is moved, to another name or into a folder, or, a file, to that of another.
+/// Others are refused by `Device`, and so is what no disk can hold. A move into a folder that may
+/// be missing is refused by `NotFound`, and so is the removal of a file that may be; a name that
+/// may be taken is refused to a folder by `Exists`, since what stood there might be lost.
 pub fn cuts(
     alloc: Global,
     first: &MemoryDisk,
@@ -92,8 +93,10 @@ fn size_of(event: &DeviceEvent) -> usize {
         DeviceEvent::MakeFolder(_)
         | DeviceEvent::Rename(_, _)
         | DeviceEvent::Create(_)
+        | DeviceEvent::Remove(_)
         | DeviceEvent::Sync(_)
-        | DeviceEvent::SyncFolder(_) => 0,
+        | DeviceEvent::SyncFolder(_)
+        | DeviceEvent::SyncRefused(_) => 0,
     }
 }
 
@@ -105,9 +108,11 @@ fn done(alloc: Global, disk: &MemoryDisk, event: &DeviceEvent) -> Result<MemoryD
         DeviceEvent::MakeFolder(name) => with_folder(alloc, disk, name.as_str()),
         DeviceEvent::Rename(from, to) => renamed(alloc, disk, from.as_str(), to.as_str()),
         DeviceEvent::Create(name) => with_file(alloc, disk, name.as_str()),
+        DeviceEvent::Remove(name) => without_file(alloc, disk, name.as_str()),
         DeviceEvent::Write(name, bytes) => with_bytes(alloc, disk, name.as_str(), bytes.as_slice()),
         DeviceEvent::Sync(_) => Ok(disk.fresh_copy(alloc)?),
         DeviceEvent::SyncFolder(_) => Ok(disk.fresh_copy(alloc)?),
+        DeviceEvent::SyncRefused(_) => Ok(disk.fresh_copy(alloc)?),
     }
 }
 
@@ -125,8 +130,10 @@ fn part(
         DeviceEvent::MakeFolder(_)
         | DeviceEvent::Rename(_, _)
         | DeviceEvent::Create(_)
+        | DeviceEvent::Remove(_)
         | DeviceEvent::Sync(_)
-        | DeviceEvent::SyncFolder(_) => Ok(disk.fresh_copy(alloc)?),
+        | DeviceEvent::SyncFolder(_)
+        | DeviceEvent::SyncRefused(_) => Ok(disk.fresh_copy(alloc)?),
     }
 }
 
@@ -177,7 +184,7 @@ fn renamed(alloc: Global, disk: &MemoryDisk, from: &str, to: &str) -> Result<Mem
         return Err(DiskFault::Device);
     }
     let Some((folder, name)) = to.split_once('/') else {
-        return with_name(alloc, disk, from, to);
+        return with_base_name(alloc, disk, from, to);
     };
     if name != from || !is_base_name(folder.as_bytes()) {
         return Err(DiskFault::Device);
@@ -186,6 +193,54 @@ fn renamed(alloc: Global, disk: &MemoryDisk, from: &str, to: &str) -> Result<Mem
         return Err(DiskFault::NotFound);
     }
     let nodes = moved_to(alloc, &disk.nodes, from.as_bytes(), to.as_bytes())?;
+    holding(alloc, nodes)
+}
+
+/// What stands there when a name of the base folder has become another.
+fn with_base_name(
+    alloc: Global,
+    disk: &MemoryDisk,
+    from: &str,
+    to: &str,
+) -> Result<MemoryDisk, DiskFault>
+    requires { is_base_name from.now ≡ true }
+    ensures { IfOk result (λ left.
+        bag_in left ≡ cut.done (Rename from.now to.now) (bag_in disk.now)) }
+{
+    if is_file(&disk.nodes, from.as_bytes()) {
+        with_file_name(alloc, disk, from, to)
+    } else {
+        with_name(alloc, disk, from, to)
+    }
+}
+
+/// What stands there when a file of the base folder has another name, in place of any file of it.
+fn with_file_name(
+    alloc: Global,
+    disk: &MemoryDisk,
+    from: &str,
+    to: &str,
+) -> Result<MemoryDisk, DiskFault>
+    requires { is_base_name from.now ≡ true }
+    ensures { IfOk result (λ left.
+        bag_in left ≡ cut.done (Rename from.now to.now) (bag_in disk.now)) }
+{
+    if !is_base_name(to.as_bytes()) || from == to {
+        return Err(DiskFault::Device);
+    }
+    let nodes = put_in_place(alloc, &disk.nodes, from.as_bytes(), to.as_bytes())?;
+    holding(alloc, nodes)
+}
+
+/// What stands there without a file.
+fn without_file(alloc: Global, disk: &MemoryDisk, name: &str) -> Result<MemoryDisk, DiskFault>
+    ensures { IfOk result (λ left.
+        bag_in left ≡ cut.done (Remove name.now) (bag_in disk.now)) }
+{
+    if !is_file(&disk.nodes, name.as_bytes()) {
+        return Err(DiskFault::NotFound);
+    }
+    let nodes = without(alloc, &disk.nodes, name.as_bytes())?;
     holding(alloc, nodes)
 }
 

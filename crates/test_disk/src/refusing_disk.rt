@@ -3,7 +3,7 @@ ghost use Rattle.std.specs.Prelude.{◌≡◌, if◌then◌else◌};
 ghost use Rattle.std.specs.Result.{result_err};
 ghost use Rattle.test_disk.specs.Refusing.{is_due, is_refused, one_less, refusing};
 
-use bag_disk::{Disk, DiskFault, Entry, Failures, Refusal, WritableDisk};
+use bag_disk::{Disk, DiskFault, Entry, Failures, Refusal, ReplaceDisk, WritableDisk};
 use bag_text::Text;
 use std::cell::Cell;
 use std::rc::Rc;
@@ -390,5 +390,58 @@ impl<D: WritableDisk + Drop> WritableDisk for RefusingDisk<D> {
             return Err(self.fault);
         }
         note(&mut self.reported, self.disk.sync_folder(folder))
+    }
+}
+
+impl<D: ReplaceDisk + Drop> ReplaceDisk for RefusingDisk<D> {
+    ghost use Rattle.std.specs.Prelude.{IsErrOf, IsTrue, false};
+    ghost use Rattle.bag_text.specs.Path.{is_path};
+    ghost use Rattle.test_disk.specs.DiskCalls.{PutsInPlaceAt, RemovesAt};
+    ghost use Rattle.test_disk.specs.RefusingDisk.{below_of, call_of, fault_of, own_of};
+    ghost use Rattle.test_disk.specs.RefusingDisk.{reported_of};
+    ghost use Rattle.bag_disk.specs.Refusal.{at_known, failures_after, refusal_at_path};
+
+    fn replace(&mut self, from: &str, to: &str) -> Result<(), DiskFault>
+        requires from { IsTrue (is_path from.now) }
+        requires to { IsTrue (is_path to.now) }
+        ensures counted { call_of self.new ≡ one_less (call_of self.old) }
+        ensures fault { fault_of self.new ≡ fault_of self.old }
+        ensures due { IsTrue (is_due (call_of self.old))
+            → IsErrOf result (fault_of self.old) × (below_of self.new ≡ below_of self.old)
+            × (own_of self.new ≡ failures_after (at_known (fault_of self.old)) (own_of self.old)) }
+        ensures passed { is_due (call_of self.old) ≡ false
+            → PutsInPlaceAt (D.state (below_of self.old)) (D.state (below_of self.new))
+            (D.written (below_of self.old)) (D.written (below_of self.new))
+            from.now to.now result × (own_of self.new ≡ own_of self.old) }
+        ensures reported { reported_of self.new
+            ≡ (if is_due (call_of self.old) then reported_of self.old else result_err result) }
+    {
+        if self.call.is_due() {
+            self.failures.refuse(Refusal::at_known(self.fault));
+            return Err(self.fault);
+        }
+        note(&mut self.reported, self.disk.replace(from, to))
+    }
+
+    fn remove(&mut self, path: &str) -> Result<(), DiskFault>
+        requires { IsTrue (is_path path.now) }
+        ensures counted { call_of self.new ≡ one_less (call_of self.old) }
+        ensures fault { fault_of self.new ≡ fault_of self.old }
+        ensures due { IsTrue (is_due (call_of self.old))
+            → IsErrOf result (fault_of self.old) × (below_of self.new ≡ below_of self.old)
+            × (own_of self.new
+            ≡ failures_after (refusal_at_path (fault_of self.old)) (own_of self.old)) }
+        ensures passed { is_due (call_of self.old) ≡ false
+            → RemovesAt (D.state (below_of self.old)) (D.state (below_of self.new))
+            (D.written (below_of self.old)) (D.written (below_of self.new))
+            path.now result × (own_of self.new ≡ own_of self.old) }
+        ensures reported { reported_of self.new
+            ≡ (if is_due (call_of self.old) then reported_of self.old else result_err result) }
+    {
+        if self.call.is_due() {
+            self.failures.refuse(Refusal::of_path(self.fault));
+            return Err(self.fault);
+        }
+        note(&mut self.reported, self.disk.remove(path))
     }
 }

@@ -46,5 +46,5 @@ returns-in-Ok-clause-asked g c =
 
 pub returns-in-Err-clause-asked : goal.returns-in-Err-clause-asked
 returns-in-Err-clause-asked g c =
-    not_begun c.args.name.now (g.D.Disk.state c.args.disk.now) (g.D.Disk.state c.create.new.self)
+    not_begun c.args.name.now c.args.bytes.now (g.D.Disk.state c.args.disk.now) (g.D.Disk.state c.create.new.self)
     (g.D.Disk.state c.not_made.new.disk) c.in-Err.ensures.same c.not_made.ensures.looks

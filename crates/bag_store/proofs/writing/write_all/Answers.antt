@@ -1,4 +1,5 @@
-use Rattle.bag_store.proofs.Common.{◌+◌, ◌∙◌, arith, length, length-drop, refl, take, take_all, slice_range}
+use Rattle.bag_store.proofs.Common.{◌+◌, ◌∙◌, arith, drop, length, length-drop, refl, take, take_all, slice_range}
+use Rattle.std.proofs.lemmas.List.{take-append-drop}
 use Rattle.bag_store.proofs.FilledFiles.{next_piece, no_pieces, some_pieces, whole_pieces}
 use Rattle.bag_store.proofs.WrittenFiles.{next_written, nothing_written, rest_is, within_all, written_more}
 use Rattle.bag_store.proofs.writing.write_all.Goals as goal
@@ -37,9 +38,10 @@ loop-done-preserved g c =
 
 pub returns-in-Err-clause-asked : goal.returns-in-Err-clause-asked
 returns-in-Err-clause-asked g c = λ path at noted.
-    some_pieces path (take c.loop-done.done c.args.bytes.now) (g.D.Disk.state c.args.disk.now).trail
+    some_pieces path (take c.loop-done.done c.args.bytes.now) (drop c.loop-done.done c.args.bytes.now)
+    c.args.bytes.now (g.D.Disk.state c.args.disk.now).trail
     (g.D.Disk.state c.loop-done.disk).trail (g.D.Disk.state c.write.new.self).trail
-    (c.loop-done.invariant.4 path at noted) c.in-Err.ensures.same.trail
+    (take-append-drop c.loop-done.done c.args.bytes.now) (c.loop-done.invariant.4 path at noted) c.in-Err.ensures.same.trail
 
 pub returns-clause-asked : goal.returns-clause-asked
 returns-clause-asked g c = λ path at noted.

@@ -1,5 +1,5 @@
 use Rattle.bag_tree.specs.declared.event.DeviceEvent.TheVariants as event
-use Rattle.test_disk.proofs.CutBags.{created_then, made_then, synced_then}
+use Rattle.test_disk.proofs.CutBags.{created_then, made_then, refused_then, removed_then, synced_then}
 use Rattle.test_disk.proofs.power_cut.done.Goals as goal
 
 pub returns-in-MakeFolder : goal.returns-in-MakeFolder
@@ -19,3 +19,12 @@ pub returns-in_ok-fresh_copy-in-SyncFolder : goal.returns-in_ok-fresh_copy-in-Sy
 returns-in_ok-fresh_copy-in-SyncFolder c =
     synced_then c.in_ok-fresh_copy-in-SyncFolder.field-0 c.args.disk.now c.args.event.now (event.SyncFolder _)
     c.in-SyncFolder.is tt (λ i. (c.in_ok-fresh_copy-in-SyncFolder.ensures.disk i).nodes)
+
+pub returns-in-Remove : goal.returns-in-Remove
+returns-in-Remove c = removed_then c.without_file.result c.args.disk.now c.args.event.now c.in-Remove.name
+    c.as_str-in-Remove.result.now c.in-Remove.is c.as_str-in-Remove.ensures c.without_file.ensures
+
+pub returns-in_ok-fresh_copy-in-SyncRefused : goal.returns-in_ok-fresh_copy-in-SyncRefused
+returns-in_ok-fresh_copy-in-SyncRefused c =
+    refused_then c.in_ok-fresh_copy-in-SyncRefused.field-0 c.args.disk.now c.args.event.now _ c.in-SyncRefused.is (λ i.
+    (c.in_ok-fresh_copy-in-SyncRefused.ensures.disk i).nodes)

@@ -2,6 +2,7 @@ use Rattle.bag_store.proofs.Common.{arith, due_in_move}
 use Rattle.bag_store.proofs.BagSteps.{not_taken}
 use Rattle.bag_store.proofs.ChangedTree.{count_grows, file_changed, kept_count, step_begun}
 use Rattle.bag_store.proofs.Durable.{file_durable, left_noted, part_durable}
+use Rattle.bag_store.proofs.FirstOf.{begun_adds}
 use Rattle.bag_store.proofs.RefusedCalls.{move_answered_so, tells_move}
 use Rattle.bag_store.proofs.file_tree.FileTreeWriteTree.create.Goals as goal
 
@@ -35,7 +36,8 @@ returns-in-Err-clause-creates g c = record {
       _ ⊥ ⊥
       c.in-Err.ensures.failures c.refuse.ensures.failures c.refuse.ensures.fault (λ never. absurd never)
       (due_in_move _ _ _ _ c.in-Err.refusal c.in-Err.ensures.refused);
-  asked = c.in-Err.ensures.asked;
+  asked = λ noted. begun_adds _ _ (g.D.Disk.state c.args.self.now.disk) (g.D.Disk.state c.create.new.disk)
+      (c.in-Err.ensures.asked noted);
 }
 
 pub returns-in-Err-clause-cause : goal.returns-in-Err-clause-cause
@@ -59,5 +61,6 @@ invariant_of-self-in-Err g c =
     record {
       durable = λ is.
           part_durable old new (left_noted old new c.args.name.now c.args.bytes.now c.in-Err.ensures.begun)
-          c.args.name.now (c.args.self.now.durable is) c.in-Err.ensures.asked;
+          c.args.name.now (c.args.self.now.durable is) (λ noted.
+          begun_adds c.args.name.now c.args.bytes.now old new (c.in-Err.ensures.asked noted));
     }

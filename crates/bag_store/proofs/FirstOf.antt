@@ -1,0 +1,260 @@
+-- What is first asked of what something else asks.
+use Rattle.std.proofs.Common.{◌≡◌, ◌++◌, ◌∷◌, ◌∙◌, inl, inr, ℕ, IsTrue, List, [], Ok, Err, OnErr, map, refl, sym}
+use Rattle.std.proofs.Common.{ap, subst, append-nil, append_assoc}
+use Rattle.bag_tree.proofs.Runs.{first_change_nothing, front_of_two, syncs_alone}
+use Rattle.bag_tree.specs.Asked.{Adds, Asking, AsksFile, ChangeNothing, MayBegin}
+use Rattle.bag_tree.specs.FileChanges.{AsksFirstOf, AsksPut, AsksRemove}
+use Rattle.bag_tree.specs.declared.event.DeviceEvent.{DeviceEvent}
+use Rattle.bag_tree.specs.declared.event.DeviceEvent.TheVariants as event
+use Rattle.bag_disk.specs.Disk.{DiskState}
+use Rattle.bag_disk.specs.DiskNodes.{OnlyLooks}
+use Rattle.bag_disk.specs.WritableDisk.{Notes}
+use Rattle.bag_store.specs.Asking.{AsksOfDisk}
+use Rattle.bag_store.proofs.AskedOf.{Answer, NotesIt}
+
+-- nothing is first
+pub none_first : (P : Asking) (before all : List DeviceEvent) → P before all → AsksFirstOf P before []
+none_first P before all asks =
+    record { first = []; rest = all; asked = asks; refused = []; are_refused = tt; is = refl }
+
+-- these are, and then others
+pub first_and : (P : Asking) (before first rest : List DeviceEvent) → P before (first ++ rest)
+    → AsksFirstOf P before first
+first_and P before first rest asks = record {
+  first = first;
+  rest = rest;
+  asked = asks;
+  refused = [];
+  are_refused = tt;
+  is = sym (append-nil first);
+}
+
+-- the first of what comes first of something longer
+pub first_of_longer : (P Q : Asking) (b c tail now : List DeviceEvent)
+    → ((all : List DeviceEvent) → P b all → Q c (all ++ tail)) → AsksFirstOf P b now → AsksFirstOf Q c now
+first_of_longer P Q b c tail now longer some = record {
+  first = some.first;
+  rest = some.rest ++ tail;
+  asked = subst (Q c) (append_assoc some.first some.rest tail) (longer (some.first ++ some.rest) some.asked);
+  refused = some.refused;
+  are_refused = some.are_refused;
+  is = some.is;
+}
+
+both_nothing : (xs ys : List DeviceEvent) → ChangeNothing xs → ChangeNothing ys → ChangeNothing (xs ++ ys)
+both_nothing [] ys one two = two
+both_nothing (x ∷ xs) ys one two = (one.0, both_nothing xs ys one.1 two)
+
+-- the first of some writes are writes
+front_of_map : {A : Type 0} (f : A → DeviceEvent) (xs : List A) (front rest : List DeviceEvent)
+    → map f xs ≡ front ++ rest → (ys : List A) × (front ≡ map f ys)
+front_of_map f xs [] rest is = ([], refl)
+front_of_map f [] (e ∷ front) rest is = cc
+front_of_map f (x ∷ xs) (e ∷ front) rest is =
+    let same : e ≡ f x = cc in
+    let rest_is : map f xs ≡ front ++ rest = cc in
+    let more = front_of_map f xs front rest rest_is in (x ∷ more.0, λ i. same i ∷ more.1 i)
+
+-- the first of what the making of a file asks: syncs, or a file that is begun
+module _ (name bytes : List ℕ) (before now : List DeviceEvent) (some : AsksFirstOf (AsksFile name bytes) before now)
+  where
+    abbrev file : AsksFile name bytes before (some.first ++ some.rest)
+    file = some.asked
+
+    abbrev begun : List DeviceEvent
+    begun = event.Create name ∷ map (event.Write name) file.pieces
+
+    abbrev tail : List DeviceEvent
+    tail = event.Sync name ∷ event.SyncFolder [] ∷ []
+
+    nothing_yet : ChangeNothing some.first → MayBegin name before now
+    nothing_yet are =
+        inl (subst ChangeNothing (sym some.is) (both_nothing some.first some.refused are some.are_refused))
+
+    of_begun : (more rest : List DeviceEvent) → some.first ≡ file.syncs ++ more → begun ≡ more ++ rest
+        → MayBegin name before now
+    of_begun [] rest first_is begun_is =
+        nothing_yet (subst ChangeNothing (sym (first_is ∙ append-nil file.syncs)) (syncs_alone file.syncs file.are_syncs))
+    of_begun (e ∷ more) rest first_is begun_is =
+        let same : e ≡ event.Create name = cc in
+        let rest_is : map (event.Write name) file.pieces ≡ more ++ rest = cc in
+        let writes = front_of_map (event.Write name) file.pieces more rest rest_is in
+        inr (record {
+          syncs = file.syncs;
+          are_syncs = file.are_syncs;
+          pieces = writes.0;
+          after = some.refused;
+          are_after = some.are_refused;
+          asked =
+              some.is ∙ ap (λ (xs : List DeviceEvent). xs ++ some.refused)
+              (first_is ∙ ap (λ (xs : List DeviceEvent). file.syncs ++ xs) (λ i. same i ∷ writes.1 i));
+        })
+
+    pub may_begin : MayBegin name before now
+    may_begin = elim (front_of_two (file.syncs ++ begun) tail some.first some.rest (sym file.asked)) [
+      | inl (rest, made_is) ↦ elim (front_of_two file.syncs begun some.first rest made_is) [
+        | inl (rest', syncs_is) ↦
+            nothing_yet (first_change_nothing some.first rest'
+            (subst ChangeNothing syncs_is (syncs_alone file.syncs file.are_syncs)))
+        | inr (more, rest', first_is, begun_is) ↦ of_begun more rest' first_is begun_is
+      ]
+      | inr (more, rest, first_is, tail_is) ↦ inr (record {
+        syncs = file.syncs;
+        are_syncs = file.are_syncs;
+        pieces = file.pieces;
+        after = more ++ some.refused;
+        are_after =
+            both_nothing more some.refused
+            (first_change_nothing more rest (subst ChangeNothing tail_is (tt, (tt, tt)))) some.are_refused;
+        asked =
+            some.is ∙ ap (λ (xs : List DeviceEvent). xs ++ some.refused) first_is
+            ∙ append_assoc (file.syncs ++ begun) more some.refused;
+      })
+    ]
+
+pub begun_adds : (name bytes : List ℕ) (old new : DiskState)
+    → Adds (AsksFirstOf (AsksFile name bytes)) old.trail new.trail → Adds (MayBegin name) old.trail new.trail
+begun_adds name bytes old new adds =
+    record { now = adds.now; trail = adds.trail; is = may_begin name bytes old.trail adds.now adds.is }
+
+-- a file that is made is put by two events more
+put_of_file : (beside name bytes : List ℕ) (b c all : List DeviceEvent) → AsksFile beside bytes b all
+    → AsksPut beside name bytes c (all ++ event.Rename beside name ∷ event.SyncFolder [] ∷ [])
+put_of_file beside name bytes b c all file = record {
+  syncs = file.syncs;
+  are_syncs = file.are_syncs;
+  pieces = file.pieces;
+  whole = file.whole;
+  asked =
+      ap (λ (xs : List DeviceEvent). xs ++ event.Rename beside name ∷ event.SyncFolder [] ∷ []) file.asked
+      ∙ append_assoc (file.syncs ++ event.Create beside ∷ map (event.Write beside) file.pieces)
+      (event.Sync beside ∷ event.SyncFolder [] ∷ []) (event.Rename beside name ∷ event.SyncFolder [] ∷ []);
+}
+
+one_put : (beside name bytes : List ℕ) (before : List DeviceEvent)
+    → (all : List DeviceEvent) × AsksPut beside name bytes before all
+one_put beside name bytes before = (
+  _,
+  record { syncs = []; are_syncs = tt; pieces = bytes ∷ []; whole = append-nil bytes; asked = refl },
+)
+
+module _ (beside name bytes : List ℕ) where
+  abbrev rename : DeviceEvent
+  rename = event.Rename beside name
+
+  abbrev base : DeviceEvent
+  base = event.SyncFolder []
+
+  -- nothing but looks, before a file was made
+  pub put_not_begun : (old new : DiskState) → OnlyLooks old new → IsTrue old.noted
+      → Adds (AsksFirstOf (AsksPut beside name bytes)) old.trail new.trail
+  put_not_begun old new looks noted =
+      let one = one_put beside name bytes old.trail in record {
+        now = [];
+        trail = looks.trail ∙ sym (append-nil old.trail);
+        is = none_first (AsksPut beside name bytes) old.trail one.0 one.1;
+      }
+
+  -- the making of the file was refused
+  pub put_begun : (old seen new : DiskState) → OnlyLooks old seen
+      → (IsTrue seen.noted → Adds (AsksFirstOf (AsksFile beside bytes)) seen.trail new.trail) → IsTrue old.noted
+      → Adds (AsksFirstOf (AsksPut beside name bytes)) old.trail new.trail
+  put_begun old seen new looks adds noted =
+      let file = adds (looks.noted ∙ noted) in record {
+        now = file.now;
+        trail = file.trail ∙ ap (λ (xs : List DeviceEvent). xs ++ file.now) looks.trail;
+        is =
+            first_of_longer (AsksFile beside bytes) (AsksPut beside name bytes) seen.trail old.trail
+            (rename ∷ base ∷ []) file.now (put_of_file beside name bytes seen.trail old.trail) file.is;
+      }
+
+  module _ (old seen made : DiskState) (looks : OnlyLooks old seen)
+      (adds : IsTrue seen.noted → Adds (AsksFile beside bytes) seen.trail made.trail) where
+    -- it was made, and not given its name
+    pub put_made : (new : DiskState) → OnlyLooks made new → IsTrue old.noted
+        → Adds (AsksFirstOf (AsksPut beside name bytes)) old.trail new.trail
+    put_made new two noted =
+        let file = adds (looks.noted ∙ noted) in record {
+          now = file.now;
+          trail = two.trail ∙ file.trail ∙ ap (λ (xs : List DeviceEvent). xs ++ file.now) looks.trail;
+          is =
+              first_and (AsksPut beside name bytes) old.trail file.now (rename ∷ base ∷ [])
+              (put_of_file beside name bytes seen.trail old.trail file.now file.is);
+        }
+
+    -- it was given its name, and the base folder was synced or not
+    pub put_asked : (put new : DiskState) (r : Answer) → made.noted ≡ seen.noted
+        → (IsTrue made.noted → Notes rename made put) → put.noted ≡ made.noted → NotesIt base put new r
+        → OnErr r (OnlyLooks put new)
+        → AsksOfDisk (AsksPut beside name bytes) (AsksFirstOf (AsksPut beside name bytes)) old new r
+    put_asked put new (Ok u) same notes again base_notes stays noted =
+        let first = looks.noted ∙ noted in
+        let file = adds first in
+        let is_noted = same ∙ first in
+        record {
+          now = file.now ++ rename ∷ base ∷ [];
+          trail =
+              base_notes (again ∙ is_noted)
+              ∙ ap (λ (xs : List DeviceEvent). xs ++ base ∷ [])
+              (notes is_noted ∙ ap (λ (xs : List DeviceEvent). xs ++ rename ∷ [])
+              (file.trail ∙ ap (λ (xs : List DeviceEvent). xs ++ file.now) looks.trail))
+              ∙ in_a_row old.trail file.now;
+          is = put_of_file beside name bytes seen.trail old.trail file.now file.is;
+        }
+      where
+        in_a_row : (a b : List DeviceEvent)
+            → ((a ++ b) ++ rename ∷ []) ++ base ∷ [] ≡ a ++ (b ++ rename ∷ base ∷ [])
+        in_a_row a b = simp append_assoc
+    put_asked put new (Err f) same notes again base_notes stays noted =
+        let first = looks.noted ∙ noted in
+        let file = adds first in
+        record {
+          now = file.now ++ rename ∷ [];
+          trail =
+              stays.trail
+              ∙ notes (same ∙ first) ∙ ap (λ (xs : List DeviceEvent). xs ++ rename ∷ [])
+              (file.trail ∙ ap (λ (xs : List DeviceEvent). xs ++ file.now) looks.trail)
+              ∙ append_assoc old.trail file.now (rename ∷ []);
+          is =
+              first_and (AsksPut beside name bytes) old.trail (file.now ++ rename ∷ []) (base ∷ [])
+              (subst (AsksPut beside name bytes old.trail) (sym (append_assoc file.now (rename ∷ []) (base ∷ [])))
+              (put_of_file beside name bytes seen.trail old.trail file.now file.is));
+        }
+
+module _ (name : List ℕ) where
+  one_remove : (before : List DeviceEvent)
+      → AsksRemove name before (event.Remove name ∷ event.SyncFolder [] ∷ [])
+  one_remove before = record { syncs = []; are_syncs = tt; asked = refl }
+
+  -- nothing but looks, before the file was removed
+  pub not_removed : (old new : DiskState) → OnlyLooks old new → IsTrue old.noted
+      → Adds (AsksFirstOf (AsksRemove name)) old.trail new.trail
+  not_removed old new looks noted = record {
+    now = [];
+    trail = looks.trail ∙ sym (append-nil old.trail);
+    is = none_first (AsksRemove name) old.trail _ (one_remove old.trail);
+  }
+
+  -- it was removed, and the base folder was synced or not
+  pub remove_asked : (old seen gone new : DiskState) (r : Answer) → OnlyLooks old seen
+      → (IsTrue seen.noted → Notes (event.Remove name) seen gone) → gone.noted ≡ seen.noted
+      → NotesIt (event.SyncFolder []) gone new r → OnErr r (OnlyLooks gone new)
+      → AsksOfDisk (AsksRemove name) (AsksFirstOf (AsksRemove name)) old new r
+  remove_asked old seen gone new (Ok u) looks notes same base_notes stays noted =
+      let first = looks.noted ∙ noted in record {
+        now = event.Remove name ∷ event.SyncFolder [] ∷ [];
+        trail =
+            base_notes (same ∙ first) ∙ ap (λ (xs : List DeviceEvent). xs ++ event.SyncFolder [] ∷ [])
+            (notes first ∙ ap (λ (xs : List DeviceEvent). xs ++ event.Remove name ∷ []) looks.trail)
+            ∙ append_assoc old.trail (event.Remove name ∷ []) (event.SyncFolder [] ∷ []);
+        is = one_remove old.trail;
+      }
+  remove_asked old seen gone new (Err f) looks notes same base_notes stays noted =
+      let first = looks.noted ∙ noted in record {
+        now = event.Remove name ∷ [];
+        trail =
+            stays.trail ∙ notes first ∙ ap (λ (xs : List DeviceEvent). xs ++ event.Remove name ∷ []) looks.trail;
+        is =
+            first_and (AsksRemove name) old.trail (event.Remove name ∷ []) (event.SyncFolder [] ∷ [])
+            (one_remove old.trail);
+      }
