@@ -1,11 +1,14 @@
 pub mod Common
+pub mod CutTexts
 pub mod DeclarationReadAgain
 pub mod DistinctPaths
 pub mod EscapedPaths
 pub mod HexTexts
 pub mod InfoLines
 pub mod InfoReadAgain
+pub mod LongInfo
 pub mod ManifestLines
 pub mod ManifestReadAgain
+pub mod ReadInfo
 pub mod TrimmedTexts
 pub mod WrittenLines

@@ -43,36 +43,37 @@ at_place P xs k x all e =
 abbrev Pair : Type 0
 Pair = List ℕ × List ℕ
 
-module _ (line : Pair → List ℕ) where
+module _ {A : Type 0} (line : A → List ℕ) where
   -- a line that is written
-  abbrev pub IsWritten : Pair → Type 0
+  abbrev pub IsWritten : A → Type 0
   IsWritten x =
       IsUtf8 (line x) × (list_any is_line_end (line x) ≡ false) × ((rest : List ℕ) → has_mark (line x ++ rest) ≡ false)
 
-  abbrev pub text : List Pair → List ℕ
+  abbrev pub text : List A → List ℕ
   text items = flat_map (λ x. line x ++ line_feed ∷ []) items
 
-  text_utf8 : (items : List Pair) → AllByRecursion IsWritten items → IsUtf8 (text items)
+  text_utf8 : (items : List A) → AllByRecursion IsWritten items → IsUtf8 (text items)
   text_utf8 [] all = IsUtf8-nil
   text_utf8 (x ∷ xs) all =
       IsUtf8-append (line x ++ line_feed ∷ []) (text xs) (IsUtf8-append (line x) (line_feed ∷ []) all.0.0 few_utf8.0)
       (text_utf8 xs all.1)
 
-  pub is_text : (items : List Pair) → AllByRecursion IsWritten items → IsText (text items)
+  pub is_text : (items : List A) → AllByRecursion IsWritten items → IsText (text items)
   is_text items all = is_utf8-from_IsUtf8 (text items) (text_utf8 items all)
 
-  no_mark : (items : List Pair) → AllByRecursion IsWritten items → has_mark (text items) ≡ false
+  no_mark : (items : List A) → AllByRecursion IsWritten items → has_mark (text items) ≡ false
   no_mark [] all = refl
   no_mark (x ∷ xs) all =
       ap has_mark (append_assoc (line x) (line_feed ∷ []) (text xs)) ∙ all.0.2 (line_feed ∷ [] ++ text xs)
 
-  lines_again : (items : List Pair) → AllByRecursion IsWritten items → lines (text items) ≡ map line items
+  lines_again : (items : List A) → AllByRecursion IsWritten items → lines (text items) ≡ map line items
   lines_again [] all = refl
   lines_again (x ∷ xs) all = grind (arith, lines_split, no_end, lines_again xs all.1)
 
-  pub file_lines : (items : List Pair) → AllByRecursion IsWritten items → lines_of_file (text items) ≡ map line items
+  pub file_lines : (items : List A) → AllByRecursion IsWritten items → lines_of_file (text items) ≡ map line items
   file_lines items all = grind (arith, is_text, no_mark, lines_again)
 
+module _ (line : Pair → List ℕ) where
   -- a line that is read is that of an item, on its place
   pub line_of_item : (items : List Pair) (n : ℕ) (l : List ℕ) → IsLine (map line items) n l
       → (x : Pair) × StandsOn items n x × (l ≡ line x)

@@ -3,5 +3,6 @@ pub mod Distinct
 pub mod Element
 pub mod Entry
 pub mod Line
+pub mod OnLines
 pub mod ReadAgain
 pub mod Writable

@@ -1,12 +1,14 @@
 -- The laws of what is written: by the rules of 1.0, which the declaration that is written declares,
 -- it is read again as the same, and nothing else, with no fault.
-use Rattle.std.specs.Prelude.{ℕ, ◌≡◌, ◌+◌, ◌↔◌, false, List, Some, codes, slice_get, All}
-use Rattle.std.specs.List.{list_any}
+use Rattle.std.specs.Prelude.{ℕ, ◌≡◌, ◌+◌, ◌↔◌, false, List, Some, codes, map, slice_get, All}
+use Rattle.std.specs.List.{enumerate_from, list_any}
 use Rattle.bag_text.specs.Lines.{lines_of_file}
-use Rattle.bag_text.specs.Text.{IsText}
+use Rattle.bag_text.specs.Text.{IsText, has_mark}
+use Rattle.bag_text.specs.declared.rules.Rules.{Rules}
 use Rattle.bag_text.specs.declared.rules.Rules.TheVariants.{V10}
 use Rattle.bag_text.specs.declared.alg.Alg.{Alg}
 use Rattle.bag_read.specs.Info.{IsElement, IsInfoFault}
+use Rattle.bag_read.specs.InfoReader.{elements}
 use Rattle.bag_read.specs.declared.line_fault.LineFault.{LineFault}
 use Rattle.bag_read.specs.declared.info.Element.{Element}
 use Rattle.bag_read.specs.Declaration.{declared_version, declared_encoding, IsDeclarationFault}
@@ -16,6 +18,7 @@ use Rattle.bag_read.specs.declared.manifest.ManifestEntry.{ManifestEntry}
 use Rattle.bag_tags.specs.Declaration.{declaration_text}
 use Rattle.bag_tags.specs.Element.{NewElement, info_text, is_bad_element}
 use Rattle.bag_tags.specs.Entry.{NewEntry, manifest_text}
+use Rattle.bag_tags.specs.OnLines.{is_bad_long_element, text_on_lines}
 use Rattle.bag_tags.specs.Writable.{CanWrite}
 
 -- the declaration is read as version 1.0 and UTF-8, with no fault
@@ -38,6 +41,27 @@ InfoIsReadAgain =
     → IsElement V10 (lines_of_file (info_text elements)) e
     ↔ StandsOn elements e.line (e.label, e.value))
     × ((f : LineFault) → ¬ (IsInfoFault V10 (info_text elements) f))
+
+-- the elements that are read of bytes, in their order
+abbrev pub elements_read : Rules → List ℕ → List NewElement
+elements_read rules bytes =
+    map {B = NewElement} (λ e. (e.label, e.value))
+    (elements rules (enumerate_from 1 (lines_of_file bytes)))
+
+-- metadata whose values stand over several lines is read as these elements
+abbrev pub LongInfoIsReadAgain : Type 0
+LongInfoIsReadAgain =
+    (elements : List NewElement) → All (λ element. IsText element.0 × IsText element.1) elements
+    → list_any is_bad_long_element elements ≡ false
+    → IsText (text_on_lines elements) × (elements_read V10 (text_on_lines elements) ≡ elements)
+    × ((f : LineFault) → ¬ (IsInfoFault V10 (text_on_lines elements) f))
+
+-- An element that is read can be written again, but for a label that begins with a byte order mark.
+abbrev pub ReadInfoCanBeWritten : Type 0
+ReadInfoCanBeWritten =
+    (rules : Rules) (bytes : List ℕ) (e : Element) → IsElement rules (lines_of_file bytes) e
+    → has_mark e.label ≡ false
+    → IsText e.label × IsText e.value × (is_bad_long_element (e.label, e.value) ≡ false)
 
 -- a manifest is read as these entries
 abbrev pub ManifestIsReadAgain : Type 0

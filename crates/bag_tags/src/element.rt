@@ -16,7 +16,7 @@ pub fn is_bad_element(element: &(Text, Text)) -> bool
 
 /// A label that is empty, has a colon or a line end, begins or ends with a blank, or begins with a
 /// byte order mark.
-fn is_bad_label(label: &str) -> bool
+pub(crate) fn is_bad_label(label: &str) -> bool
     ensures { result ≡ spec.is_bad_label label.now }
 {
     label.is_empty()
@@ -27,7 +27,7 @@ fn is_bad_label(label: &str) -> bool
 }
 
 /// A value that has a line end, or begins or ends with a blank.
-fn is_bad_value(value: &str) -> bool
+pub(crate) fn is_bad_value(value: &str) -> bool
     ensures { result ≡ spec.is_bad_value value.now }
 {
     has_line_end(value) || has_outer_blank(value)

@@ -21,6 +21,7 @@ mod fault;
 mod info;
 pub mod laws;
 mod line;
+mod long_info;
 mod manifest;
 
 pub use bag_read::{
@@ -32,4 +33,5 @@ pub use declaration::write_declaration;
 pub use element::is_bad_element;
 pub use fault::WriteFault;
 pub use info::write_info;
+pub use long_info::{is_bad_long_element, write_long_info};
 pub use manifest::{push_entry, write_manifest};

@@ -1,7 +1,7 @@
 //! Thousands of elements and entries that are written.
 use crate::series::text_of;
 use bag_read::Kind;
-use bag_tags::{WriteFault, write_info, write_manifest};
+use bag_tags::{WriteFault, write_info, write_long_info, write_manifest};
 use bag_text::{Alg, Text};
 use std::alloc::Global;
 use std::process::Abort;
@@ -30,6 +30,14 @@ fn writes_thousands_of_elements(rt: HostRuntime) {
     let elements = pairs(&rt, rt.alloc(), "Label", "value ");
     let written = write_info(rt.alloc(), &elements).expect(&rt, "succeeds");
     let wanted = text_of(&rt, rt.alloc(), &["Label: value ~\n"], 5000);
+    assert!(rt; written.as_slice() == wanted.as_bytes());
+}
+
+#[test]
+fn writes_thousands_of_elements_over_two_lines(rt: HostRuntime) {
+    let elements = pairs(&rt, rt.alloc(), "Label", "first\nvalue ");
+    let written = write_long_info(rt.alloc(), &elements).expect(&rt, "succeeds");
+    let wanted = text_of(&rt, rt.alloc(), &["Label: first\n\tvalue ~\n"], 5000);
     assert!(rt; written.as_slice() == wanted.as_bytes());
 }
 
