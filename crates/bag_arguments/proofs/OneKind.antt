@@ -1,7 +1,7 @@
 -- A command without subcommands gives one kind of error at most.
 use Rattle.bag_arguments.proofs.Common.{arith, ◌≡◌, min, ℕ, zero, suc, Bool, true, List, [], ◌∷◌, Option, Some, None}
 use Rattle.bag_arguments.proofs.Common.{refl, is_some, if◌then◌else◌, nat_lt, ⊤, slice_get, Shape, argument_words}
-use Rattle.bag_arguments.proofs.Common.{built, ValueParser, command, clap_on_literals, refusals}
+use Rattle.bag_arguments.proofs.Common.{App, built, fault_of, ValueParser, command, clap_on_literals, refusals}
 use Rattle.std.specs.Option.{option_map_or}
 use Rattle.std.specs.Str.{bytes_eq, chars}
 use Rattle.clap.specs.Lexer.{long_of}
@@ -111,6 +111,11 @@ built_one : (top : Shape) (subs : List Shape) (words : List Text) → subs ≡ [
     → HasOne (built_fault (record { top = top; subs = subs }) nothing_held words)
 built_one top subs words none leaf = grind (arith, maybe_one, or_one, if_one, walk_one, settle_one, derefusals_one)
 
+-- the words of a command without subcommands are refused for one reason at most
+pub fault_one : (app : App) (words : List Text) → (built app).subs ≡ [] → (built app).top.is_leaf ≡ true
+    → HasOne (fault_of app words)
+fault_one app words none leaf = built_one (built app).top (built app).subs (argument_words app words) none leaf
+
 is_leaf_alone : ((built command).subs ≡ []) × ((built command).top.is_leaf ≡ true)
 unfolding command clap_on_literals
 is_leaf_alone = (refl, refl)
@@ -118,5 +123,4 @@ is_leaf_alone = (refl, refl)
 -- the words are refused for one reason at most
 pub refusals_one : (words : List Text) → HasOne (refusals words)
 unfolding refusals
-refusals_one words =
-    built_one (built command).top (built command).subs (argument_words command words) is_leaf_alone.0 is_leaf_alone.1
+refusals_one words = fault_one command words is_leaf_alone.0 is_leaf_alone.1

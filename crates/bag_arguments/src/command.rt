@@ -6,10 +6,11 @@ ghost use Rattle.bag_arguments.specs.Arguments as spec;
 ghost use Rattle.bag_arguments.specs.Labels.{label_option};
 
 use crate::Label;
+use crate::argument::{flag, operands, option};
 use crate::help::{ABOUT, AFTER};
 use crate::label::LABELS;
 use bag_text::Alg;
-use clap::{Arg, ArgAction, Command, value_parser};
+use clap::{Arg, Command, value_parser};
 use std::alloc::{AllocError, Global};
 
 /// The headings of the options.
@@ -144,45 +145,10 @@ fn label_argument<'a>(alloc: Global, label: Label) -> Arg<'a>
     option(alloc, name, "TEXT", help)
 }
 
-/// An option without a value.
-fn flag<'a>(alloc: Global, name: &'a str, help: &'a str) -> Arg<'a>
-    ensures rule { rule_of result ≡ spec.flag_rule name.entry.now }
-    ensures global { result.global ≡ false }
-{
-    Arg::new(alloc, name)
-        .long(name)
-        .action(ArgAction::SetTrue)
-        .help(help)
-}
-
-/// An option with a value.
-fn option<'a>(alloc: Global, name: &'a str, value_name: &'a str, help: &'a str) -> Arg<'a>
-    ensures rule { rule_of result ≡ spec.option_rule name.entry.now }
-    ensures global { result.global ≡ false }
-{
-    Arg::new(alloc, name)
-        .long(name)
-        .action(ArgAction::Set)
-        .value_name(value_name)
-        .help(help)
-}
-
 /// An option with a number of 1 or more.
 fn number<'a>(alloc: Global, name: &'a str, help: &'a str) -> Arg<'a>
     ensures rule { rule_of result ≡ spec.number_rule name.entry.now }
     ensures global { result.global ≡ false }
 {
     option(alloc, name, "N", help).value_parser(value_parser!(u64).range(1..))
-}
-
-/// One or more values without an option.
-fn operands<'a>(alloc: Global, name: &'a str, value_name: &'a str, help: &'a str) -> Arg<'a>
-    ensures rule { rule_of result ≡ spec.operands_rule name.entry.now }
-    ensures global { result.global ≡ false }
-{
-    Arg::new(alloc, name)
-        .required(true)
-        .num_args(1..)
-        .value_name(value_name)
-        .help(help)
 }

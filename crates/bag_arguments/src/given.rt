@@ -8,26 +8,13 @@ ghost use Rattle.bag_text.specs.Alg.{name};
 ghost use Rattle.bag_text.specs.AlgList.{with_member};
 
 use crate::check_option::CHECK_OPTIONS;
+use crate::matched::{is_given, value, value_count, values};
 use crate::{CheckOption, InfoItem, Label};
 use bag_facts::{Depth, Part};
 use bag_read::number_of;
 use bag_text::{Alg, AlgSet, Items, Text, trim};
 use clap::ArgMatches;
 use std::alloc::{AllocError, Global};
-
-/// Whether an option without a value is given.
-pub(crate) fn is_given(matches: &ArgMatches<'_>, id: &str) -> bool
-    ensures { result ≡ spec.is_given (rows.rows_in matches.now) id.now }
-{
-    matches.get_one::<bool>(id).unwrap_or(false)
-}
-
-/// The value of an option.
-pub(crate) fn value<'a>(matches: &ArgMatches<'a>, id: &str) -> Option<&'a str>
-    ensures { option_map (λ text. text.now) result ≡ spec.value (rows.rows_in matches.now) id.now }
-{
-    matches.get_str(id)
-}
 
 /// The value of an option, with a text of its own.
 pub(crate) fn text_value(
@@ -50,31 +37,7 @@ pub(crate) fn directories(
 ) -> Result<Items<Text>, AllocError>
     ensures { IfOk result (λ items. items ≡ spec.directories (rows.rows_in matches.now)) }
 {
-    match matches.get_strs("directory") {
-        None => Ok(Items::new(alloc)),
-        Some(words) => texts(alloc, words),
-    }
-}
-
-/// How many folders are given.
-fn directory_count(matches: &ArgMatches<'_>) -> usize
-    ensures { result ≡ length (spec.directories (rows.rows_in matches.now)) }
-{
-    match matches.get_strs("directory") {
-        None => 0,
-        Some(words) => words.len(),
-    }
-}
-
-/// Texts of their own.
-pub(crate) fn texts(alloc: Global, words: &[&str]) -> Result<Items<Text>, AllocError>
-    ensures { IfOk result (λ items. items ≡ map (λ word. word.now) words.now) }
-{
-    let mut items = Items::new(alloc);
-    for word in words {
-        items.push(Text::from_str(alloc, word)?)?;
-    }
-    Ok(items)
+    values(alloc, matches, "directory")
 }
 
 /// Whether an option that needs `--validate` is given.
@@ -138,7 +101,7 @@ pub(crate) fn depth(matches: &ArgMatches<'_>) -> Depth
 pub(crate) fn has_after_several(matches: &ArgMatches<'_>) -> bool
     ensures { result ≡ spec.has_after_several (rows.rows_in matches.now) }
 {
-    value(matches, "after").is_some() && directory_count(matches) > 1
+    value(matches, "after").is_some() && value_count(matches, "directory") > 1
 }
 
 /// The limit, 1 or more.

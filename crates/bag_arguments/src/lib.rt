@@ -8,14 +8,17 @@
 //! ```
 //!
 //! `plan_of` gives exactly the plan, the help, or the first thing that is wrong with the words, but
-//! for memory.
+//! for memory. `argument`, `matched` and `declining` are for other programs' command lines too.
 #![tactic(auto)]
 
+pub mod argument;
 mod check_option;
 mod command;
+pub mod declining;
 mod given;
 mod help;
 mod label;
+pub mod matched;
 mod plan;
 mod planning;
 pub mod said;

@@ -9,10 +9,12 @@ ghost use Rattle.bag_arguments.specs.Words.{clap_takes, matches_of_words, refusa
 ghost use Rattle.bag_arguments.specs.Words.{texts_of_words};
 
 use crate::command::command;
+use crate::declining::{Declined, answer_of};
 use crate::label::LABELS;
+use crate::matched::{is_given, value};
 use crate::{Action, Plan, Usage, given};
 use bag_facts::{CursorFault, Depth, Fault, Options, Part};
-use bag_text::{AlgSet, Items, Text};
+use bag_text::{AlgSet, Items};
 use clap::error::ErrorKind;
 use clap::{ArgMatches, Error};
 use std::alloc::Global;
@@ -48,15 +50,10 @@ fn decline(alloc: Global, error: Error) -> Result<Plan, Usage>
     ensures declines { spec.Declines (kind_of error) result }
     ensures memory { kind_of error ≡ ErrorKind.OutOfMemory → result ≡ Err Usage.Memory }
 {
-    let kind = error.kind();
-    if kind == ErrorKind::OutOfMemory {
-        return Err(Usage::Memory);
-    }
-    let text = Text::from_string(format!(in alloc; "{error}")?);
-    if kind == ErrorKind::DisplayHelp {
-        Ok(plan_without_words(alloc, Action::Help(text)))
-    } else {
-        Err(Usage::Refused(text))
+    match answer_of(alloc, error) {
+        Declined::Help(text) => Ok(plan_without_words(alloc, Action::Help(text))),
+        Declined::Refused(text) => Err(Usage::Refused(text)),
+        Declined::Memory => Err(Usage::Memory),
     }
 }
 
@@ -89,7 +86,7 @@ fn plan_of_matches(alloc: Global, matches: &ArgMatches<'_>) -> Result<Plan, Usag
     refuse_misuse(matches)?;
     let after = cursor(alloc, matches)?;
     let part = part(matches)?;
-    let action = if given::is_given(matches, "validate") {
+    let action = if is_given(matches, "validate") {
         Action::Check
     } else {
         Action::Make
@@ -99,13 +96,13 @@ fn plan_of_matches(alloc: Global, matches: &ArgMatches<'_>) -> Result<Plan, Usag
         directories: given::directories(alloc, matches)?,
         options: Options {
             depth: given::depth(matches),
-            clashes: given::is_given(matches, "clashes"),
+            clashes: is_given(matches, "clashes"),
         },
         profile: given::text_value(alloc, matches, "profile")?,
         after,
         limit: given::limit(matches),
         part,
-        quiet: given::is_given(matches, "quiet"),
+        quiet: is_given(matches, "quiet"),
         algs: given::algs(matches),
         info: given::info(alloc, matches, &LABELS)?,
     })
@@ -132,7 +129,7 @@ fn refuse_misuse(matches: &ArgMatches<'_>) -> Result<(), Usage>
 fn cursor(alloc: Global, matches: &ArgMatches<'_>) -> Result<Option<Fault>, Usage>
     ensures { spec.GivesCursor (value_of (rows_in matches.now) (codes "after")) result }
 {
-    let Some(line) = given::value(matches, "after") else {
+    let Some(line) = value(matches, "after") else {
         return Ok(None);
     };
     match Fault::from_line(alloc, line) {
@@ -149,7 +146,7 @@ fn part(matches: &ArgMatches<'_>) -> Result<Option<Part>, Usage>
         × (part ≡ part_given (rows_in matches.now)))
         (λ usage. spec.part_misuse (rows_in matches.now) ≡ Some usage) }
 {
-    let Some(text) = given::value(matches, "part") else {
+    let Some(text) = value(matches, "part") else {
         return Ok(None);
     };
     if given::depth(matches) != Depth::Full {

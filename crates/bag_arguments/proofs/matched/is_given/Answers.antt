@@ -1,6 +1,6 @@
 use Rattle.bag_arguments.proofs.Common.{◌∙◌, [], ap, bytes_eq, codes, unwrap_or, one_text-rows, found_of, one_text}
 use Rattle.bag_arguments.proofs.Reading.{flag_read}
-use Rattle.bag_arguments.proofs.given.is_given.Goals as goal
+use Rattle.bag_arguments.proofs.matched.is_given.Goals as goal
 
 pub returns : goal.returns
 returns c =
