@@ -1,0 +1,117 @@
+-- Checking and summing files one after another.
+use Rattle.bag_renew.proofs.Common.{◌≡◌, ◌<◌, ◌≤◌, ◌+◌, ◌++◌, ◌∷◌, ℕ, List, [], length, take, get_or, Some, Contains, refl}
+use Rattle.bag_renew.proofs.Common.{contains_first}
+use Rattle.bag_renew.proofs.Common.{sym, ap, ◌∙◌, subst, arith, append_assoc, append-nil, map-append, All-append, All-cons}
+use Rattle.bag_renew.proofs.Common.{All-nil, Alg, file}
+use Rattle.std.proofs.lemmas.List.{take_all}
+use Rattle.bag_facts.proofs.Mapped.{take_one_more}
+use Rattle.bag_facts.proofs.Reading.{keeps_itself, keeps_on}
+use Rattle.bag_facts.specs.Wanted.{paths_of}
+use Rattle.bag_facts.specs.declared.facts.Facts.{Facts}
+use Rattle.bag_tree.specs.Tree.{Keeps, NothingFailed, TreeState}
+use Rattle.bag_tree.specs.declared.listing.FileEntry.{FileEntry}
+use Rattle.bag_tree.proofs.Calm.{nothing_asked, nothing_then}
+use Rattle.bag_facts.specs.FactsOfBag.{IsFactsOf}
+use Rattle.bag_facts.specs.declared.fault.Fault.{Fault}
+use Rattle.bag_stages.specs.ValidityStage.{IsOfValidity}
+use Rattle.bag_stages.specs.declared.expected.Expected.{Expected}
+use Rattle.bag_renew.specs.Checked.{IsUnchecked}
+use Rattle.bag_renew.specs.declared.checked.Unchecked.{Unchecked}
+use Rattle.bag_renew.specs.declared.checked.Unchecked.TheVariants.{Faulty, Stopped}
+use Rattle.bag_renew.specs.Renewed.{File}
+use Rattle.bag_renew.specs.Summed.{AreChecked, AreSummed, HasItsSums, IsCheckedFile, IsFaultyFile, IsGivenFor}
+use Rattle.bag_renew.specs.Summed.{IsRight, entry_of_file}
+use Rattle.bag_renew.specs.declared.summed.SummedFile.{SummedFile}
+
+summed_more : (algs : List Alg) (files : List File) (summed : List SummedFile) (e : File) (one : SummedFile)
+    → AreSummed algs files summed → HasItsSums algs e one
+    → AreSummed algs (files ++ e ∷ []) (summed ++ one ∷ [])
+summed_more algs [] [] e one h s = (s, tt)
+summed_more algs (x ∷ files) (y ∷ summed) e one h s = (h.0, summed_more algs files summed e one h.1 s)
+summed_more algs _ _ e one h s = absurd h
+
+-- the first of the listed files were checked and summed
+pub record ChecksFirst (facts : Facts) (files : List FileEntry) (count : ℕ) (algs : List Alg) (old new : TreeState)
+    (sums : List SummedFile) : Type 0 where
+  pub keeps : Keeps old new
+  pub no_failure : NothingFailed old new
+  pub opened : new.openings ≡ old.openings ++ paths_of (take count files)
+  pub checked : AreChecked old facts (take count files) algs sums
+
+pub checks_none : (facts : Facts) (files : List FileEntry) (algs : List Alg) (old : TreeState)
+    → ChecksFirst facts files 0 algs old old []
+checks_none facts files algs old = record {
+  keeps = keeps_itself old;
+  no_failure = nothing_asked old;
+  opened = sym (append-nil old.openings);
+  checked = record {
+    files = [];
+    listed = refl;
+    right = All-nil (IsRight facts);
+    sums = tt;
+    honest = λ h. All-nil (λ (x : File). file old.bag x.0 ≡ Some x.1);
+  };
+}
+
+module _ (facts : Facts) (files : List FileEntry) (i : ℕ) (entry : FileEntry) (algs : List Alg) (old mid new : TreeState)
+    (summed : List SummedFile)
+    (lt : i < length files) (is : entry ≡ get_or files i entry)
+    (before : ChecksFirst facts files i algs old mid summed) where
+  next : take (i + 1) files ≡ take i files ++ entry ∷ []
+  next = take_one_more files i entry lt is
+
+  added : (one : SummedFile) → IsCheckedFile mid facts entry algs one
+      → AreChecked old facts (take (i + 1) files) algs (summed ++ one ∷ [])
+  added one e =
+      let so_far = before.checked in
+      let last : File = (entry.path, e.content) in record {
+        files = so_far.files ++ last ∷ [];
+        listed =
+            map-append entry_of_file so_far.files (last ∷ [])
+            ∙ (λ j. so_far.listed j ++ record { path = entry.path; size = e.size j } ∷ []) ∙ sym next;
+        right = All-append (IsRight facts) so_far.files (last ∷ []) so_far.right
+            (All-cons (IsRight facts) last [] e.right (All-nil (IsRight facts)));
+        sums = summed_more algs so_far.files summed last one so_far.sums e.sums;
+        honest = λ h. All-append (λ (x : File). file old.bag x.0 ≡ Some x.1) so_far.files (last ∷ []) (so_far.honest h)
+            (All-cons (λ (x : File). file old.bag x.0 ≡ Some x.1) last []
+            (ap (λ bag. file bag entry.path) (sym before.keeps.bag) ∙ e.honest (before.keeps.honest ∙ h))
+            (All-nil (λ (x : File). file old.bag x.0 ≡ Some x.1)));
+      }
+
+  opened_more : new.openings ≡ mid.openings ++ entry.path ∷ []
+      → new.openings ≡ old.openings ++ paths_of (take (i + 1) files)
+  opened_more once = grind (arith, append_assoc, next, map-append)
+
+  -- one more was
+  pub checks_one_more : (after : List SummedFile) (one : SummedFile) → after ≡ summed ++ one ∷ [] → Keeps mid new
+      → NothingFailed mid new
+      → new.openings ≡ mid.openings ++ entry.path ∷ [] → IsCheckedFile mid facts entry algs one
+      → ChecksFirst facts files (i + 1) algs old new after
+  checks_one_more after one e k no_failure once s = grind (arith, keeps_on, nothing_then, opened_more, added)
+
+-- a file was found to have another digest, or was refused
+module _ (facts : Facts) (state : TreeState) where
+  pub faulty_file : (entry : FileEntry) (expected : List Expected) (e : Unchecked)
+      → IsGivenFor facts entry.path expected → IsUnchecked state entry expected e → IsFaultyFile facts state e
+  faulty_file entry expected (Stopped stop) given h = tt
+  faulty_file entry expected (Faulty fault) given (content, rest, read, same) = λ honest of deep.
+      let list = given.faults state.bag of deep content (read.honest honest) in
+      ((list.members fault).0 (subst (λ (xs : List Fault). Contains xs fault) (sym same) (contains_first fault rest))).0
+
+  -- so it is before
+  pub faulty_before : (old : TreeState) → Keeps old state → (e : Unchecked) → IsFaultyFile facts state e
+      → IsFaultyFile facts old e
+  faulty_before old keeps (Stopped stop) h = tt
+  faulty_before old keeps (Faulty fault) h = λ honest of deep.
+      subst (λ bag. IsOfValidity bag fault) keeps.bag
+      (h (keeps.honest ∙ honest) (subst (λ bag. IsFactsOf bag facts) (sym keeps.bag) of) deep)
+
+-- all were gone through
+module _ (facts : Facts) (files : List FileEntry) (count : ℕ) (algs : List Alg) (old new : TreeState)
+    (summed : List SummedFile)
+    (le : length files ≤ count) (all : ChecksFirst facts files count algs old new summed) where
+  pub opens_all : new.openings ≡ old.openings ++ paths_of files
+  opens_all = all.opened ∙ ap (λ xs. old.openings ++ paths_of xs) (take_all count files le)
+
+  pub checks_all : AreChecked old facts files algs summed
+  checks_all = subst (λ xs. AreChecked old facts xs algs summed) (take_all count files le) all.checked

@@ -1,0 +1,48 @@
+-- The changes in which a bag is renewed, one tag file after the other.
+use Rattle.std.specs.Prelude.{ℕ, List, [], ◌∷◌, ◌++◌, ◌&&◌, map, take, if◌then◌else◌}
+use Rattle.bag_text.specs.AlgList.{has_member}
+use Rattle.bag_read.specs.ManifestName.{tag_path}
+use Rattle.bag_read.specs.declared.kind.Kind.TheVariants.{Payload, Tag}
+use Rattle.bag_read.specs.declared.tag_name.TagName.TheVariants.{Manifest}
+use Rattle.bag_tree.specs.Bag.{Bag, has_file}
+use Rattle.bag_tree.specs.FileChanges.{after_changes}
+use Rattle.bag_tree.specs.declared.file_change.FileChange.{FileChange}
+use Rattle.bag_tree.specs.declared.file_change.FileChange.TheVariants.{Put, Remove}
+use Rattle.bag_renew.specs.Renewed.{File, algs_where, begun_file, declaration_file}
+use Rattle.bag_renew.specs.Renewed.{has_payload_manifest, has_tag_manifest, info_file}
+use Rattle.bag_renew.specs.Renewed.{payload_manifests, tag_manifests}
+use Rattle.bag_renew.specs.declared.renewal.Renewal.{Renewal}
+
+-- the change that puts a file
+abbrev pub put : File → FileChange
+put e = Put e.0 e.1
+
+module _ (bag : Bag) (renewal : Renewal) where
+  -- the tag manifests are removed, so that what they name can be changed
+  abbrev pub opening : List FileChange
+  opening = map (λ alg. Remove (tag_path (Manifest Tag alg))) (algs_where (has_tag_manifest bag))
+
+  -- a file that an earlier renewal has begun is removed
+  abbrev pub clearing : List FileChange
+  clearing = if has_file bag begun_file then Remove begun_file ∷ [] else []
+
+  -- the metadata and the payload manifests are put
+  abbrev pub putting : List FileChange
+  putting = put (info_file bag renewal) ∷ map put (payload_manifests bag renewal)
+
+  -- the payload manifests of algorithms that are dropped are removed
+  abbrev pub dropping : List FileChange
+  dropping =
+      map (λ alg. Remove (tag_path (Manifest Payload alg)))
+      (algs_where (λ alg. has_payload_manifest bag alg && has_member renewal.dropped alg))
+
+  -- the declaration is put, and last the tag manifests
+  abbrev pub closing : List FileChange
+  closing = put (declaration_file bag renewal) ∷ map put (tag_manifests bag renewal)
+
+  abbrev pub changes : List FileChange
+  changes = opening ++ (clearing ++ (putting ++ (dropping ++ closing)))
+
+  -- the bag after the first k changes
+  abbrev pub after : ℕ → Bag
+  after k = after_changes (take k changes) bag

@@ -1,0 +1,43 @@
+-- What stands in the renewed bag, path by path.
+use Rattle.std.specs.Prelude.{ℕ, ◌≡◌, ◌⊎◌, ◌↔◌, true, List, Some, Contains}
+use Rattle.bag_text.specs.Path.{is_payload_path}
+use Rattle.bag_read.specs.ManifestName.{tag_path}
+use Rattle.bag_read.specs.declared.kind.Kind.TheVariants.{Payload, Tag}
+use Rattle.bag_read.specs.declared.tag_name.TagName.{TagName}
+use Rattle.bag_read.specs.declared.tag_name.TagName.TheVariants.{Declaration, Info, Fetch, Manifest}
+use Rattle.bag_tree.specs.Bag.{Bag, file}
+use Rattle.bag_stages.specs.Payload.{payload}
+use Rattle.bag_tags.specs.Declaration.{declaration_text}
+use Rattle.bag_renew.specs.Elements.{text_on_lines}
+use Rattle.bag_renew.specs.Renewed.{manifest, named_tag_files, new_algs, new_elements, renewed, stays}
+use Rattle.bag_renew.specs.declared.renewal.Renewal.{Renewal}
+
+-- a file of the bag that stays: one of the payload, or a tag file that isn't written anew
+abbrev pub IsOld : Bag → List ℕ → List ℕ → Type 0
+IsOld bag path content =
+    (file bag path ≡ Some content) × ((is_payload_path path ≡ true) ⊎ (stays path ≡ true))
+
+module _ (bag : Bag) (renewal : Renewal) where
+  -- the text of a tag file that is written (2.1.1, 2.1.3, 2.2.1 and 2.2.2); fetch.txt isn't
+  abbrev pub IsNewText : TagName → List ℕ → Type 0
+  IsNewText Declaration text = text ≡ declaration_text
+  IsNewText Info text = text ≡ text_on_lines (new_elements bag renewal)
+  IsNewText Fetch text = ⊥
+  IsNewText (Manifest Payload alg) text =
+      Contains (new_algs bag renewal) alg × (text ≡ manifest alg (payload bag))
+  IsNewText (Manifest Tag alg) text =
+      Contains (new_algs bag renewal) alg
+      × (text ≡ manifest alg (named_tag_files bag renewal))
+
+  abbrev pub IsNew : List ℕ → List ℕ → Type 0
+  IsNew path text = (name : TagName) × (path ≡ tag_path name) × IsNewText name text
+
+  -- a file of the renewed bag, with its bytes
+  abbrev pub Stands : List ℕ → List ℕ → Type 0
+  Stands path content = IsOld bag path content ⊎ IsNew path content
+
+-- the law: these files stand in the renewed bag, and no others
+abbrev pub RenewedHasTheseFiles : Type 0
+RenewedHasTheseFiles =
+    (bag : Bag) (renewal : Renewal) (path content : List ℕ)
+    → (file (renewed bag renewal) path ≡ Some content) ↔ Stands bag renewal path content

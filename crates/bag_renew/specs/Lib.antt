@@ -1,0 +1,11 @@
+pub mod Changes
+pub mod Checked
+pub mod Contents
+pub mod Elements
+pub mod FirstFaults
+pub mod Laws
+pub mod NewManifests
+pub mod Renewed
+pub mod Summed
+pub mod Telling
+pub mod Valid

@@ -1,0 +1,87 @@
+-- The payload manifests of further algorithms.
+use Rattle.std.specs.Prelude.{ℕ, ◌≡◌, ◌<◌, ◌++◌, All, IsTrue, List, None, Option, Some, [], map}
+use Rattle.std.specs.List.Sorted.{IsStrictlySortedBy}
+use Rattle.bag_text.specs.Code.{stage}
+use Rattle.bag_text.specs.Text.{text_cmp}
+use Rattle.bag_text.specs.declared.alg.Alg.{Alg}
+use Rattle.bag_read.specs.ManifestName.{tag_path}
+use Rattle.bag_read.specs.declared.kind.Kind.TheVariants.{Payload}
+use Rattle.bag_read.specs.declared.tag_name.TagName.TheVariants.{Manifest}
+use Rattle.bag_facts.specs.FactsOfBag.{IsFactsOf}
+use Rattle.bag_facts.specs.Wanted.{IsWanted, paths_of}
+use Rattle.bag_facts.specs.declared.facts.Facts.{Facts}
+use Rattle.bag_facts.specs.declared.fault.Fault.{Fault}
+use Rattle.bag_report.specs.Report.{IsReported}
+use Rattle.bag_tags.specs.Entry.{NewEntry, manifest_text}
+use Rattle.bag_tree.specs.Bag.{Bag, IsBag, files_of}
+use Rattle.bag_tree.specs.DigestsOf.{sum_at}
+use Rattle.bag_tree.specs.Tree.{TreeState}
+use Rattle.bag_renew.specs.FirstFaults.{HasNoneBefore}
+use Rattle.bag_renew.specs.Renewed.{File, manifest}
+use Rattle.bag_renew.specs.Summed.{AreChecked, IsRight, entry_of_file, payload_of}
+use Rattle.bag_renew.specs.Valid.{full}
+use Rattle.bag_renew.specs.declared.checked.Unchecked.{Unchecked}
+use Rattle.bag_renew.specs.declared.checked.Unchecked.TheVariants.{Faulty, Stopped}
+use Rattle.bag_renew.specs.declared.summed.SummedFile.{SummedFile}
+
+-- the payload manifests that name these files of the payload, one for each algorithm
+abbrev pub manifests_for : List Alg → List File → List File
+manifests_for algs payload = map (λ alg. (tag_path (Manifest Payload alg), manifest alg payload)) algs
+
+abbrev pub text_or_none : Option (List ℕ) → List ℕ
+text_or_none (Some text) = text
+text_or_none None = []
+
+-- what a manifest of an algorithm says of a file with these digests
+abbrev pub summed_entry : Alg → SummedFile → NewEntry
+summed_entry alg one = (text_or_none (sum_at one.sums alg), one.path)
+
+-- the manifests that give these digests
+abbrev pub manifests_of : List Alg → List SummedFile → List File
+manifests_of algs files =
+    map (λ alg. (tag_path (Manifest Payload alg), manifest_text (map (summed_entry alg) files))) algs
+
+-- the tag files that are read were opened, each once, and then each file of the bag once
+abbrev pub OpensTwice : TreeState → TreeState → Type 0
+OpensTwice old new =
+    (tags : List (List ℕ)) × IsStrictlySortedBy text_cmp tags × All (IsWanted full) tags
+    × (new.openings ≡ (old.openings ++ tags) ++ map (λ e. e.0) (files_of old.bag))
+
+-- Over any tree: what manifests give was compared with the digests of the very bytes of which these
+-- manifests give the new ones.
+pub record AreOfSameBytes (algs : List Alg) (made : List File) : Type 0 where
+  pub facts : Facts
+  pub bag : Bag
+  pub is_bag : IsBag bag
+  pub facts_of : IsFactsOf bag facts
+  pub files : List File
+  pub listed : map entry_of_file files ≡ facts.listing.files
+  pub right : All (IsRight facts) files
+  pub made_of : made ≡ manifests_for algs (payload_of files)
+
+-- All was read and checked: the tag files, of what they say no fault of stages 1 to 6 was found, and
+-- each listed file, which has the digests that manifests give for it. Of an honest tree this is of
+-- its bag.
+pub record HasChecked (algs : List Alg) (old new : TreeState) (summed : List SummedFile) : Type 0
+  where
+    pub facts : Facts
+    pub options : facts.options ≡ full
+    pub seen : (bag : Bag) × IsBag bag × IsFactsOf bag facts
+    pub none : HasNoneBefore facts 7
+    pub tags : List (List ℕ)
+    pub ascend : IsStrictlySortedBy text_cmp tags
+    pub wanted : All (IsWanted full) tags
+    pub opened : new.openings ≡ (old.openings ++ tags) ++ paths_of facts.listing.files
+    pub of_bag : IsTrue old.honest → IsFactsOf old.bag facts
+    pub checked : AreChecked old facts facts.listing.files algs summed
+
+-- a fault of the bag, checked in full but for names that clash
+abbrev pub HasFault : Bag → Fault → Type 0
+HasFault bag f = IsReported (record { bag = bag; profile = None; options = full }) f
+
+-- The bag has this fault, and none of an earlier stage; or the tree refused to list its files or to
+-- read one, or memory ran out.
+abbrev pub IsRefusedFor : Bag → Unchecked → Type 0
+IsRefusedFor bag (Stopped stop) = Unit {0}
+IsRefusedFor bag (Faulty fault) =
+    HasFault bag fault × ((f : Fault) → HasFault bag f → stage f.code < stage fault.code → ⊥)

@@ -1,0 +1,86 @@
+-- Files of a bag that were checked, with the digests that manifests are to give.
+use Rattle.std.specs.Prelude.{ℕ, ◌≡◌, ◌≢◌, ◌∷◌, [], ⊤, All, Contains, IsTrue, List, Some, filter, length}
+use Rattle.std.specs.Prelude.{map}
+use Rattle.bag_text.specs.Order.{IsListOf}
+use Rattle.bag_text.specs.Path.{is_payload_path}
+use Rattle.bag_text.specs.declared.alg.Alg.{Alg}
+use Rattle.bag_tree.specs.Bag.{file}
+use Rattle.bag_tree.specs.Digest.{digest}
+use Rattle.bag_tree.specs.DigestsOf.{sum_at}
+use Rattle.bag_tree.specs.Tree.{TreeState}
+use Rattle.bag_tree.specs.declared.listing.FileEntry.{FileEntry}
+use Rattle.bag_facts.specs.FactsOfBag.{IfBagRead, IsFactsOf}
+use Rattle.bag_facts.specs.FaultOrder.{fault_cmp}
+use Rattle.bag_facts.specs.Stops.{IsOutOfMemory}
+use Rattle.bag_facts.specs.declared.facts.Facts.{Facts}
+use Rattle.bag_facts.specs.declared.options.Depth.TheVariants.{Declaration}
+use Rattle.bag_stages.specs.Given.{AreNaming}
+use Rattle.bag_stages.specs.SumFaults.{IsFaultOfFile, faults_of_bytes}
+use Rattle.bag_stages.specs.ValidityStage.{IsOfValidity}
+use Rattle.bag_stages.specs.declared.expected.Expected.{Expected}
+use Rattle.bag_renew.specs.Renewed.{File}
+use Rattle.bag_renew.specs.declared.checked.Unchecked.{Unchecked}
+use Rattle.bag_renew.specs.declared.checked.Unchecked.TheVariants.{Faulty, Stopped}
+use Rattle.bag_renew.specs.declared.summed.SummedFile.{SummedFile}
+
+-- how a file is listed
+abbrev pub entry_of_file : File → FileEntry
+entry_of_file e = record { path = e.0; size = length e.1 }
+
+-- those of the payload
+abbrev pub payload_of : List File → List File
+payload_of files = filter (λ e. is_payload_path e.0) files
+
+-- this is what the manifests of which these are the facts give for the path
+pub record IsGivenFor (facts : Facts) (path : List ℕ) (expected : List Expected) : Type 0 where
+  pub algs : IfBagRead facts (λ bag. AreNaming bag path (map (λ one. one.alg) expected))
+  pub faults : IfBagRead facts (λ bag. (content : List ℕ) → file bag path ≡ Some content
+      → IsListOf fault_cmp (IsFaultOfFile bag path) (faults_of_bytes path content expected))
+
+-- a file all of whose digests that manifests give are those of its bytes
+pub record IsRight (facts : Facts) (e : File) : Type 0 where
+  pub expected : List Expected
+  pub given : IsGivenFor facts e.0 expected
+  pub right : faults_of_bytes e.0 e.1 expected ≡ []
+
+-- the path of a file, and the digests of its bytes by these algorithms
+pub record HasItsSums (algs : List Alg) (e : File) (one : SummedFile) : Type 0 where
+  pub path : one.path ≡ e.0
+  pub sums : (alg : Alg) → Contains algs alg → sum_at one.sums alg ≡ Some (digest alg e.1)
+
+-- these files in their order, each with its digests
+abbrev pub AreSummed : List Alg → List File → List SummedFile → Type 0
+AreSummed algs [] [] = ⊤
+AreSummed algs (e ∷ files) (one ∷ summed) = HasItsSums algs e one × AreSummed algs files summed
+AreSummed algs files summed = ⊥
+
+-- A listed file was read: as many bytes as were listed, of which all digests that are given are
+-- right, and these the new ones. Of an honest tree they are those of the bag's file.
+pub record IsCheckedFile (state : TreeState) (facts : Facts) (entry : FileEntry) (algs : List Alg)
+    (one : SummedFile) : Type 0 where
+  pub content : List ℕ
+  pub size : length content ≡ entry.size
+  pub honest : IsTrue state.honest → file state.bag entry.path ≡ Some content
+  pub right : IsRight facts (entry.path, content)
+  pub sums : HasItsSums algs (entry.path, content) one
+
+-- so these listed files were, one after another
+pub record AreChecked (state : TreeState) (facts : Facts) (entries : List FileEntry)
+    (algs : List Alg) (summed : List SummedFile) : Type 0 where
+  pub files : List File
+  pub listed : map entry_of_file files ≡ entries
+  pub right : All (IsRight facts) files
+  pub sums : AreSummed algs files summed
+  pub honest : IsTrue state.honest → All (λ e. file state.bag e.0 ≡ Some e.1) files
+
+-- that memory ran out
+abbrev pub IsNoMemory : Unchecked → Type 0
+IsNoMemory (Stopped stop) = IsOutOfMemory stop
+IsNoMemory (Faulty fault) = ⊥
+
+-- of an honest tree whose bag's facts these are it is a digest that differs
+abbrev pub IsFaultyFile : Facts → TreeState → Unchecked → Type 0
+IsFaultyFile facts state (Stopped stop) = Unit {0}
+IsFaultyFile facts state (Faulty fault) =
+    IsTrue state.honest → IsFactsOf state.bag facts → facts.options.depth ≢ Declaration
+    → IsOfValidity state.bag fault

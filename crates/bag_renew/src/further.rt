@@ -1,0 +1,155 @@
+//! The payload manifests of further algorithms, of a bag that has no fault.
+ghost use Rattle.std.specs.Prelude.{◌≡◌, ◌∷◌, ◌++◌, [], IfOk, IfErr, IsTrue, OnOk, filter, map, string_bytes};
+ghost use Rattle.bag_text.specs.Path.{is_payload_path};
+ghost use Rattle.bag_text.specs.Lines.{line_feed};
+ghost use Rattle.bag_stages.specs.Payload.{payload};
+ghost use Rattle.bag_tags.specs.Entry as entry;
+ghost use Rattle.bag_tree.specs.Tree.{Keeps};
+ghost use Rattle.bag_renew.specs.NewManifests.{AreOfSameBytes, HasChecked, IsRefusedFor, OpensTwice};
+ghost use Rattle.bag_renew.specs.NewManifests.{manifests_for, manifests_of, summed_entry};
+ghost use Rattle.bag_renew.specs.Valid.{HasNoFault};
+
+use crate::Unchecked;
+use crate::stages::check_stages;
+use crate::summed::{SummedFile, check_files, no_memory};
+use bag_facts::{Depth, Facts, Options};
+use bag_read::{Kind, TagName};
+use bag_tags::push_entry;
+use bag_text::{Alg, AlgSet, Items, Text, is_payload};
+use bag_tree::Tree;
+use std::alloc::{AllocError, Global};
+
+/// Everything is checked, but for names that clash.
+const FULL: Options = Options {
+    depth: Depth::Full,
+    clashes: false,
+};
+
+/// The payload manifests of these algorithms, each with its name, of a bag that has no fault
+/// (RFC 8493, 2.1.3 and 3). The bag stays as it is.
+///
+/// It is checked in full, but for names that clash. Its tag files are read first; then each file is
+/// opened once, and the digests that manifests give for it are compared with those of the very bytes
+/// of which the new ones are computed. So a file that was damaged is never given a digest, also
+/// where the damage comes while the bag is read.
+#[tactic(auto, using(crate::proofs::CheckedBag::same_bytes, crate::proofs::CheckedBag::of_the_bag, crate::proofs::CheckedBag::has_no_fault, crate::proofs::CheckedBag::opens_twice))]
+pub fn new_manifests<T: Tree>(
+    alloc: Global,
+    tree: &mut T,
+    algs: AlgSet,
+) -> Result<Vec<(Text, Items<u8>)>, Unchecked>
+    ensures keeps { Keeps (T.state tree.old) (T.state tree.new) }
+    ensures no_failure { OnOk result ((T.state tree.new).failures ≡ (T.state tree.old).failures) }
+    ensures opened { OnOk result
+        (IsTrue (T.state tree.old).honest → OpensTwice (T.state tree.old) (T.state tree.new)) }
+    ensures same_bytes { IfOk result (λ made. AreOfSameBytes algs made.items) }
+    ensures valid { OnOk result
+        (IsTrue (T.state tree.old).honest → HasNoFault (T.state tree.old).bag) }
+    ensures manifests { IfOk result (λ made. IsTrue (T.state tree.old).honest
+        → made.items ≡ manifests_for algs (payload (T.state tree.old).bag)) }
+    ensures refused { IfErr result (λ fault.
+        IsTrue (T.state tree.old).honest → IsRefusedFor (T.state tree.old).bag fault) }
+{
+    let summed = match check_bag(alloc, tree, algs) {
+        Ok(summed) => payload_only(summed),
+        Err(unchecked) => return Err(unchecked),
+    };
+    match manifests(alloc, algs, &summed) {
+        Ok(made) => Ok(made),
+        Err(AllocError) => Err(no_memory(alloc)),
+    }
+}
+
+/// Those of the payload.
+fn payload_only(summed: Vec<SummedFile>) -> Vec<SummedFile>
+    ensures { result.items ≡ filter (λ one. is_payload_path one.path) summed.items }
+{
+    let mut summed = summed;
+    summed.retain(|one| is_payload(one.path.as_str()));
+    summed
+}
+
+/// Checks a bag in full, but for names that clash, and gives the digests of its files in their
+/// order.
+#[tactic(auto, using(crate::proofs::CheckedBag::stages_refuse, crate::proofs::CheckedBag::files_refuse, crate::proofs::CheckedBag::has_checked))]
+fn check_bag<T: Tree>(
+    alloc: Global,
+    tree: &mut T,
+    algs: AlgSet,
+) -> Result<Vec<SummedFile>, Unchecked>
+    ensures keeps { Keeps (T.state tree.old) (T.state tree.new) }
+    ensures no_failure { OnOk result ((T.state tree.new).failures ≡ (T.state tree.old).failures) }
+    ensures checked { IfOk result (λ summed.
+        HasChecked algs (T.state tree.old) (T.state tree.new) summed.items) }
+    ensures refused { IfErr result (λ fault.
+        IsTrue (T.state tree.old).honest → IsRefusedFor (T.state tree.old).bag fault) }
+{
+    let facts = match Facts::read(alloc, tree, FULL) {
+        Ok(facts) => facts,
+        Err(stop) => return Err(Unchecked::Stopped(stop)),
+    };
+    if let Err(unchecked) = check_stages(alloc, &facts) {
+        return Err(unchecked);
+    }
+    match check_files(alloc, tree, &facts, algs) {
+        Ok(summed) => Ok(summed),
+        Err(unchecked) => Err(unchecked),
+    }
+}
+
+/// The payload manifests of algorithms that name these files.
+fn manifests(
+    alloc: Global,
+    algs: AlgSet,
+    files: &[SummedFile],
+) -> Result<Vec<(Text, Items<u8>)>, AllocError>
+    ensures { IfOk result (λ made. made.items ≡ manifests_of algs files.now) }
+{
+    let members = algs.members(alloc)?;
+    manifests_by(alloc, &members, files)
+}
+
+fn manifests_by(
+    alloc: Global,
+    algs: &[Alg],
+    files: &[SummedFile],
+) -> Result<Vec<(Text, Items<u8>)>, AllocError>
+    ensures { IfOk result (λ made. made.items ≡ manifests_of algs.now files.now) }
+{
+    let mut manifests = Vec::new(alloc);
+    for alg in algs {
+        let path = TagName::Manifest(Kind::Payload, *alg).path(alloc)?;
+        manifests.push((path, manifest(alloc, *alg, files)?))?;
+    }
+    Ok(manifests)
+}
+
+/// The manifest of an algorithm that names these files (RFC 8493, 2.1.3).
+fn manifest(alloc: Global, alg: Alg, files: &[SummedFile]) -> Result<Items<u8>, AllocError>
+    ensures { IfOk result (λ bytes.
+        bytes ≡ entry.manifest_text (map (summed_entry alg) files.now)) }
+{
+    let mut text = String::new(alloc);
+    for file in files {
+        push_file(alloc, &mut text, alg, file)?;
+    }
+    Ok(Items::from_vec(text.into_bytes()))
+}
+
+/// Adds the line of a file, whose digests are asked of the algorithm.
+fn push_file(
+    alloc: Global,
+    text: &mut String,
+    alg: Alg,
+    file: &SummedFile,
+) -> Result<(), AllocError>
+    ensures { OnOk result
+        (string_bytes text.new
+        ≡ string_bytes text.old ++ entry.entry_line (summed_entry alg file.now)
+        ++ line_feed ∷ []) }
+{
+    match file.sums.hex(alloc, alg) {
+        Ok(digest) => push_entry(alloc, text, digest.as_str(), file.path.as_str()),
+        Err(_) => Err(AllocError),
+    }
+}

@@ -1,0 +1,30 @@
+//! The renewed bag of a bag: its tag files written anew in place, and its payload as it was.
+//!
+//! ```
+//! let renewal = Renewal { added: AlgSet::empty().with(Alg::Sha512), dropped, elements };
+//! let sums = check_and_sum(alloc, &mut tree, file, &expected, algs, &mut buffer)?;
+//! for (name, text) in &new_manifests(alloc, &mut tree, renewal.added)? {
+//!     let bytes = text.as_slice();
+//! }
+//! ```
+//!
+//! Manifests of further algorithms are made, elements of `bag-info.txt` are set, and the version
+//! becomes 1.0 (RFC 8493, 2.1.1, 2.1.3, 2.2.1 and 2.2.2). Each file of the bag is read once: the
+//! digests that its manifests give are compared, and the new ones computed, over the same bytes.
+//!
+//! The payload manifests of further algorithms are given of a bag without a fault alone, and over
+//! any tree of the very bytes whose digests were compared. The renewed bag has no fault, and the
+//! payload of the old one. The changes that make it put or remove one tag file after the other, each
+//! can be made after those before it, and none touches the payload.
+#![tactic(auto)]
+
+mod checked;
+mod further;
+pub mod laws;
+mod renewal;
+mod stages;
+mod summed;
+
+pub use checked::{Unchecked, check_and_sum};
+pub use further::new_manifests;
+pub use renewal::Renewal;

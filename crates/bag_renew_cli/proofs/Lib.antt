@@ -1,0 +1,4 @@
+pub mod Answering
+pub mod Common
+pub mod Lent
+pub mod Lines

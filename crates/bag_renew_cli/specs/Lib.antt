@@ -1,0 +1,9 @@
+pub mod Arguments
+pub mod FaultParts
+pub mod Given
+pub mod Listed
+pub mod Options
+pub mod Plan
+pub mod RenewalLine
+pub mod Words
+pub mod WordsRefusal

@@ -1,0 +1,54 @@
+-- The line that says how renewing a bag went, and the exit status.
+use Rattle.std.specs.Prelude.{ℕ, Bool, List, [], ◌++◌, Result, codes, if◌then◌else◌}
+use Rattle.std.specs.declared.result.Result.TheVariants.{Ok, Err}
+use Rattle.bag_facts.specs.FaultLine.{fault_line, field}
+use Rattle.bag_facts.specs.declared.fault.Fault.{Fault}
+use Rattle.bag_tree.specs.Tree.{cause_word}
+use Rattle.bag_tree.specs.declared.tree_fault.TreeFault.{TreeFault}
+use Rattle.bag_renew_cli.specs.declared.fault.RenewFault.{RenewFault}
+use Rattle.bag_renew_cli.specs.declared.fault.RenewFault.TheVariants as why
+
+-- what is said of a path
+abbrev pub about_path : List ℕ → List ℕ → List ℕ
+about_path path said = field path ++ said
+
+-- what was refused of a file, none where it is the listing, and the cause
+abbrev pub refusal : List ℕ → List ℕ → TreeFault → List ℕ
+refusal what path cause = what ++ (codes " " ++ (field path ++ (codes " " ++ cause_word cause)))
+
+-- the bag has this fault
+abbrev pub faulty : Fault → List ℕ
+faulty fault = codes "fault " ++ fault_line fault
+
+-- why a bag wasn't renewed
+abbrev pub reason : RenewFault → List ℕ
+reason (why.Faulty fault) = faulty fault
+reason why.BadValue = codes "bad value"
+reason why.NoAlgorithm = codes "no algorithm"
+reason (why.InTheWay path) = about_path path (codes " in the way")
+reason (why.Unnameable path) = about_path path (codes " can't be named")
+reason why.Version = codes "version 0.97"
+reason why.Fetch = codes "fetch.txt"
+reason (why.ReadStopped stop) = refusal (codes "read") stop.path stop.cause
+reason why.Memory = codes "out of memory"
+reason (why.PutRefused file cause) = refusal (codes "put") file cause
+reason (why.RemoveRefused file cause) = refusal (codes "remove") file cause
+
+-- the bag of this name was renewed
+abbrev pub renewed_line : List ℕ → List ℕ
+renewed_line name = field name ++ codes " renewed\n"
+
+-- the bag of this name wasn't renewed, for this reason
+abbrev pub not_renewed_line : List ℕ → List ℕ → List ℕ
+not_renewed_line name reason = field name ++ (codes " not renewed: " ++ (reason ++ codes "\n"))
+
+-- the line with its end; of a quiet renewal nothing where the bag was renewed
+abbrev pub line : List ℕ → Result (Unit {0}) RenewFault → Bool → List ℕ
+line name (Ok _) quiet = if quiet then [] else renewed_line name
+line name (Err fault) quiet = not_renewed_line name (reason fault)
+
+-- the exit status
+abbrev pub renewal_status : Result (Unit {0}) RenewFault → ℕ
+renewal_status (Ok _) = 0
+renewal_status (Err (why.Faulty fault)) = 1
+renewal_status (Err fault) = 3

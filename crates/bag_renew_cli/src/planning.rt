@@ -1,0 +1,162 @@
+//! The plan of a renewal's words.
+ghost use Rattle.std.specs.Prelude.{◌≡◌, IfErr, IfOk, MatchResult, Some, None, true};
+ghost use Rattle.clap.specs.Words.{FailsBy, kind_of};
+ghost use Rattle.bag_arguments.specs.GivenRows.{rows_in};
+ghost use Rattle.bag_arguments.specs.Words.{texts_of_words};
+ghost use Rattle.bag_renew_cli.specs.Given as asked;
+ghost use Rattle.bag_renew_cli.specs.Plan as spec;
+ghost use Rattle.bag_renew_cli.specs.Words.{clap_takes, matches_of_words, refusals};
+
+use crate::command::command;
+use crate::{ElementOption, ListOption, RenewAction, RenewPlan, RenewRequest, RenewUsage, given};
+use bag_arguments::declining::{Declined, answer_of};
+use bag_arguments::matched::{is_given, value, values};
+use bag_text::{Alg, AlgSet, Items};
+use clap::error::ErrorKind;
+use clap::{ArgMatches, Error};
+use std::alloc::Global;
+
+/// The plan of a renewal's words, without the program's name.
+pub fn renewal_of(alloc: Global, words: &[&str]) -> Result<RenewPlan, RenewUsage>
+    ensures planned { spec.IsPlanned (texts_of_words words.now) result }
+    ensures taken { clap_takes (texts_of_words words.now) ≡ true → spec.IsNotRefused result }
+{
+    match parse(alloc, words) {
+        Ok(matches) => plan_of_matches(alloc, &matches),
+        Err(error) => decline(alloc, error),
+    }
+}
+
+/// What clap makes of the words.
+fn parse<'a>(alloc: Global, words: &'a [&'a str]) -> Result<ArgMatches<'a>, Error>
+    ensures matches { IfOk result (λ m.
+        rows_in m ≡ matches_of_words (texts_of_words words.entry.now)) }
+    ensures refusals { FailsBy (refusals (texts_of_words words.entry.now)) result }
+    ensures taken { IfErr result (λ e.
+        clap_takes (texts_of_words words.entry.now) ≡ true → kind_of e ≡ ErrorKind.OutOfMemory) }
+{
+    command(alloc)?.try_get_matches_from(words)
+}
+
+/// The answer where clap gives no matches: its help, or its refusal.
+fn decline(alloc: Global, error: Error) -> Result<RenewPlan, RenewUsage>
+    ensures declines { spec.Declines (kind_of error) result }
+    ensures memory { kind_of error ≡ ErrorKind.OutOfMemory → result ≡ Err RenewUsage.Memory }
+{
+    match answer_of(alloc, error) {
+        Declined::Help(text) => Ok(plan_without_words(alloc, RenewAction::Help(text))),
+        Declined::Refused(text) => Err(RenewUsage::Refused(text)),
+        Declined::Memory => Err(RenewUsage::Memory),
+    }
+}
+
+/// A plan that does nothing with bags.
+fn plan_without_words(alloc: Global, action: RenewAction) -> RenewPlan
+    ensures { result ≡ spec.plan_without_words action }
+{
+    RenewPlan {
+        action,
+        directories: Items::new(alloc),
+        request: RenewRequest {
+            added: AlgSet::empty(),
+            dropped: AlgSet::empty(),
+            unset: Items::new(alloc),
+            set: Items::new(alloc),
+            append: Items::new(alloc),
+            to_1_0: false,
+        },
+        quiet: false,
+    }
+}
+
+/// The plan of what is given, or the first thing that is wrong with it.
+fn plan_of_matches(alloc: Global, matches: &ArgMatches<'_>) -> Result<RenewPlan, RenewUsage>
+    ensures { spec.Plans (rows_in matches.now) result }
+{
+    refuse_print(matches)?;
+    refuse_elements(matches)?;
+    let request = request(alloc, matches)?;
+    Ok(RenewPlan {
+        action: action(matches),
+        directories: values(alloc, matches, "directory")?,
+        request,
+        quiet: is_given(matches, "quiet"),
+    })
+}
+
+/// What is done.
+fn action(matches: &ArgMatches<'_>) -> RenewAction
+    ensures { result ≡ spec.action_of (asked.printed (rows_in matches.now))
+        (asked.is_dry (rows_in matches.now)) }
+{
+    match given::printed(matches) {
+        Some(alg) => RenewAction::Print(alg),
+        None => {
+            if is_given(matches, "dry-run") {
+                RenewAction::DryRun
+            } else {
+                RenewAction::Renew
+            }
+        }
+    }
+}
+
+/// Refuses the first thing that is wrong where a manifest is printed.
+fn refuse_print(matches: &ArgMatches<'_>) -> Result<(), RenewUsage>
+    ensures { MatchResult result (λ _. spec.print_misuse (rows_in matches.now) ≡ None)
+        (λ usage. spec.print_misuse (rows_in matches.now) ≡ Some usage) }
+{
+    let Some(name) = value(matches, "print") else {
+        return Ok(());
+    };
+    if given::has_others(matches) {
+        return Err(RenewUsage::PrintWithOthers);
+    }
+    if given::has_several(matches) {
+        return Err(RenewUsage::PrintSeveral);
+    }
+    match Alg::from_name(name) {
+        Some(_) => Ok(()),
+        None => Err(RenewUsage::NotAnAlgorithm),
+    }
+}
+
+/// Refuses the first option whose value writes no element.
+fn refuse_elements(matches: &ArgMatches<'_>) -> Result<(), RenewUsage>
+    ensures { MatchResult result (λ _. spec.elements_misuse (rows_in matches.now) ≡ None)
+        (λ usage. spec.elements_misuse (rows_in matches.now) ≡ Some usage) }
+{
+    if !given::are_elements(matches, "set") {
+        return Err(RenewUsage::NotAnElement(ElementOption::Set));
+    }
+    if !given::are_elements(matches, "append") {
+        return Err(RenewUsage::NotAnElement(ElementOption::Append));
+    }
+    Ok(())
+}
+
+/// What is asked of a bag, or the first option whose value is no list of algorithms.
+fn request(alloc: Global, matches: &ArgMatches<'_>) -> Result<RenewRequest, RenewUsage>
+    ensures { spec.GivesRequest (rows_in matches.now) result }
+{
+    let added = algs(matches, ListOption::Add)?;
+    let dropped = algs(matches, ListOption::Drop)?;
+    Ok(RenewRequest {
+        added,
+        dropped,
+        unset: values(alloc, matches, "unset")?,
+        set: given::elements(alloc, matches, "set")?,
+        append: given::elements(alloc, matches, "append")?,
+        to_1_0: is_given(matches, "to-1.0"),
+    })
+}
+
+/// The algorithms that an option lists.
+fn algs(matches: &ArgMatches<'_>, option: ListOption) -> Result<AlgSet, RenewUsage>
+    ensures { spec.GivesAlgs (rows_in matches.now) option result }
+{
+    match given::algs(matches, option.name()) {
+        Some(set) => Ok(set),
+        None => Err(RenewUsage::NotAlgorithms(option)),
+    }
+}

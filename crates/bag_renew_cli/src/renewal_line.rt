@@ -1,0 +1,119 @@
+//! The line that says how renewing a bag went. Writing it takes no memory.
+ghost use Rattle.std.specs.Prelude.{◌≡◌};
+ghost use Rattle.bag_renew_cli.specs.RenewalLine as spec;
+ghost use Rattle.bag_walk.specs.Pieces.{Writes};
+
+use crate::RenewFault;
+use crate::fault_line::put_fault;
+use crate::said::{
+    CANT_BE_NAMED, FAULT, FETCH, IN_THE_WAY, NOT_RENEWED, PUT, READ, REMOVE, RENEWED, VERSION,
+};
+use bag_facts::Fault;
+use bag_text::said::{BAD_VALUE, NO_ALGORITHM, OUT_OF_MEMORY};
+use bag_tree::{Out, Refused, TreeFault};
+use bag_walk::put_line;
+
+/// Hands the line about a bag of this name to the output, or nothing where the bag was renewed and
+/// the renewal is quiet. The name and paths are written as fields of a line.
+pub fn put_renewal<W: Out>(
+    name: &str,
+    renewed: &Result<(), RenewFault>,
+    quiet: bool,
+    out: &mut W,
+) -> Result<(), Refused>
+    ensures { Writes (W.state out.old) (W.state out.new)
+        (spec.line name.now renewed.now quiet) result }
+{
+    match renewed {
+        Ok(()) => {
+            if quiet {
+                Ok(())
+            } else {
+                put_line(name, &[RENEWED, "\n"], out)
+            }
+        }
+        Err(fault) => put_not_renewed(name, fault, out),
+    }
+}
+
+/// The exit status: 1 where the bag has a fault, and 3 where it wasn't renewed for another reason.
+pub fn renewal_status(renewed: &Result<(), RenewFault>) -> u8
+    ensures { result ≡ spec.renewal_status renewed.now }
+{
+    match renewed {
+        Ok(()) => 0,
+        Err(RenewFault::Faulty(_)) => 1,
+        Err(_) => 3,
+    }
+}
+
+fn put_not_renewed<W: Out>(name: &str, fault: &RenewFault, out: &mut W) -> Result<(), Refused>
+    ensures { Writes (W.state out.old) (W.state out.new)
+        (spec.not_renewed_line name.now (spec.reason fault.now)) result }
+{
+    match fault {
+        RenewFault::Faulty(fault) => put_faulty(name, fault, out),
+        RenewFault::BadValue => put_reason(name, BAD_VALUE, out),
+        RenewFault::NoAlgorithm => put_reason(name, NO_ALGORITHM, out),
+        RenewFault::InTheWay(path) => put_path(name, path.as_str(), IN_THE_WAY, out),
+        RenewFault::Unnameable(path) => put_path(name, path.as_str(), CANT_BE_NAMED, out),
+        RenewFault::Version => put_reason(name, VERSION, out),
+        RenewFault::Fetch => put_reason(name, FETCH, out),
+        RenewFault::ReadStopped(stop) => put_refusal(
+            name,
+            READ,
+            stop.path.as_str(),
+            stop.cause,
+            out,
+        ),
+        RenewFault::Memory => put_reason(name, OUT_OF_MEMORY, out),
+        RenewFault::PutRefused(file, cause) => put_refusal(name, PUT, file.as_str(), *cause, out),
+        RenewFault::RemoveRefused(file, cause) => put_refusal(
+            name,
+            REMOVE,
+            file.as_str(),
+            *cause,
+            out,
+        ),
+    }
+}
+
+fn put_reason<W: Out>(name: &str, reason: &str, out: &mut W) -> Result<(), Refused>
+    ensures { Writes (W.state out.old) (W.state out.new)
+        (spec.not_renewed_line name.now reason.now) result }
+{
+    put_line(name, &[NOT_RENEWED, reason, "\n"], out)
+}
+
+/// The line with a path, and what is said of it.
+fn put_path<W: Out>(name: &str, path: &str, said: &str, out: &mut W) -> Result<(), Refused>
+    ensures { Writes (W.state out.old) (W.state out.new)
+        (spec.not_renewed_line name.now (spec.about_path path.now said.now)) result }
+{
+    put_line(name, &[NOT_RENEWED], out)?;
+    put_line(path, &[said, "\n"], out)
+}
+
+/// The line with what was refused of a file, and the cause.
+fn put_refusal<W: Out>(
+    name: &str,
+    what: &str,
+    path: &str,
+    cause: TreeFault,
+    out: &mut W,
+) -> Result<(), Refused>
+    ensures { Writes (W.state out.old) (W.state out.new)
+        (spec.not_renewed_line name.now (spec.refusal what.now path.now cause)) result }
+{
+    put_line(name, &[NOT_RENEWED, what, " "], out)?;
+    put_line(path, &[" ", cause.word(), "\n"], out)
+}
+
+/// The line with a fault's line.
+fn put_faulty<W: Out>(name: &str, fault: &Fault, out: &mut W) -> Result<(), Refused>
+    ensures { Writes (W.state out.old) (W.state out.new)
+        (spec.not_renewed_line name.now (spec.faulty fault.now)) result }
+{
+    put_line(name, &[NOT_RENEWED, FAULT], out)?;
+    put_fault(fault, out)
+}

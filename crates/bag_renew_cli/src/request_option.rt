@@ -1,0 +1,79 @@
+//! The options of which a refusal speaks.
+ghost use Rattle.std.specs.Prelude.{◌≡◌, Some};
+ghost use Rattle.bag_renew_cli.specs.Options as spec;
+
+use std::fmt;
+
+/// An option that takes a list of algorithms.
+#[derive(Clone, Copy, Debug, PartialEq, Eq)]
+pub enum ListOption {
+    Add,
+    Drop,
+}
+
+impl ListOption {
+    /// Its name, without the hyphens.
+    pub fn name(self) -> &'static str
+        ensures { result.now ≡ spec.list_name self }
+    {
+        match self {
+            ListOption::Add => "add",
+            ListOption::Drop => "drop",
+        }
+    }
+
+    /// As it is written.
+    fn written(self) -> &'static str
+        ensures { result.now ≡ spec.written (spec.list_name self) }
+    {
+        match self {
+            ListOption::Add => "--add",
+            ListOption::Drop => "--drop",
+        }
+    }
+}
+
+impl fmt::Display for ListOption {
+    ghost output = { λ option. Some (spec.written (spec.list_name option)) };
+
+    fn fmt<W: fmt::Write>(&self, f: &mut fmt::Formatter<W>) -> fmt::Result {
+        f.write_str(self.written())
+    }
+}
+
+/// An option that takes an element of `bag-info.txt`.
+#[derive(Clone, Copy, Debug, PartialEq, Eq)]
+pub enum ElementOption {
+    Set,
+    Append,
+}
+
+impl ElementOption {
+    /// Its name, without the hyphens.
+    pub fn name(self) -> &'static str
+        ensures { result.now ≡ spec.element_name self }
+    {
+        match self {
+            ElementOption::Set => "set",
+            ElementOption::Append => "append",
+        }
+    }
+
+    /// As it is written.
+    fn written(self) -> &'static str
+        ensures { result.now ≡ spec.written (spec.element_name self) }
+    {
+        match self {
+            ElementOption::Set => "--set",
+            ElementOption::Append => "--append",
+        }
+    }
+}
+
+impl fmt::Display for ElementOption {
+    ghost output = { λ option. Some (spec.written (spec.element_name option)) };
+
+    fn fmt<W: fmt::Write>(&self, f: &mut fmt::Formatter<W>) -> fmt::Result {
+        f.write_str(self.written())
+    }
+}
