@@ -112,8 +112,8 @@ def go_on_killed(draw, parts, options):
             raise Wrong(f"parts {again} are checked again, after {done} were done")
         if REPORT.exists():
             is_same = REPORT.read_text() == wanted(*options)[0]
-            if not is_same:
-                raise Wrong("killed, it leaves another report")
+            if not is_same or (PARTS / "asked").exists():
+                raise Wrong("killed, it leaves another report, or parts with it that a later check would take")
             REPORT.unlink()
             shutil.rmtree(PARTS, ignore_errors=True)
     is_joined(check(*words), f"{words}, killed", *options)
@@ -388,6 +388,43 @@ def see_failures():
     shutil.rmtree(PARTS)
 
 
+def kill_at_end(when):
+    """Has the parts joined by a check that is killed before its report has its name, or after."""
+    program = (
+        "import os, pathlib, runpy, sys",
+        "when, *sys.argv = sys.argv[1:]",
+        "rename = pathlib.Path.rename",
+        "def kill(path, at): path.name == 'whole' and at == when and os.kill(os.getpid(), 9)",
+        "def killed(path, to): kill(path, 'before'); rename(path, to); kill(path, 'after')",
+        "pathlib.Path.rename = killed",
+        "runpy.run_path(sys.argv[0], run_name='__main__')",
+    )
+    words = [sys.executable, "-B", "-c", "\n".join(program), when, LARGE, "--jobs", "2", "--parts", "3", "d", "report"]
+    ended = subprocess.run(words, capture_output=True, text=True, check=False)
+    if ended.returncode != -signal.SIGKILL or not (PARTS / "3.done").exists() or REPORT.exists() != (when == "after"):
+        raise Wrong(f"killed {when} its report has its name, it ends with {ended}")
+    COUNTS["killed"] += 1
+
+
+def see_left():
+    """Parts are joined once: those whose report was written are no later check's."""
+    faulty_bag()
+    kill_at_end("before")
+    is_joined(check("--join"), "killed before its report had its name")
+    kill_at_end("after")
+    printed, said, status = check("--jobs", "2")
+    if status != 2 or printed or REPORT.read_text() != wanted()[0] or PARTS.exists():
+        raise Wrong(f"parts that are left beside their report: it ends with {status}: {said}")
+    REPORT.unlink()
+    kill_at_end("after")
+    REPORT.unlink()
+    left = "report.parts is left of a check whose report was written; remove it to begin anew"
+    for words in (("--jobs", "2"), ("--join",), ("--task", "1/3")):
+        printed, said, status = check(*words)
+        is_refused((printed, said.replace(": part 1 of 3", ""), status), words, left, 2)
+    shutil.rmtree(PARTS)
+
+
 def see_unprinted():
     """The closing line can't be printed: the report is there, and nothing that a later check would go on with."""
     good_bag()
@@ -426,7 +463,7 @@ def main(program, large, bags):
             try_bag(seed)
         for see in (see_altered, see_other_counts, see_exchanged, see_files, see_journals, see_others):
             see()
-        for see in (see_failures, see_unprinted, see_progress):
+        for see in (see_failures, see_left, see_unprinted, see_progress):
             see()
     except Wrong as wrong:
         sys.exit(f"{wrong}")

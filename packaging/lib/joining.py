@@ -36,7 +36,8 @@ class Join(Bag):
         self.parts, self.whole = parts, pathlib.Path(parts.path, "whole")
 
     def faults(self):
-        """The faults of all parts; at their end it is refused if they aren't of one bag, or it isn't the same still."""
+        """The faults of all parts; at their end it is refused if they aren't of one bag, or it isn't the same still.
+        Then the parts are set aside."""
         others = []
         for number in range(1, self.parts.of + 1):
             for line in self.parts.faults_of(number):
@@ -48,6 +49,7 @@ class Join(Bag):
                 anew = f"remove {encoded(self.parts.path)} to begin anew"
                 raise Refusal(f"{seen}: {encoded(self.directory)} was altered in between; {anew}")
         self.persist(lambda: self.look(others))
+        self.parts.set_aside()
 
     def join(self):
         missing = self.parts.missing()
@@ -83,6 +85,7 @@ class Join(Bag):
 
     def clean_up(self):
         """What was found is left for the next time, if it is anything."""
+        self.parts.take_back()
         for file in self.piece, self.whole:
             file.unlink(missing_ok=True)
         if self.is_closed or not self.parts.is_kept():

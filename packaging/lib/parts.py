@@ -1,5 +1,6 @@
 """A check in parts: each part a check in pieces of its own, kept in the folder REPORT.parts until all are joined."""
 import collections
+import contextlib
 import hashlib
 import json
 import os
@@ -55,9 +56,15 @@ def profile_digests(options):
 # ------------------------------------------------------------ the folder
 
 
+def is_left(folder):
+    """Whether it has the parts of a report that was written, by a check that was killed just then."""
+    asked, joined, whole = (os.path.lexists(os.path.join(folder, name)) for name in ("asked", "joined", "whole"))
+    return joined and not asked and not whole and not os.path.islink(folder)
+
+
 class Parts:
-    """The folder REPORT.parts. `asked` says what all parts check, and since when: K.part is what was found so far of
-    part K, K.done of one that is done, and K.now how far it is."""
+    """The folder REPORT.parts. `asked` says what all parts check, and since when; its name is `joined` once they are
+    set aside. K.part is what was found so far of part K, K.done of one that is done, and K.now how far it is."""
 
     last = ""
 
@@ -97,9 +104,11 @@ class Parts:
 
     def read_head(self, is_alone):
         """What is asked. Its lock keeps away a second one that has parts checked or joins them."""
+        self.take_back()
         path = os.path.join(self.path, "asked")
         if os.path.islink(self.path) or not os.path.lexists(path):
-            raise Refusal(f"{encoded(self.path)} is of another check; remove it to begin anew", 2)
+            was = "left of a check whose report was written" if is_left(self.path) else "of another check"
+            raise Refusal(f"{encoded(self.path)} is {was}; remove it to begin anew", 2)
         if not is_alone:
             return pathlib.Path(path).read_bytes()
         self.lock = locked(path, self.asked.report, 0)
@@ -165,9 +174,19 @@ class Parts:
     def is_kept(self):
         return any(re.fullmatch(r"[0-9]+\.(part|done)", name) for name in os.listdir(self.path))
 
+    def set_aside(self):
+        """Before their report has its name: if this check is killed then, no later one goes on with what it leaves."""
+        os.rename(os.path.join(self.path, "asked"), os.path.join(self.path, "joined"))
+
+    def take_back(self):
+        """Parts that were set aside, if their report, which is in `whole` until then, has no name."""
+        if os.path.lexists(os.path.join(self.path, "whole")):
+            with contextlib.suppress(FileNotFoundError):
+                os.rename(os.path.join(self.path, "joined"), os.path.join(self.path, "asked"))
+
     def remove(self):
         """Removes the folder; without `asked`, no later check goes on with what may be left of it."""
-        os.unlink(os.path.join(self.path, "asked"))
+        pathlib.Path(self.path, "asked").unlink(missing_ok=True)
         shutil.rmtree(self.path, ignore_errors=True)
 
     def tell(self, number, *told):

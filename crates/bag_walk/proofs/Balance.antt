@@ -4,12 +4,12 @@ use Rattle.bag_walk.proofs.Common.{true, false, not, List, [], Contains, refl, s
 use Rattle.bag_walk.proofs.Common.{cases_lt, is_lt, Ordering, Less, Equal, Greater, text_cmp, nat_list_cmp_total}
 use Rattle.bag_walk.proofs.Common.{sum_by-cons, member_has, contains_cases, contains_first, contains_behind}
 use Rattle.bag_walk.proofs.Common.{mapped_contains, FileEntry, paths_of, not_both, not_less_than_itself, true≢false}
-use Rattle.std.specs.Prelude.{◌%◌}
+use Rattle.std.specs.Prelude.{◌/◌, ◌%◌}
 use Rattle.std.specs.List.Sorted.{IsStrictlySortedBy}
 use Rattle.std.proofs.Math.Numerals.{add-one}
 use Rattle.std.proofs.Math.Nat.{div-add-mod, mod-lt}
 use Rattle.bag_walk.proofs.Parts.{begins_at, begins_within, ends_or_is, ends_past, passes_over, sorted_behind}
-use Rattle.bag_walk.specs.Parts.{PartsAreEven, begin_of, capped, first_after}
+use Rattle.bag_walk.specs.Parts.{PartsAreEven, begin_of, first_after}
 use Rattle.bag_walk.specs.Parts.{is_file_before, share, weight, weight_of}
 use Rattle.bag_walk.specs.declared.part.Bound.{Bound}
 use Rattle.bag_walk.specs.declared.part.Bound.TheVariants.{File, End}
@@ -95,36 +95,35 @@ module _ (most : ℕ) where
       → cost (before (first_after high gone files)) files ≡ 0
   none_until high gone [] s le = refl
   none_until high gone (file ∷ files) s le =
-      subst (λ bound. cost (before bound) (file ∷ files) ≡ 0) (sym (begins_at high gone file files le))
+      subst (λ bound. cost (before bound) (file ∷ files) ≡ 0)
+      (sym (begins_at high gone file files (omega (arith, le))))
       (cost_none (before (File file.path)) (file ∷ files) (none_before file files s))
 
-  -- what stands before the first file before which so much has come
-  some_until : (high gone : ℕ) (files : List FileEntry) → Ascend files → Light files → gone < high
-      → cost (before (first_after high gone files)) files ≤ (high - gone) + most
-  some_until high gone [] s light lt = omega arith
-  some_until high gone (file ∷ files) s light lt =
-      let next : ℕ = gone + weight file in
-      let bound : Bound = first_after high next files in
-      let first : before bound file ≡ true = first_before file files bound s (ends_or_is high next files) in
-      let small : weight file ≤ most = light file (contains_first file files) in
-      let costs : cost (before bound) (file ∷ files) ≡ weight file + cost (before bound) files =
-      cost_in (before bound) file files first in
-      subst (λ to. cost (before to) (file ∷ files) ≤ (high - gone) + most) (sym (passes_over high gone file files lt))
-      (elim (cases_lt next high) [
-        | inl more ↦ omega (
-          arith,
-          costs,
-          some_until high next files (sorted_behind file files s) (light_behind file files light) more,
-          small,
-        )
-        | inr all ↦ omega (arith, costs, none_until high next files (sorted_behind file files s) all, small, lt)
-      ])
-
+  -- what stands before the first file by whose middle so much has come
   until : (high gone : ℕ) (files : List FileEntry) → Ascend files → Light files
-      → cost (before (first_after high gone files)) files ≤ (high - gone) + most
-  until high gone files s light = elim (cases_lt gone high) [
-    | inl lt ↦ some_until high gone files s light lt
-    | inr le ↦ omega (arith, none_until high gone files s le)
+      → cost (before (first_after high gone files)) files ≤ (high - gone) + (most - most / 2)
+  until high gone [] s light = omega arith
+  until high gone (file ∷ files) s light = elim (cases_lt (gone + weight file / 2) high) [
+    | inl few ↦ (let next : ℕ = gone + weight file in
+        let bound : Bound = first_after high next files in
+        let first : before bound file ≡ true = first_before file files bound s (ends_or_is high next files) in
+        let small : weight file ≤ most = light file (contains_first file files) in
+        let costs : cost (before bound) (file ∷ files) ≡ weight file + cost (before bound) files =
+        cost_in (before bound) file files first in
+        subst (λ to. cost (before to) (file ∷ files) ≤ (high - gone) + (most - most / 2))
+        (sym (passes_over high gone file files few))
+        (elim (cases_lt next high) [
+          | inl more ↦ omega (
+            arith,
+            costs,
+            until high next files (sorted_behind file files s) (light_behind file files light),
+            more,
+          )
+          | inr all ↦ omega (arith, costs, none_until high next files (sorted_behind file files s) all, small, few)
+        ]))
+    | inr enough ↦ subst (λ bound. cost (before bound) (file ∷ files) ≤ (high - gone) + (most - most / 2))
+        (sym (begins_at high gone file files enough))
+        (omega (arith, cost_none (before (File file.path)) (file ∷ files) (none_before file files s)))
   ]
 
   abbrev between : Bound → Bound → FileEntry → Bool
@@ -134,7 +133,7 @@ module _ (most : ℕ) where
   within : (low high gone : ℕ) (files : List FileEntry) → Ascend files → Light files → low ≤ high
       → cost (between (first_after low gone files) (first_after high gone files)) files ≤ (high - low) + most
   within low high gone [] s light le = omega arith
-  within low high gone (file ∷ files) s light le = elim (cases_lt gone low) [
+  within low high gone (file ∷ files) s light le = elim (cases_lt (gone + weight file / 2) low) [
     | inl few ↦ (let next : ℕ = gone + weight file in
         let from : Bound = first_after low next files in
         let to : Bound = first_after high next files in
@@ -153,12 +152,13 @@ module _ (most : ℕ) where
           within low high next files (sorted_behind file files s) (light_behind file files light) le,
         ))))
     | inr enough ↦ (let to : Bound = first_after high gone (file ∷ files) in
+        let small : weight file ≤ most = light file (contains_first file files) in
         let same : cost (between (File file.path) to) (file ∷ files) ≡ cost (before to) (file ∷ files) =
         cost_same (between (File file.path) to) (before to) (file ∷ files) (λ other c.
         ap (λ b. not b && before to other) (none_before file files s other c)) in
         subst (λ b. cost (between b to) (file ∷ files) ≤ (high - low) + most)
         (sym (begins_at low gone file files enough))
-        (omega (arith, same, until high gone (file ∷ files) s light, enough)))
+        (omega (arith, same, until high gone (file ∷ files) s light, enough, small)))
   ]
 
 -- ---- a part
@@ -187,13 +187,9 @@ record EndsAt (files : List FileEntry) (parts k : ℕ) : Type 0 where
   near : high ≤ share files parts * k + share files parts + parts
   is : begin_of files parts (suc k) ≡ first_after high 0 files
 
-module _ (files : List FileEntry) (parts k : ℕ) (within_parts : k < parts)
-    (small : weight_of files ≤ 18446744073709551615) where
-  total_is : capped (weight_of files) ≡ weight_of files
-  total_is = omega (arith, small)
-
+module _ (files : List FileEntry) (parts k : ℕ) (within_parts : k < parts) where
   whole : parts * share files parts + weight_of files % parts ≡ weight_of files
-  whole = rw total_is (div-add-mod (weight_of files) parts)
+  whole = div-add-mod (weight_of files) parts
 
   ends_at : EndsAt files parts k
   ends_at = elim (cases_lt (suc k) parts) [
@@ -231,10 +227,10 @@ part_costs files parts (suc k) most s light ends lt =
     ))
 
 pub parts_are_even : PartsAreEven
-parts_are_even files part most ordered lt small light =
+parts_are_even files part most ordered lt light =
     subst
     (λ n. cost (between most (begin_of files part.of part.number) (begin_of files part.of n)) files
     ≤ share files part.of + part.of + most)
     (sym (add-one part.number))
     (part_costs files part.of part.number most ordered.ascending light
-    (ends_at files part.of part.number lt small) lt)
+    (ends_at files part.of part.number lt) lt)

@@ -1,7 +1,7 @@
 -- The parts of a report, each of which one process can write: which faults and which files are of
 -- each, and where it begins.
 use Rattle.std.specs.Prelude.{ℕ, zero, suc, ◌+◌, ◌*◌, ◌/◌, ◌<◌, ◌≤◌, ◌≡◌, ◌&&◌, ◌||◌, ◌==◌, Bool}
-use Rattle.std.specs.Prelude.{true, false, not, List, [], ◌∷◌, ◌++◌, filter, min, length, Contains}
+use Rattle.std.specs.Prelude.{true, false, not, List, [], ◌∷◌, ◌++◌, filter, length, Contains}
 use Rattle.std.specs.Prelude.{nat_le, nat_lt, if◌then◌else◌}
 use Rattle.std.specs.List.{sum_by}
 use Rattle.std.specs.List.Sorted.{IsStrictlySortedBy}
@@ -78,24 +78,20 @@ weight file = file.size + 65536
 abbrev pub weight_of : List FileEntry → ℕ
 weight_of files = sum_by weight files
 
--- a number, or the greatest of 64 bits where it is greater
-abbrev pub capped : ℕ → ℕ
-capped n = min n 18446744073709551615
-
 -- the share of one of so many parts
 abbrev pub share : List FileEntry → ℕ → ℕ
-share files parts = capped (weight_of files) / parts
+share files parts = weight_of files / parts
 
--- the first of these files before which this much has come, where so much has come before all
+-- the first of these files by whose middle this much has come, where so much has come before all
 abbrev pub first_after : ℕ → ℕ → List FileEntry → Bound
 first_after least before [] = End
 first_after least before (file ∷ files) =
-    if nat_le least before then File file.path
+    if nat_le least (before + weight file / 2) then File file.path
     else first_after least (before + weight file) files
 
 -- Where the part with this number begins, of so many: the first at the start, and each other at the
--- first file before which as many shares have come as there are parts before it. Past the last part
--- is the end.
+-- first file by whose middle as many shares have come as there are parts before it. Past the last
+-- part is the end.
 abbrev pub begin_of : List FileEntry → ℕ → ℕ → Bound
 begin_of files parts zero = Start
 begin_of files parts (suc k) =
@@ -148,11 +144,10 @@ files_of_part files part = files_within (bounds_of files part) files
 abbrev pub listed_of : List FileEntry → Listed
 listed_of files = record { files = length files; bytes = sum_by (λ entry. entry.size) files }
 
--- The law of balance: where the numbers of 64 bits suffice, a part costs a share at the most, and
--- what is left over of all shares, and its last file.
+-- The law of balance: a part costs a share at the most, and what is left over of all shares, and as
+-- much as the file that costs most.
 abbrev pub PartsAreEven : Type 0
 PartsAreEven =
     (files : List FileEntry) (part : Part) (most : ℕ) → IsOrdered files → part.number < part.of
-    → weight_of files ≤ 18446744073709551615
     → ((entry : FileEntry) → Contains files entry → weight entry ≤ most)
     → weight_of (files_of_part files part) ≤ share files part.of + part.of + most

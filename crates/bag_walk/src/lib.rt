@@ -53,7 +53,7 @@ pub use outcome::{Outcome, Request, status};
 pub use part::Listed;
 pub use part_run::{PartOutcome, run_part};
 pub use runner::run;
-pub use segment::put_pieces;
+pub use segment::{put_all, put_pieces};
 pub use segments::run_segments;
 pub use source::{InOrder, Quiet, Source};
 pub use steps::{Sources, Steps, Walk};

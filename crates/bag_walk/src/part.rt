@@ -1,5 +1,5 @@
 //! Where the parts of a report begin and end, and of what files they are cut.
-ghost use Rattle.std.specs.Prelude.{◌≡◌, ◌<◌, ◌≤◌, IfOk};
+ghost use Rattle.std.specs.Prelude.{◌≡◌, ◌<◌, ◌^◌, IfOk};
 ghost use Rattle.bag_walk.specs.Parts as spec;
 
 use bag_facts::Part;
@@ -8,7 +8,7 @@ use bag_tree::FileEntry;
 use std::alloc::{AllocError, Global};
 
 /// What opening a file costs, in bytes: as many as one read takes.
-const OPENING_BYTES: u64 = 65_536;
+const OPENING_BYTES: u128 = 65_536;
 
 /// Where a part of a report begins or ends.
 #[derive(Drop)]
@@ -123,39 +123,41 @@ fn begin_of(
     if number >= parts {
         return Ok(Bound::End);
     }
-    first_after(alloc, files, weight_of(files) / parts * number)
+    let share = weight_of(files) / u128::from(parts);
+    first_after(alloc, files, share * u128::from(number))
 }
 
-/// The first file before which this much has come.
-fn first_after(alloc: Global, files: &[FileEntry], least: u64) -> Result<Bound, AllocError>
+/// The first file by whose middle this much has come.
+fn first_after(alloc: Global, files: &[FileEntry], least: u128) -> Result<Bound, AllocError>
     ensures { IfOk result (λ bound. bound ≡ spec.first_after least 0 files.now) }
 {
-    let mut before: u64 = 0;
+    let mut before: u128 = 0;
     for file in files {
-        if before >= least {
+        if before + weight(file) / 2 >= least {
             return Ok(Bound::File(file.path.copy(alloc)?));
         }
-        before = before.saturating_add(weight(file));
+        before += weight(file);
     }
     Ok(Bound::End)
 }
 
-/// What files cost together, or the greatest number where that is greater.
-fn weight_of(files: &[FileEntry]) -> u64
-    ensures { result ≡ spec.capped (spec.weight_of files.now) }
+/// What files cost together.
+fn weight_of(files: &[FileEntry]) -> u128
+    ensures { result ≡ spec.weight_of files.now }
 {
-    let mut weight_of: u64 = 0;
+    let mut weight_of: u128 = 0;
     for file in files {
-        weight_of = weight_of.saturating_add(weight(file));
+        weight_of += weight(file);
     }
     weight_of
 }
 
 /// What a file costs: its bytes, and as many as one read takes.
-fn weight(file: &FileEntry) -> u64
-    ensures { result ≡ spec.capped (spec.weight file.now) }
+fn weight(file: &FileEntry) -> u128
+    ensures weight { result ≡ spec.weight file.now }
+    ensures small { result < 2 ^ 65 }
 {
-    file.size.saturating_add(OPENING_BYTES)
+    u128::from(file.size) + OPENING_BYTES
 }
 
 /// Of what files the parts of a report were cut. Parts for which they differ aren't parts of one

@@ -215,7 +215,7 @@ pub(crate) fn close<W: Out>(request: &Request, ending: Outcome, out: &mut W) -> 
 }
 
 /// Hands all bytes to the output, in one write where it takes them whole.
-pub(crate) fn put_all<W: Out>(out: &mut W, bytes: &[u8]) -> Result<(), Refused>
+pub fn put_all<W: Out>(out: &mut W, bytes: &[u8]) -> Result<(), Refused>
     ensures { Writes (W.state out.old) (W.state out.new) bytes.now result }
 {
     let mut rest = bytes;

@@ -7,5 +7,5 @@ loop-file-preserved c =
     grind (
       arith,
       one_weighed c.args.files.now c.loop-file.file-index c.file-item.result c.loop-file.weight_of
-          c.loop-file-test.true c.file-item.is c.loop-file.invariant,
+          c.loop-file-test.true c.file-item.is c.loop-file.invariant.0,
     )
