@@ -27,8 +27,10 @@ pub mod Placed
 pub mod PowerCut
 pub mod PutFiles
 pub mod ReadFolder
+pub mod Remainder
 pub mod StepsMake
 pub mod Summing
 pub mod SumsAreEqual
+pub mod Told
 pub mod TopsInOrder
 pub mod Writable

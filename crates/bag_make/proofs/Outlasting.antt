@@ -3,7 +3,6 @@ use Rattle.bag_make.proofs.Common.{arith, ◌≡◌, ◌++◌, ◌∷◌, ℕ, i
 use Rattle.bag_make.proofs.Common.{get_or, map, refl, ap, sym, ◌∙◌, subst, append-nil, append_assoc, AllByRecursion}
 use Rattle.bag_make.proofs.Common.{list_any, bytes_eq, first_component, under, Bag, HasFile, file, has_folder, create}
 use Rattle.bag_make.proofs.Common.{make_folder, move_in, rename_folder, is_synced, AreSyncs, ChangeNothing, joined}
-use Rattle.bag_make.proofs.Common.{HasAllFiles}
 use Rattle.bag_make.proofs.Common.{MayLeave, is_in_the_way, File, new_file, new_folder, data_folder, after_steps}
 use Rattle.bag_make.proofs.Common.{steps_for, AllAsk, AsksFolder, AsksMove, AsksFile, AsksPart, has_durable_folders}
 use Rattle.bag_make.proofs.Common.{MoveIn, Rename}
@@ -15,6 +14,10 @@ use Rattle.bag_tree.specs.Steps.{has_within}
 use Rattle.bag_tree.specs.declared.event.DeviceEvent.{DeviceEvent}
 use Rattle.bag_tree.specs.declared.event.DeviceEvent.TheVariants as event
 use Rattle.bag_make.proofs.Asking.{SomeAsk}
+use Rattle.bag_make.proofs.Common.{contains-insert, nat_list_cmp_total}
+use Rattle.bag_make.proofs.StepsMake.{moved_folders}
+use Rattle.std.specs.Cmp.Lexicographic.{texts_ties}
+use Rattle.bag_make.proofs.Told.{IsKept}
 use Rattle.bag_make.proofs.Placed.{IsPlaced, IsTop, placed_by, moves_placed, all_under_data}
 use Rattle.bag_make.proofs.Phases as phase
 use Rattle.bag_make.proofs.Phases.{Reaches, AllIn, IsTagName, begun, none_there, IsMade, IsMoving, IsNamed, IsLast}
@@ -35,6 +38,8 @@ pub record CanBeMadeBy (bag : Bag) (names : List (List ℕ)) (tags : List File) 
   pub distinct : AreDistinct names
   -- each file stands at one of the names or below it
   pub all : (path : List ℕ) → HasFile bag path → list_any (bytes_eq (first_component path)) names ≡ true
+  -- and so does a folder `data`
+  pub own : has_folder bag data_folder ≡ true → list_any (bytes_eq data_folder) names ≡ true
   pub tag_names : AreTagFiles tags
 
 -- the bag when these files are made in it, one after another
@@ -54,10 +59,10 @@ all_made (e ∷ es) b free =
     ap (λ x. with_files es (create e.0 e.1 x)) (nothing_named e.0 b free.0 free.1)
     ∙ all_made es (create e.0 e.1 b) free.2
 
--- at each moment of these events each file is whole
+-- at each moment of these events the folder is kept
 abbrev pub IsSafe : Bag → List DeviceEvent → Type 0
 IsSafe bag t = (before after : List DeviceEvent) → t ≡ before ++ after → (left : Bag) → MayLeave before bag left
-    → HasAllFiles bag left
+    → IsKept bag left
 
 ends : (bag : Bag) (t es ds : List DeviceEvent) (Q : List DeviceEvent → Bag → Type 0) → es ≡ ds
     → Reaches bag (t ++ ds) Q → Reaches bag (t ++ es) Q
@@ -88,6 +93,9 @@ module _ (bag : Bag) (free : is_in_the_way bag ≡ false) where
   refused t es Q so_far are = (unchanged es t Q so_far are).each
 
   -- each step goes on
+  begun_data : has_folder (begun bag free) data_folder ≡ has_folder bag data_folder
+  begun_data = contains-insert nat_list_cmp_total bag.folders new_folder data_folder
+
   make_on : (t before now : List DeviceEvent) → Reaches bag t (λ later d. d ≡ bag) → AsksFolder new_folder before now
       → Reaches bag (t ++ now) (IsMade bag free)
   make_on t before now so_far asks =
@@ -120,16 +128,17 @@ module _ (bag : Bag) (free : is_in_the_way bag ≡ false) where
 
   rename_on : (actual : Bag) (t now : List DeviceEvent) (syncs : List DeviceEvent)
       → now ≡ syncs ++ event.Rename new_folder data_folder ∷ []
-      → has_folder actual new_folder ≡ true → has_within actual data_folder ≡ false → AllIn new_folder bag actual
+      → has_folder actual new_folder ≡ true → has_within actual data_folder ≡ false
+      → has_folder actual data_folder ≡ false → AllIn new_folder bag actual
       → AllIn data_folder bag (rename_folder new_folder data_folder actual)
       → Reaches bag (t ++ syncs) (λ later d. d ≡ actual)
       → Reaches bag (t ++ now) (IsNamed bag free (rename_folder new_folder data_folder actual))
-  rename_on actual t now syncs is there none new data_ so_far =
+  rename_on actual t now syncs is there none none_yet new data_ so_far =
       ends bag t now (syncs ++ event.Rename new_folder data_folder ∷ [])
       (IsNamed bag free (rename_folder new_folder data_folder actual)) is
       (subst (λ es. Reaches bag es (IsNamed bag free (rename_folder new_folder data_folder actual)))
       (append_assoc t syncs (event.Rename new_folder data_folder ∷ []))
-      (phase.rename_step bag free actual (t ++ syncs) there none new data_ so_far))
+      (phase.rename_step bag free actual (t ++ syncs) there none none_yet new data_ so_far))
 
   written : (actual : Bag) (t syncs : List DeviceEvent) (pieces : List (List ℕ)) (name : List ℕ) → IsTagName name
       → Reaches bag t (IsNamed bag free actual) → AreSyncs syncs
@@ -198,7 +207,8 @@ module _ (bag : Bag) (free : is_in_the_way bag ≡ false) where
       (phase.last_named bag free _ (t ++ now) (file_on actual t before now e.0 e.1 names.0 so_far asks)) rest)
 
   module _ (names : List (List ℕ)) (tops : AllByRecursion IsTop names) (distinct : AreDistinct names)
-      (all : (p : List ℕ) → HasFile bag p → list_any (bytes_eq (first_component p)) names ≡ true) where
+      (all : (p : List ℕ) → HasFile bag p → list_any (bytes_eq (first_component p)) names ≡ true)
+      (own : has_folder bag data_folder ≡ true → list_any (bytes_eq data_folder) names ≡ true) where
     abbrev pub filled : Bag
     filled = after_steps (map MoveIn names) (begun bag free)
 
@@ -229,8 +239,11 @@ module _ (bag : Bag) (free : is_in_the_way bag ≡ false) where
         old.1 ∙ ap (λ b. cond b (under new_folder old.0) old.0) (all old.0 (ap is_some old.2)) in
         other_start old.0 (subst (IsWithin data_folder) moved within))
 
-    filled_whole : HasAllFiles bag filled
-    filled_whole p c at = inr (inl (in_new p c at))
+    no_folder : has_folder filled data_folder ≡ false
+    no_folder = grind (arith, moved_folders names (begun bag free) data_folder, texts_ties, own, begun_data)
+
+    filled_whole : IsKept bag filled
+    filled_whole = phase.all_whole bag filled (inl (in_new, no_folder))
 
     module _ (tags : List File) (bases : AreTagFiles tags) where
       -- once all names are moved
@@ -242,7 +255,7 @@ module _ (bag : Bag) (free : is_in_the_way bag ≡ false) where
       some_named t before es durable stops (inl syncs) = stops es syncs
       some_named t before es durable stops (inr (now, later, is, asks, rest)) =
           safe_on bag t now later es is (some_files tags _ (t ++ now) (before ++ now) later bases
-          (rename_on filled t now asks.syncs asks.asked filled_there no_data in_new in_data
+          (rename_on filled t now asks.syncs asks.asked filled_there no_data no_folder in_new in_data
           (durable asks.syncs asks.are_syncs asks.durable asks.base_durable)) rest)
 
       all_named : (e : File) (more : List File) → tags ≡ e ∷ more → (t before es : List DeviceEvent)
@@ -252,7 +265,7 @@ module _ (bag : Bag) (free : is_in_the_way bag ≡ false) where
           → Reaches bag (t ++ es) (IsLast bag free (with_files tags (rename_folder new_folder data_folder filled)))
       all_named e more are t before es durable (now, later, is, asks, rest) =
           let so_far =
-          rename_on filled t now asks.syncs asks.asked filled_there no_data in_new in_data
+          rename_on filled t now asks.syncs asks.asked filled_there no_data no_folder in_new in_data
           (durable asks.syncs asks.are_syncs asks.durable asks.base_durable) in
           let last =
           all_files e more _ (t ++ now) (before ++ now) later (subst AreTagFiles are bases) so_far
@@ -352,7 +365,7 @@ named_by bag names = rename_folder new_folder data_folder (after_steps (map Move
 nothing_yet : (bag : Bag) → Reaches bag [] (λ later d. d ≡ bag)
 nothing_yet bag =
     started (λ later d. d ≡ bag) (λ later. refl) (λ later d is.
-    subst (HasAllFiles bag) (sym is) (phase.itself_whole bag))
+    subst (IsKept bag) (sym is) (phase.itself_whole bag))
 
 -- at each moment, whether a step was refused or not
 pub each_moment : (bag : Bag) (names : List (List ℕ)) (tags : List File) → CanBeMadeBy bag names tags
@@ -360,7 +373,7 @@ pub each_moment : (bag : Bag) (names : List (List ℕ)) (tags : List File) → C
 each_moment bag names tags can before es (inl syncs) = refused bag can.free [] es _ (nothing_yet bag) syncs
 each_moment bag names tags can before es (inr (now, later, is, asks, rest)) =
     subst (IsSafe bag) (sym is)
-    (from_folder bag can.free names can.tops can.distinct can.all tags can.tag_names names refl now before now later
+    (from_folder bag can.free names can.tops can.distinct can.all can.own tags can.tag_names names refl now before now later
     asks (make_on bag can.free [] before now (nothing_yet bag) asks) rest)
 
 -- and after all steps
@@ -370,7 +383,7 @@ pub at_the_end : (bag : Bag) (names : List (List ℕ)) (e : File) (more : List F
     → (left : Bag) → MayLeave es bag left → left ≡ with_files (e ∷ more) (named_by bag names)
 at_the_end bag names e more can before es (now, later, is, asks, rest) left may =
     let last =
-    all_from_folder bag can.free names can.tops can.distinct can.all (e ∷ more) can.tag_names e more refl names refl
+    all_from_folder bag can.free names can.tops can.distinct can.all can.own (e ∷ more) can.tag_names e more refl names refl
     now before now later asks (make_on bag can.free [] before now (nothing_yet bag) asks) rest in
     let from =
     last.on [] left (subst (λ (xs : List DeviceEvent). MayLeave xs bag left) (is ∙ sym (append-nil (now ++ later)))

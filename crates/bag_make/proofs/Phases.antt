@@ -23,22 +23,27 @@ use Rattle.bag_tree.specs.declared.event.DeviceEvent.{DeviceEvent}
 use Rattle.bag_tree.specs.declared.event.DeviceEvent.TheVariants.{MakeFolder, Rename, Create, Write, Sync, SyncFolder}
 use Rattle.bag_make.proofs.FirstParts.{first-name}
 use Rattle.bag_make.proofs.Held.{held_at}
+use Rattle.std.proofs.Math.Bool.{and-false}
+use Rattle.bag_make.proofs.Common.{◌&&◌, eq_by_cmp, text_cmp, has_file}
+use Rattle.bag_make.proofs.Told.{IsKept, gone_on, itself_told, moving_told}
 use Rattle.bag_make.proofs.Placed.{IsPlaced, IsTop, placed_by, with_name, moved_placed, goes_on, apart, none_within}
 
--- what is left after these events has Q, and at each moment each file was whole
+-- what is left after these events has Q, and at each moment the folder was kept
 abbrev pub Reaches : Bag → List DeviceEvent → (List DeviceEvent → Bag → Type 0) → Type 0
-Reaches bag trail Q = run.Reaches (HasAllFiles bag) bag trail Q
+Reaches bag trail Q = run.Reaches (IsKept bag) bag trail Q
 
 -- each file of the bag stands in the folder
 abbrev pub AllIn : List ℕ → Bag → Bag → Type 0
 AllIn folder bag d = (p c : List ℕ) → file bag p ≡ Some c → file d (under folder p) ≡ Some c
 
+-- in the one, while there is no folder `data`, or in the other
 abbrev pub AllInOne : Bag → Bag → Type 0
-AllInOne bag d = AllIn new_folder bag d ⊎ AllIn data_folder bag d
+AllInOne bag d = (AllIn new_folder bag d × (has_folder d data_folder ≡ false)) ⊎ AllIn data_folder bag d
 
-pub all_whole : (bag d : Bag) → AllInOne bag d → HasAllFiles bag d
-all_whole bag d (inl new) p c at = inr (inl (new p c at))
-all_whole bag d (inr data_) p c at = inr (inr (data_ p c at))
+pub all_whole : (bag d : Bag) → AllInOne bag d → IsKept bag d
+all_whole bag d (inl (new, none)) =
+    ((λ p c at. inr (inl (new p c at))), λ there. absurd (false≢true (sym none ∙ there)))
+all_whole bag d (inr data_) = ((λ p c at. inr (inr (data_ p c at))), λ there. inl data_)
 
 pub placed_whole : (bag d : Bag) (moved : List ℕ → Bool) → IsPlaced bag (placed_by moved) d.files → HasAllFiles bag d
 placed_whole bag d moved placed p c at =
@@ -49,8 +54,8 @@ placed_whole bag d moved placed p c at =
       | false ↦ λ there. inl there
     ] (placed.to p c at)
 
-pub itself_whole : (bag : Bag) → HasAllFiles bag bag
-itself_whole bag p c at = inl at
+pub itself_whole : (bag : Bag) → IsKept bag bag
+itself_whole bag = ((λ p c at. inl at), itself_told bag)
 
 -- no file stands at a path or below it, where none that is there does
 pub none_there : (d : Bag) (path : List ℕ) → ((q c : List ℕ) → file d q ≡ Some c → IsWithin path q → ⊥)
@@ -87,9 +92,14 @@ module _ (bag : Bag) (free : is_in_the_way bag ≡ false) where
   abbrev pub IsMade : List DeviceEvent → Bag → Type 0
   IsMade later d = (d ≡ begun) ⊎ ((d ≡ bag) × (is_synced [] later ≡ false))
 
-  made_whole : (later : List DeviceEvent) (d : Bag) → IsMade later d → HasAllFiles bag d
-  made_whole later d (inl is) = subst (HasAllFiles bag) (sym is) (λ p c at. inl at)
-  made_whole later d (inr (is, _)) = subst (HasAllFiles bag) (sym is) (itself_whole bag)
+  begun_placed : IsPlaced bag (placed_by (λ _. false)) begun.files
+  begun_placed = record { from = λ q c at. (q, refl, at); to = λ p c at. at }
+
+  made_whole : (later : List DeviceEvent) (d : Bag) → IsMade later d → IsKept bag d
+  made_whole later d (inl is) =
+      subst (IsKept bag) (sym is)
+      ((λ p c at. inl at), moving_told bag begun (λ _. false) begun_placed (λ gone. absurd (false≢true gone)))
+  made_whole later d (inr (is, _)) = subst (IsKept bag) (sym is) (itself_whole bag)
 
   pub make_step : (t : List DeviceEvent) → Reaches bag t (λ later d. d ≡ bag)
       → Reaches bag (t ++ MakeFolder new_folder ∷ []) IsMade
@@ -105,12 +115,14 @@ module _ (bag : Bag) (free : is_in_the_way bag ≡ false) where
     pub moved : List ℕ → Bool
     pub placed : IsPlaced bag (placed_by moved) d.files
     pub there : has_folder d new_folder ≡ true
+    pub gone : moved data_folder ≡ true → has_folder d data_folder ≡ false
     pub unmoved : (t : List ℕ) → list_any (bytes_eq t) left ≡ true → moved t ≡ false
     pub durable : is_synced [] later ≡ true → is_synced new_folder later ≡ true → d ≡ actual
 
   pub moving_whole : (left : List (List ℕ)) (actual : Bag) (later : List DeviceEvent) (d : Bag)
-      → IsMoving left actual later d → HasAllFiles bag d
-  moving_whole left actual later d is = placed_whole bag d is.moved is.placed
+      → IsMoving left actual later d → IsKept bag d
+  moving_whole left actual later d is =
+      (placed_whole bag d is.moved is.placed, moving_told bag d is.moved is.placed is.gone)
 
   pub begun_there : has_folder begun new_folder ≡ true
   begun_there =
@@ -119,8 +131,9 @@ module _ (bag : Bag) (free : is_in_the_way bag ≡ false) where
   begun_moving : (left : List (List ℕ)) (later : List DeviceEvent) → IsMoving left begun later begun
   begun_moving left later = record {
     moved = λ _. false;
-    placed = record { from = λ q c at. (q, refl, at); to = λ p c at. at };
+    placed = begun_placed;
     there = begun_there;
+    gone = λ is. absurd (false≢true is);
     unmoved = λ t has. refl;
     durable = λ _ _. refl;
   }
@@ -154,6 +167,7 @@ module _ (bag : Bag) (free : is_in_the_way bag ≡ false) where
         moved = is.moved;
         placed = is.placed;
         there = is.there;
+        gone = is.gone;
         unmoved = is.unmoved;
         durable = λ base new. is.durable (synced_after [] es later are base) (synced_after new_folder es later are new);
       }) (moving_whole left actual)
@@ -235,6 +249,7 @@ module _ (bag : Bag) (free : is_in_the_way bag ≡ false) where
           d.files was.placed
           (λ p has. goes_on was.moved top p is) (apart bag free (with_name was.moved top));
       there = still_there top d is was.there;
+      gone = gone_on was.moved top d was.gone;
       unmoved = λ t has. (λ i. was.unmoved t (or_right (bytes_eq t top) _ has) i || other_left t top left once has i);
       durable = λ base new. ap (move_in top new_folder) (was.durable base (rw (not_on_way top is) new));
     }
@@ -246,6 +261,7 @@ module _ (bag : Bag) (free : is_in_the_way bag ≡ false) where
       moved = was.moved;
       placed = was.placed;
       there = was.there;
+      gone = was.gone;
       unmoved = λ t has. was.unmoved t (or_right (bytes_eq t top) _ has);
       durable = λ base new.
           absurd (false≢true
@@ -268,28 +284,28 @@ module _ (bag : Bag) (free : is_in_the_way bag ≡ false) where
         (moving_whole left (move_in top new_folder actual))
 
   -- all moves are durable
-  pub moves_durable : (left : List (List ℕ)) (actual : Bag) (t es : List DeviceEvent) → HasAllFiles bag actual
+  pub moves_durable : (left : List (List ℕ)) (actual : Bag) (t es : List DeviceEvent) → IsKept bag actual
       → Reaches bag t (IsMoving left actual) → AreSyncs es → is_synced [] es ≡ true → is_synced new_folder es ≡ true
       → Reaches bag (t ++ es) (λ later d. d ≡ actual)
   moves_durable left actual t es whole so_far are base new =
       weaker (t ++ es) (λ later d. IsMoving left actual (es ++ later) d) (λ later d. d ≡ actual)
       (synced es t (IsMoving left actual) so_far are)
       (λ later d is. is.durable (synced_front [] es later base) (synced_front new_folder es later new))
-      (λ later d is. subst (HasAllFiles bag) (sym is) whole)
+      (λ later d is. subst (IsKept bag) (sym is) whole)
 
   -- the folder has its last name, or not yet
   pub record IsNamed (actual : Bag) (later : List DeviceEvent) (d : Bag) : Type 0 where
     pub all : AllInOne bag d
     pub durable : is_synced [] later ≡ true → d ≡ actual
 
-  pub named_whole : (actual : Bag) (later : List DeviceEvent) (d : Bag) → IsNamed actual later d → HasAllFiles bag d
+  pub named_whole : (actual : Bag) (later : List DeviceEvent) (d : Bag) → IsNamed actual later d → IsKept bag d
   named_whole actual later d is = all_whole bag d is.all
 
   pub rename_step : (actual : Bag) (t : List DeviceEvent) → has_folder actual new_folder ≡ true
-      → has_within actual data_folder ≡ false → AllIn new_folder bag actual
+      → has_within actual data_folder ≡ false → has_folder actual data_folder ≡ false → AllIn new_folder bag actual
       → AllIn data_folder bag (rename_folder new_folder data_folder actual) → Reaches bag t (λ later d. d ≡ actual)
       → Reaches bag (t ++ Rename new_folder data_folder ∷ []) (IsNamed (rename_folder new_folder data_folder actual))
-  rename_step actual t there none new data_ so_far =
+  rename_step actual t there none none_yet new data_ so_far =
       one_more t (λ later d. d ≡ actual) (IsNamed (rename_folder new_folder data_folder actual))
       (Rename new_folder data_folder) so_far
       (λ later d is.
@@ -298,7 +314,10 @@ module _ (bag : Bag) (free : is_in_the_way bag ≡ false) where
       (ap (λ b. has_within b data_folder) is ∙ none) ∙ ap (rename_folder new_folder data_folder) is in
       record { all = inr (subst (AllIn data_folder bag) (sym now) data_); durable = λ _. now })
       (λ later d part is missing same. record {
-        all = inl (subst (AllIn new_folder bag) (sym (same ∙ is)) new);
+        all = inl (
+          subst (AllIn new_folder bag) (sym (same ∙ is)) new,
+          ap (λ b. has_folder b data_folder) (same ∙ is) ∙ none_yet,
+        );
         durable = λ base.
             absurd (false≢true
             (sym missing ∙ and_from _ _ (ap (λ f. is_synced f later) (in_base new_folder refl) ∙ base)
@@ -321,21 +340,40 @@ module _ (bag : Bag) (free : is_in_the_way bag ≡ false) where
     pub durable : is_synced [] later ≡ true → is_file_synced name later ≡ true → d ≡ create name text actual
 
   pub writing_whole : (name text : List ℕ) (actual : Bag) (later : List DeviceEvent) (d : Bag)
-      → IsWriting name text actual later d → HasAllFiles bag d
+      → IsWriting name text actual later d → IsKept bag d
   writing_whole name text actual later d is = all_whole bag d is.all
 
   created_all : (name text : List ℕ) (d : Bag) → is_base_name name ≡ true → AllInOne bag d
       → AllInOne bag (create name text d)
-  created_all name text d is (inl all) = inl (λ p c at. stays_under name text new_folder p d is ∙ all p c at)
+  created_all name text d is (inl (all, none)) =
+      inl ((λ p c at. stays_under name text new_folder p d is ∙ all p c at), none)
   created_all name text d is (inr all) = inr (λ p c at. stays_under name text data_folder p d is ∙ all p c at)
 
+  lost_folders : (name : List ℕ) (d : Bag) → has_folder d data_folder ≡ false
+      → has_folder (lose name d) data_folder ≡ false
+  unfolding lose
+  lost_folders name d none =
+      contains-remove nat_list_cmp_total d.folders name data_folder
+      ∙ ap (λ b. not (eq_by_cmp text_cmp data_folder name) && b) none ∙ and-false _
+
   lost_all : (name : List ℕ) (d : Bag) → IsTagName name → AllInOne bag d → AllInOne bag (lose name d)
-  lost_all name d is (inl all) = inl (λ p c at. lost_under name new_folder p d is.0 refl is.1 ∙ all p c at)
+  lost_all name d is (inl (all, none)) = inl (
+    (λ p c at. lost_under name new_folder p d is.0 refl is.1 ∙ all p c at),
+    lost_folders name d none,
+  )
   lost_all name d is (inr all) = inr (λ p c at. lost_under name data_folder p d is.0 refl is.2 ∙ all p c at)
+
+  held_folders : (name text : List ℕ) (d : Bag) → has_folder (hold name text d) data_folder ≡ has_folder d data_folder
+  held_folders name text d =
+      elim (has_file d name) as
+      (λ b. has_folder (cond b (create name text d) d) data_folder ≡ has_folder d data_folder) [ true ↦ refl | false ↦ refl ]
 
   held_all : (name text : List ℕ) (d : Bag) → is_base_name name ≡ true → AllInOne bag d
       → AllInOne bag (hold name text d)
-  held_all name text d is (inl all) = inl (λ p c at. held_under name text new_folder p d is ∙ all p c at)
+  held_all name text d is (inl (all, none)) = inl (
+    (λ p c at. held_under name text new_folder p d is ∙ all p c at),
+    held_folders name text d ∙ none,
+  )
   held_all name text d is (inr all) = inr (λ p c at. held_under name text data_folder p d is ∙ all p c at)
 
   pub create_step : (actual : Bag) (t : List DeviceEvent) (name : List ℕ) → IsTagName name

@@ -9,7 +9,7 @@ use Rattle.bag_make.proofs.Common.{tag_path, TagName, Declaration, Info, Fetch, 
 use Rattle.bag_make.proofs.Common.{IsBag, TreeState, Keeps, NewElement, File, MayLeave, Adds, EachCut, LeavesOnly}
 use Rattle.bag_make.proofs.Common.{create, make_folder, new_tag_files, file, files_of, has_file, has_folder}
 use Rattle.bag_make.proofs.Common.{data_folder, new_folder, is_in_the_way, MoveIn, Rename, Step, new_file, steps}
-use Rattle.bag_make.proofs.Common.{steps_for, tops, change, after_steps, CanTakeAll, HasTaken, HasAllFiles}
+use Rattle.bag_make.proofs.Common.{steps_for, tops, change, after_steps, CanTakeAll, HasTaken}
 use Rattle.bag_make.proofs.Common.{OutlastsCuts, LastsForGood, AllAsk}
 use Rattle.std.proofs.Common.{is_eq}
 use Rattle.std.specs.List.Sorted.{IsStrictlySortedBy}
@@ -24,7 +24,13 @@ use Rattle.bag_make.proofs.Held.{tag_member}
 use Rattle.bag_make.proofs.Outlasting.{AreDistinct, AreFree, AreTagFiles, CanBeMadeBy, all_made, at_the_end}
 use Rattle.bag_make.proofs.Outlasting.{data_placed, each_moment, named_by}
 use Rattle.bag_make.proofs.Phases.{IsTagName, itself_whole, none_there}
-use Rattle.bag_make.proofs.StepsMake.{each_is_moved, names_are_tops, names_in_order, steps_make}
+use Rattle.bag_make.proofs.Told.{IsKept, told_lacks}
+use Rattle.bag_make.specs.PowerCut.{Outlasts}
+use Rattle.bag_make.proofs.StepsMake.{data_is_moved, each_is_moved, names_are_tops, names_in_order, steps_make}
+
+-- what is kept outlasts
+kept : (bag d : Bag) → IsKept bag d → Outlasts bag d
+kept bag d is = record { files = is.0; payload = told_lacks bag d is.1 }
 
 -- ---- the trails
 
@@ -33,7 +39,7 @@ none_before [] after e = refl
 none_before (x ∷ before) after e = cc
 
 -- where nothing was asked
-nothing_asked : (bag : Bag) (old new : List DeviceEvent) → new ≡ old → EachCut old new bag (HasAllFiles bag)
+nothing_asked : (bag : Bag) (old new : List DeviceEvent) → new ≡ old → EachCut old new bag (Outlasts bag)
 nothing_asked bag old new same = record {
   since = [];
   trail = same ∙ sym (append-nil old);
@@ -42,20 +48,20 @@ nothing_asked bag old new same = record {
       ap (λ (xs : List DeviceEvent). old ++ xs) (none_before before after parts) ∙ append-nil old in
       let left_is : left ≡ bag =
       durable left (subst (λ (xs : List DeviceEvent). MayLeave xs first left) trail_is may) in
-      subst (HasAllFiles bag) (sym left_is) (itself_whole bag);
+      subst (Outlasts bag) (sym left_is) (kept bag bag (itself_whole bag));
 }
 
 module _ (bag : Bag) (names : List (List ℕ)) (old new : List DeviceEvent) where
   -- at each moment, whether a step was refused or not
   outlasts : (tags : List File) → CanBeMadeBy bag names tags → Adds (SomeAsk (steps_for names tags)) old new
-      → EachCut old new bag (HasAllFiles bag)
+      → EachCut old new bag (Outlasts bag)
   outlasts tags can some = record {
     since = some.now;
     trail = some.trail;
     each = λ first durable before after parts left may.
         let between = left_between old before first left may in
-        each_moment bag names tags can old some.now some.is before after parts left
-        (subst (λ d. MayLeave before d left) (durable between.0 between.1) between.2);
+        kept bag left (each_moment bag names tags can old some.now some.is before after parts left
+        (subst (λ d. MayLeave before d left) (durable between.0 between.1) between.2));
   }
 
   -- and after all steps
@@ -132,12 +138,13 @@ module _ (bag : Bag) (algs : List Alg) (info : List NewElement) where
       let tag = tag_member bag algs info e.0 e.1 has in
       subst IsTagName (sym tag.1) (is_tag_name tag.0))
 
-  can_be_made : IsBag bag → is_in_the_way bag ≡ false → CanBeMadeBy bag names tags
+  pub can_be_made : IsBag bag → is_in_the_way bag ≡ false → CanBeMadeBy bag names tags
   can_be_made is free = record {
     free = free;
     tops = names_are_tops bag is free;
     distinct = are_distinct names (names_in_order bag);
     all = each_is_moved bag;
+    own = data_is_moved bag;
     tag_names = tag_names;
   }
 
@@ -187,7 +194,7 @@ free_names : (bag : Bag) (algs : List Alg) (info : List NewElement)
     → (can : CanBeMadeBy bag (names bag algs info) (tags bag algs info)) → CanTakeAll (steps bag algs info) bag
     → AreFree (tags bag algs info) (named_by bag (names bag algs info))
 free_names bag algs info can possible =
-    let placed = data_placed bag can.free (names bag algs info) can.tops can.distinct can.all in
+    let placed = data_placed bag can.free (names bag algs info) can.tops can.distinct can.all can.own in
     are_free (tags bag algs info) (named_by bag (names bag algs info)) can.tag_names (λ q c at.
     let old = placed.from q c at in inr (old.0, old.1))
     (can_later (map MoveIn (names bag algs info)) (Rename ∷ map new_file (tags bag algs info))
@@ -207,7 +214,7 @@ module _ (algs : List Alg) (info : List NewElement) (old mid new : TreeState) (p
 
   -- at each moment, where the device was asked for what the planned steps ask up to one that was refused
   outlasts_asked : IsTrue old.honest → Adds (SomeAsk planned) mid.trail new.trail
-      → EachCut old.trail new.trail old.bag (HasAllFiles old.bag)
+      → EachCut old.trail new.trail old.bag (Outlasts old.bag)
   outlasts_asked honest some =
       let plan = are honest in
       outlasts old.bag (names old.bag algs info) old.trail new.trail (tags old.bag algs info)

@@ -8,6 +8,7 @@ use Rattle.bag_make.proofs.Common.{each_from_members, Bag, HasFile, IsBag, file,
 use Rattle.bag_make.proofs.Common.{one_text, NewElement, make_folder, move_in, rename_folder, create, File, data_folder}
 use Rattle.bag_make.proofs.Common.{new_payload, new_tag_files, made, StepsMake, is_in_the_way, steps, tops, new_folder}
 use Rattle.bag_make.proofs.Common.{after_steps, MoveIn, Create}
+use Rattle.bag_make.proofs.Common.{contains_back, contains_first}
 use Rattle.std.specs.FinMap as fin
 use Rattle.std.specs.FinSet as set
 use Rattle.std.specs.Cmp.Lexicographic.{nat_list_eq_equiv, texts_ties}
@@ -21,7 +22,7 @@ use Rattle.bag_make.proofs.TopsInOrder.{listed_in_order, same_any}
 use Rattle.bag_make.proofs.PutFiles.{put_at, from_put, to_put, same_files}
 
 -- the folders that are left
-moved_folders : (names : List (List ℕ)) (b : Bag) (q : List ℕ)
+pub moved_folders : (names : List (List ℕ)) (b : Bag) (q : List ℕ)
     → set.contains (after_steps (map MoveIn names) b).folders q
     ≡ (not (list_any (eq_by_cmp text_cmp q) names) && set.contains b.folders q)
 moved_folders [] b q = refl
@@ -71,6 +72,15 @@ module _ (bag : Bag) where
       list_any-from_Contains nat_list_eq_equiv (first_component p) names_of
       (((listed_in_order (firsts bag ++ data_of)).members (first_component p)).1
       (contains_front (firsts bag) data_of (first_component p) (first_in bag p has)))
+
+  -- and so does a folder `data`
+  pub data_is_moved : has_folder bag data_folder ≡ true → list_any (bytes_eq data_folder) names_of ≡ true
+  data_is_moved there =
+      list_any-from_Contains nat_list_eq_equiv data_folder names_of
+      (((listed_in_order (firsts bag ++ data_of)).members data_folder).1
+      (contains_back (firsts bag) data_of data_folder
+      (subst (λ (b : Bool). Contains {X = List ℕ} (cond b (data_folder ∷ []) []) data_folder) (sym there)
+      (contains_first data_folder []))))
 
 module _ (bag : Bag) (algs : List Alg) (info : List NewElement) (is : IsBag bag) (free : is_in_the_way bag ≡ false)
     (absent : has_folder bag new_folder ≡ false) where

@@ -7,6 +7,7 @@ pub mod Plan
 pub mod PowerCut
 pub mod Reading
 pub mod Reads
+pub mod Remainder
 pub mod Request
 pub mod Steps
 pub mod StepsTaken

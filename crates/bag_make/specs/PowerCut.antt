@@ -7,6 +7,7 @@ use Rattle.bag_tree.specs.Cut.{EachCut, LeavesOnly}
 use Rattle.bag_tree.specs.Tree.{TreeState}
 use Rattle.bag_tags.specs.Element.{NewElement}
 use Rattle.bag_make.specs.Made.{data_folder, made}
+use Rattle.bag_make.specs.Remainder.{LacksNoPayload}
 use Rattle.bag_make.specs.Steps.{new_folder}
 
 -- each file of the folder is whole: at its path, or at that path in one of the two folders
@@ -17,11 +18,17 @@ HasAllFiles bag left =
     ⊎ (file left (under new_folder path) ≡ Some bytes)
     ⊎ (file left (under data_folder path) ≡ Some bytes)
 
--- a power cut at any moment of the making leaves each file of the folder whole
+-- each file of the folder is whole, and where what is left has no fault, it lacks no file of the
+-- folder's payload
+pub record Outlasts (bag left : Bag) : Type 0 where
+  pub files : HasAllFiles bag left
+  pub payload : LacksNoPayload bag left
+
+-- so it is with whatever a power cut at any moment of the making leaves
 abbrev pub OutlastsCuts : TreeState → TreeState → Type 0
 OutlastsCuts old new =
     IsTrue old.honest → IsTrue old.noted
-    → EachCut old.trail new.trail old.bag (HasAllFiles old.bag)
+    → EachCut old.trail new.trail old.bag (Outlasts old.bag)
 
 -- a power cut after the making leaves the bag that was made, and nothing else
 abbrev pub LastsForGood : List Alg → List NewElement → TreeState → TreeState → Type 0

@@ -2,6 +2,7 @@
 ghost use Rattle.bag_make.specs.Laws.{StepsMake, RefusesOneFile, MadeIsValid};
 ghost use Rattle.bag_make.specs.Contents.{MadeHasTheseFiles, MadeHasTheseFolders, ManifestsAscend};
 ghost use Rattle.bag_make.specs.Contents.{PayloadIsTheFolder};
+ghost use Rattle.bag_make.specs.Remainder.{RemaindersLackNoPayload, NewBagsLackNoFile};
 
 /// All steps together make the bag, of each folder in which nothing has the name of the folder that
 /// is made for them.
@@ -42,4 +43,17 @@ pub fn a_made_bag_has_no_fault()
 /// named for it.
 pub fn a_refusal_tells_one_file()
     ensures { RefusesOneFile }
+{}
+
+/// What a refused making leaves is no bag without a fault that lacks a file of the payload: checked
+/// in full, where its report is empty, all files of the folder are below `data/`, or those that
+/// were below `data/` before are at their places, beside the `bagit.txt` that the folder had.
+pub fn a_remainder_lacks_no_payload()
+    ensures { RemaindersLackNoPayload }
+{}
+
+/// So a folder without a `bagit.txt`, or with one that has a fault, is a bag without a fault only
+/// once all its files are below `data/`, be the making refused or cut off.
+pub fn a_new_bag_lacks_no_file()
+    ensures { NewBagsLackNoFile }
 {}

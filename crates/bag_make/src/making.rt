@@ -6,6 +6,7 @@ ghost use Rattle.bag_make.specs.Request.{is_refused};
 ghost use Rattle.bag_make.specs.Make.{HasKnownSize, HasMade, HasNoFault, Leaves, MayRefuseMaking};
 ghost use Rattle.bag_make.specs.PowerCut.{LastsForGood, OutlastsCuts};
 ghost use Rattle.bag_make.specs.Reading.{OpensFolder};
+ghost use Rattle.bag_make.specs.Remainder.{LacksNoPayload};
 
 use crate::MakeFault;
 use crate::reading::read_and_plan;
@@ -25,10 +26,15 @@ use std::alloc::Global;
 /// where that folder is there, in the order of their bytes; it is renamed to `data`; `bagit.txt`,
 /// `bag-info.txt`, the manifests and the tag manifests are written.
 ///
+/// What a refusal leaves may have no fault, as where the folder was a bag, or once a manifest is
+/// written. Then all files of the folder are below `data`, or those that were there before are at
+/// their places, and `bagit.txt` is the folder's own.
+///
 /// On a device that notes what it does, and on which what was synced is durable, a power cut at any
 /// moment leaves each file of the folder whole: at its path, or at that path in `.bagit-new` or in
-/// `data`, be it answered Ok or not. After Ok a power cut leaves the bag that was made and nothing
-/// else. Both hold where the folder was durable when the call began.
+/// `data`, be it answered Ok or not; and what it leaves without a fault lacks none of the payload
+/// either. After Ok a power cut leaves the bag that was made and nothing else. All this holds where
+/// the folder was durable when the call began.
 ///
 /// ```
 /// let algs = AlgSet::empty().with(Alg::Sha256).with(Alg::Sha512);
@@ -53,6 +59,9 @@ pub fn make<T: WriteTree>(
     ensures leaves { IfErr result.1 (λ fault.
         IsTrue (T.state tree).honest
         → Leaves algs info.now (T.state tree).bag (T.state result.0).bag fault) }
+    ensures payload { IfErr result.1 (λ fault.
+        IsTrue (T.state tree).honest
+        → LacksNoPayload (T.state tree).bag (T.state result.0).bag) }
     ensures noted { (T.state result.0).noted ≡ (T.state tree).noted }
     ensures any_moment { OutlastsCuts (T.state tree) (T.state result.0) }
     ensures lasting { OnOk result.1 (LastsForGood algs info.now (T.state tree) (T.state result.0)) }

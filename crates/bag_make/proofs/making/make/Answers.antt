@@ -2,6 +2,8 @@ use Rattle.bag_make.proofs.Common.{IsTrue, on_ok_weaker, IfErr-weaker, declarati
 use Rattle.bag_make.proofs.Common.{Leaves, MayRefuseMaking}
 use Rattle.bag_make.proofs.NoFault.{made_is_valid}
 use Rattle.bag_make.proofs.Made.{made_has_no_fault, leaves_bag}
+use Rattle.bag_make.specs.Remainder.{LacksNoPayload}
+use Rattle.bag_make.proofs.Remainder.{what_remains}
 use Rattle.bag_make.proofs.making.make.Goals as goal
 
 pub returns-clause-valid : goal.returns-clause-valid
@@ -17,3 +19,12 @@ returns-clause-leaves g c =
     IfErr-weaker c.make_in-result.result (MayRefuseMaking c.args.algs c.args.info.now old new)
     (λ fault. IsTrue old.honest → Leaves c.args.algs c.args.info.now old.bag new.bag fault)
     (leaves_bag c.args.algs c.args.info.now old new) c.make_in-result.ensures.refused
+
+pub returns-clause-payload : goal.returns-clause-payload
+returns-clause-payload g c =
+    let old = g.T.Tree.state c.args.tree in
+    let new = g.T.Tree.state c.make_in-result.new.tree in
+    IfErr-weaker c.make_in-result.result (MayRefuseMaking c.args.algs c.args.info.now old new)
+    (λ fault. IsTrue old.honest → LacksNoPayload old.bag new.bag)
+    (what_remains c.args.algs c.args.info.now old new (g.met.T.Tree.is_bag c.args.tree))
+    c.make_in-result.ensures.refused
