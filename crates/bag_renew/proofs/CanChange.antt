@@ -1,29 +1,22 @@
 -- Each change of a renewal can be made after those before it.
-use Rattle.bag_renew.proofs.Common.{arith, ◌≡◌, ◌≢◌, ◌++◌, ◌∷◌, inl, inr, ℕ, Bool, true, false, cond, List, [], Option, None}
-use Rattle.bag_renew.proofs.Common.{Some, is_some, get_or, map, refl, sym, ap, ◌∙◌, false_from_ne_true, false≢true}
-use Rattle.bag_renew.proofs.Common.{AllByRecursion, eq_by_cmp, text_cmp, from_any, one_text}
-use Rattle.bag_renew.proofs.Common.{text_itself, is_base_name, tag_path, TagName, Declaration, Info, Fetch, Manifest}
-use Rattle.bag_renew.proofs.Common.{Payload, Tag, Alg, Bag, IsBag, file, files_of, has_file, is_within}
-use Rattle.bag_renew.proofs.Common.{within_cases, in_base, after_changes, changed, FileChange, Put, Remove, begun_file}
-use Rattle.bag_renew.proofs.Common.{changes, clearing, opening, algs_where, has_tag_manifest, IsOutOfTheWay, Renewal}
+use Rattle.bag_renew.proofs.Common.{◌≡◌, ◌≢◌, ◌++◌, ◌∷◌, inl, inr, ℕ, Bool, true, false, cond, List, [], Option}
+use Rattle.bag_renew.proofs.Common.{None, Some, is_some, map, refl, sym, ap, ◌∙◌, false_from_ne_true, false≢true}
+use Rattle.bag_renew.proofs.Common.{AllByRecursion, eq_by_cmp, text_cmp, from_any, one_text, text_itself}
+use Rattle.bag_renew.proofs.Common.{is_base_name, tag_path, TagName, Manifest, Tag, Alg, Bag, IsBag, file}
+use Rattle.bag_renew.proofs.Common.{files_of, has_file, is_within, within_cases, in_base, after_changes, changed}
+use Rattle.bag_renew.proofs.Common.{FileChange, Put, Remove, begun_file, changes, clearing, opening, algs_where}
+use Rattle.bag_renew.proofs.Common.{has_tag_manifest, IsOutOfTheWay, Renewal}
 use Rattle.std.specs.FinSet as set
 use Rattle.bag_tree.proofs.Within.{IsWithin}
 use Rattle.bag_tree.specs.Steps.{has_within}
 use Rattle.bag_tree.specs.FileChanges.{CanChange, CanChangeAll, IsFree, IsNoFolder}
 use Rattle.bag_renew.specs.Laws.{ChangesCanBeMade}
-use Rattle.bag_renew.proofs.ChangesRenew.{back, not_named_all, of_back, of_clearing, of_removes}
+use Rattle.bag_renew.proofs.ChangedNames.{back, of_back, of_clearing, of_removes}
 use Rattle.bag_renew.proofs.Found.{held_at}
-use Rattle.bag_renew.proofs.OneChange.{AreOfFiles, IsFileName, IsLevel, all_level, at_change, at_changes, itself_level}
-use Rattle.bag_renew.proofs.OneChange.{level_on, name_of, with_change, with_changes}
-use Rattle.bag_renew.proofs.Staying.{IsWritten}
-
--- no tag file has the name of the begun file
-no_begun : (tag : TagName) → begun_file ≢ tag_path tag
-no_begun (Manifest Payload alg) = λ same. absurd (omega (arith, ap (λ t. get_or t 0 0) same))
-no_begun (Manifest Tag alg) = λ same. absurd (omega (arith, ap (λ t. get_or t 0 0) same))
-no_begun Declaration = λ same. absurd (omega (arith, ap (λ t. get_or t 0 0) same))
-no_begun Info = λ same. absurd (omega (arith, ap (λ t. get_or t 0 0) same))
-no_begun Fetch = λ same. absurd (omega (arith, ap (λ t. get_or t 0 0) same))
+use Rattle.bag_renew.proofs.ManyChanges.{not_named_all}
+use Rattle.bag_renew.proofs.OneChange.{AreOfFiles, IsFileName, IsLevel, all_level, at_change, at_changes}
+use Rattle.bag_renew.proofs.OneChange.{itself_level, level_on, name_of, with_change, with_changes}
+use Rattle.bag_renew.proofs.Staying.{IsWritten, no_begun}
 
 none_there : (d : Bag) (path : List ℕ) → ((q c : List ℕ) → file d q ≡ Some c → IsWithin path q → ⊥)
     → has_within d path ≡ false

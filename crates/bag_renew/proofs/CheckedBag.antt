@@ -10,6 +10,7 @@ use Rattle.bag_text.specs.Code.{stage}
 use Rattle.bag_text.specs.declared.code.Code.{Code}
 use Rattle.bag_text.specs.declared.code.Code.TheVariants.{PayloadSumDiffers, TagSumDiffers}
 use Rattle.bag_text.proofs.ListOf.{each_from_members, nothing_listed}
+use Rattle.bag_facts.proofs.Mapped.{kept, passed}
 use Rattle.bag_facts.specs.FactsOfBag.{IsFactsOf}
 use Rattle.bag_facts.specs.FaultOrder.{fault_cmp}
 use Rattle.bag_facts.specs.TagReader.{OpensAll}
@@ -21,6 +22,10 @@ use Rattle.bag_facts.specs.declared.options.Options.{Options}
 use Rattle.bag_report.specs.Report.{Is, IsReported}
 use Rattle.bag_report.proofs.Asked.{asked_at_full}
 use Rattle.bag_report.proofs.Found.{is_of_validity}
+use Rattle.bag_renew.proofs.Common.{cond, not, ◌||◌}
+use Rattle.bag_stages.proofs.NamesByKind.{entry_kind}
+use Rattle.bag_stages.specs.Given.{kind_of}
+use Rattle.bag_stages.specs.TagFiles.{lines_in, manifest_of}
 use Rattle.bag_stages.proofs.CompletenessFaults.{completeness_of_stage_six}
 use Rattle.bag_stages.proofs.DeclarationFaults.{declaration_of_stage_one}
 use Rattle.bag_stages.proofs.FetchFaults.{fetch_of_stage_four}
@@ -38,14 +43,25 @@ use Rattle.bag_tree.specs.Tree.{Keeps, TreeState}
 use Rattle.bag_tree.specs.declared.listing.FileEntry.{FileEntry}
 use Rattle.bag_renew.proofs.Found.{held_at, listed}
 use Rattle.bag_renew.specs.FirstFaults.{HasNoneBefore, IsFoundFirst}
-use Rattle.bag_renew.specs.NewManifests.{AreOfSameBytes, HasChecked, HasFault, IsRefusedFor, OpensTwice}
+use Rattle.bag_renew.specs.NewManifests.{AreOfSameBytes, HasChecked, HasCheckedAll, HasFault, IsRefusedFor}
+use Rattle.bag_renew.specs.NewManifests.{OpensRead, OpensTwice}
 use Rattle.bag_renew.specs.NewManifests.{manifests_for, manifests_of, summed_entry}
 use Rattle.bag_renew.specs.Renewed.{entries_of}
-use Rattle.bag_renew.specs.Summed.{AreChecked, AreSummed, IsFaultyFile, IsRight, entry_of_file, payload_of}
-use Rattle.bag_renew.specs.Valid.{HasNoFault, full}
+use Rattle.bag_renew.specs.Summed.{AreChecked, AreSummed, IsFaultyFile, IsRight, entry_of_file, files_to_read}
+use Rattle.bag_renew.specs.Summed.{is_to_read, payload_of, to_read}
+use Rattle.bag_renew.specs.Valid.{HasNoFault, IsDamage, full}
 use Rattle.bag_renew.specs.declared.checked.Unchecked.{Unchecked}
 use Rattle.bag_renew.specs.declared.checked.Unchecked.TheVariants.{Faulty, Stopped}
 use Rattle.bag_renew.specs.declared.summed.SummedFile.{SummedFile}
+
+-- a path that a tag manifest names isn't of the payload, and is read
+tag_by : (b with_payload : Bool) → ◌≡◌ {A = Kind} (cond b Payload Tag) Tag → (with_payload || not b) ≡ true
+tag_by true with_payload same = let clash : ◌≡◌ {A = Kind} Payload Tag = same in cc
+tag_by false true same = refl
+tag_by false false same = refl
+
+tag_is_read : (with_payload : Bool) (path : List ℕ) → kind_of path ≡ Tag → is_to_read with_payload path ≡ true
+tag_is_read with_payload path same = tag_by (is_payload_path path) with_payload same
 
 abbrev first_path : List FileEntry → List ℕ
 first_path [] = []
@@ -106,38 +122,64 @@ module _ (facts : Facts) (bag : Bag) (of : IsFactsOf bag facts) (options : facts
           λ f has before. none_early f has (subst (λ n. stage f.code < n) seventh before),
         )
 
-    module _ (right : (e : File) → Contains (files_of bag) e → IsRight facts e) (f : Fault) where
-      one_file : (kind : Kind) → Differs bag f kind → IsOfValidity bag f → ⊥
-      one_file kind (alg, entry, content, given, there, other, at) h =
+    -- the files that were read have the digests that manifests give
+    module _ (with_payload : Bool)
+        (right : (e : File) → Contains (files_of bag) e → is_to_read with_payload e.0 ≡ true → IsRight facts e)
+        (f : Fault) where
+      one_file : (kind : Kind) → Differs bag f kind → IsOfValidity bag f → is_to_read with_payload f.path ≡ true → ⊥
+      one_file kind (alg, entry, content, given, there, other, at) h read =
           let e : File = (entry.path, content) in
-          let r = right e (listed bag.files entry.path content there) in
+          let r =
+          right e (listed bag.files entry.path content there)
+          (ap (is_to_read with_payload) (sym at.path_is) ∙ read) in
           let list = r.given.faults bag of deep content there in
           contains_nothing f (subst (λ (xs : List Fault). Contains xs f) r.right ((list.members f).1 (h, at.path_is)))
-
-      differing : (code : Code) → ValidityHolds bag f code → IsOfValidity bag f → ⊥
-      unfolding ValidityHolds
-      differing PayloadSumDiffers d h = one_file Payload d h
-      differing TagSumDiffers d h = one_file Tag d h
-      differing _ d h = d
-
-      no_differing : IsOfValidity bag f → ⊥
-      unfolding IsOfValidity
-      no_differing h = differing f.code h h
 
       below : (k : ℕ) → stage f.code ≡ k → k < 7 → HasFault bag f → ⊥
       below k at lt has = none_early f has (subst (λ n. n < 7) (sym at) lt)
 
-      no_fault : Is bag None f → HasFault bag f → ⊥
+      -- so each fault is of one of them
+      of_validity : Is bag None f → HasFault bag f → IsOfValidity bag f
       unfolding Is
-      no_fault (inl h) has = below 1 (declaration_of_stage_one bag f h) (omega arith) has
-      no_fault (inr (inl h)) has = below 2 (parts_of_stage_two bag f h) (omega arith) has
-      no_fault (inr (inr (inl h))) has = below 3 (metadata_of_stage_three bag f h) (omega arith) has
-      no_fault (inr (inr (inr (inl h)))) has = below 4 (fetch_of_stage_four bag f h) (omega arith) has
-      no_fault (inr (inr (inr (inr (inl h))))) has = below 5 (manifests_of_stage_five bag f h) (omega arith) has
-      no_fault (inr (inr (inr (inr (inr (inl h)))))) has =
-          below 6 (completeness_of_stage_six bag f h) (omega arith) has
-      no_fault (inr (inr (inr (inr (inr (inr (inl h))))))) has = no_differing h
-      no_fault (inr (inr (inr (inr (inr (inr (inr h))))))) has = h
+      of_validity (inl h) has = absurd (below 1 (declaration_of_stage_one bag f h) (omega arith) has)
+      of_validity (inr (inl h)) has = absurd (below 2 (parts_of_stage_two bag f h) (omega arith) has)
+      of_validity (inr (inr (inl h))) has = absurd (below 3 (metadata_of_stage_three bag f h) (omega arith) has)
+      of_validity (inr (inr (inr (inl h)))) has = absurd (below 4 (fetch_of_stage_four bag f h) (omega arith) has)
+      of_validity (inr (inr (inr (inr (inl h))))) has =
+          absurd (below 5 (manifests_of_stage_five bag f h) (omega arith) has)
+      of_validity (inr (inr (inr (inr (inr (inl h)))))) has =
+          absurd (below 6 (completeness_of_stage_six bag f h) (omega arith) has)
+      of_validity (inr (inr (inr (inr (inr (inr (inl h))))))) has = h
+      of_validity (inr (inr (inr (inr (inr (inr (inr h))))))) has = absurd h
+
+      differing : (code : Code) → ValidityHolds bag f code → IsOfValidity bag f
+          → is_to_read with_payload f.path ≡ true → ⊥
+      unfolding ValidityHolds
+      differing PayloadSumDiffers d h read = one_file Payload d h read
+      differing TagSumDiffers d h read = one_file Tag d h read
+      differing _ d h read = d
+
+      no_fault : HasFault bag f → is_to_read with_payload f.path ≡ true → ⊥
+      unfolding IsOfValidity
+      no_fault has read = let h = of_validity has.0 has in differing f.code h h read
+
+      -- a tag manifest names no payload, and all other files were read
+      tag_differs : Differs bag f Tag → IsOfValidity bag f → ⊥
+      tag_differs d h =
+          one_file Tag d h
+          (tag_is_read with_payload f.path
+          (ap kind_of d.6.path_is
+          ∙ sym (entry_kind bag Tag d.0 (lines_in bag (manifest_of Tag d.0)) d.1 d.3)))
+
+      damage_by : (code : Code) → f.code ≡ code → ValidityHolds bag f code → IsOfValidity bag f → IsDamage f
+      unfolding ValidityHolds
+      damage_by PayloadSumDiffers is d h = is
+      damage_by TagSumDiffers is d h = absurd (tag_differs d h)
+      damage_by _ is d h = absurd d
+
+      is_damage : HasFault bag f → IsDamage f
+      unfolding IsOfValidity
+      is_damage has = let h = of_validity has.0 has in damage_by f.code refl h h
 
 -- a bag was read and checked
 module _ (facts : Facts) (algs : List Alg) (old mid new : TreeState) (options : facts.options ≡ full)
@@ -150,12 +192,12 @@ module _ (facts : Facts) (algs : List Alg) (old mid new : TreeState) (options : 
     files_refuse e h honest =
         refused_file facts old.bag (of honest) options none mid (keeps.honest ∙ honest) keeps.bag e h
 
-    pub has_checked : (summed : List SummedFile) → ((bag : Bag) × IsBag bag × IsFactsOf bag facts)
-        → OpensAll full facts.listing.files old mid
-        → new.openings ≡ mid.openings ++ paths_of facts.listing.files
-        → AreChecked mid facts facts.listing.files algs summed → HasChecked algs old new summed
-    has_checked summed seen (tags, wanted, opened) then checked = record {
-      facts = facts;
+    pub has_checked : (with_payload : Bool) (summed : List SummedFile)
+        → ((bag : Bag) × IsBag bag × IsFactsOf bag facts) → OpensAll full facts.listing.files old mid
+        → new.openings ≡ mid.openings ++ paths_of (to_read with_payload facts.listing.files)
+        → AreChecked mid facts (to_read with_payload facts.listing.files) algs summed
+        → HasChecked facts with_payload algs old new summed
+    has_checked with_payload summed seen (tags, wanted, opened) then checked = record {
       options = options;
       seen = seen;
       none = none;
@@ -164,7 +206,7 @@ module _ (facts : Facts) (algs : List Alg) (old mid new : TreeState) (options : 
       wanted =
           All-from_recursion (IsWanted full) tags
           (each_from_members (IsWanted full) tags (λ path c. ((wanted.members path).0 c).0));
-      opened = then ∙ ap (λ xs. xs ++ paths_of facts.listing.files) opened;
+      opened = then ∙ ap (λ xs. xs ++ paths_of (to_read with_payload facts.listing.files)) opened;
       of_bag = of;
       checked = record {
         files = checked.files;
@@ -208,55 +250,113 @@ module _ (algs : List Alg) (files : List File) (summed : List SummedFile) (are :
       ≡ manifests_for algs (payload_of files)
   manifests_are = manifests_some algs (λ alg has. has)
 
+read_by : (b : Bool) (e : File) (with_payload : Bool) (files : List File) → is_to_read with_payload e.0 ≡ b
+    → to_read with_payload (map entry_of_file files) ≡ map entry_of_file (files_to_read with_payload files)
+    → to_read with_payload (map entry_of_file (e ∷ files)) ≡ map entry_of_file (files_to_read with_payload (e ∷ files))
+read_by true e with_payload files is others = grind arith
+read_by false e with_payload files is others = grind arith
+
+-- the listed files that are read are those of the bag
+read_listed : (with_payload : Bool) (files : List File)
+    → to_read with_payload (map entry_of_file files) ≡ map entry_of_file (files_to_read with_payload files)
+read_listed with_payload [] = refl
+read_listed with_payload (e ∷ files) =
+    read_by (is_to_read with_payload e.0) e with_payload files refl (read_listed with_payload files)
+
+all_listed : (files : List FileEntry) → to_read true files ≡ files
+all_listed [] = refl
+all_listed (e ∷ files) = ap (λ others. e ∷ others) (all_listed files)
+
+pub all_files : (files : List File) → files_to_read true files ≡ files
+all_files [] = refl
+all_files (e ∷ files) = ap (λ others. e ∷ others) (all_files files)
+
 -- of a bag that was checked
-module _ (algs : List Alg) (old new : TreeState) (summed : List SummedFile) (h : HasChecked algs old new summed) where
+module _ (facts : Facts) (with_payload : Bool) (algs : List Alg) (old new : TreeState) (summed : List SummedFile)
+    (h : HasChecked facts with_payload algs old new summed) (honest : IsTrue old.honest) where
+  of : IsFactsOf old.bag facts
+  of = h.of_bag honest
+
+  read_are : to_read with_payload facts.listing.files
+      ≡ map entry_of_file (files_to_read with_payload (files_of old.bag))
+  read_are =
+      ap (to_read with_payload) (listings_are_of_the_bag old.bag facts.listing of.ordered of.listing)
+      ∙ read_listed with_payload (files_of old.bag)
+
+  files_are : h.checked.files ≡ files_to_read with_payload (files_of old.bag)
+  files_are =
+      same_files old.bag h.checked.files (files_to_read with_payload (files_of old.bag)) (h.checked.listed ∙ read_are)
+      (λ e c. All-contains (λ (x : File). file old.bag x.0 ≡ Some x.1) h.checked.files e (h.checked.honest honest) c)
+      (λ e c. held_at old.bag.files e.0 e.1
+      (kept (λ (x : File). is_to_read with_payload x.0) (files_of old.bag) e c).1)
+
+  right : (e : File) → Contains (files_of old.bag) e → is_to_read with_payload e.0 ≡ true → IsRight facts e
+  right e c read =
+      All-contains (IsRight facts) h.checked.files e h.checked.right
+      (subst (λ (xs : List File). Contains xs e) (sym files_are)
+      (passed (λ (x : File). is_to_read with_payload x.0) (files_of old.bag) e read c))
+
+  -- each fault is damage of the payload
+  pub damaged : (f : Fault) → HasFault old.bag f → IsDamage f
+  damaged f has = is_damage facts old.bag of h.options h.none with_payload right f has
+
+  -- and there is none where the payload was read
+  pub none_at_all : with_payload ≡ true → HasNoFault old.bag
+  none_at_all all =
+      nothing_listed fault_cmp (IsReported (record { bag = old.bag; profile = None; options = full }))
+      (λ f has. no_fault facts old.bag of h.options h.none with_payload right f has
+      (ap (λ b. is_to_read b f.path) all))
+
+  pub opens_read : OpensRead with_payload old new
+  opens_read = (
+    h.tags,
+    h.ascend,
+    h.wanted,
+    h.opened
+        ∙ ap (λ xs. (old.openings ++ h.tags) ++ xs)
+        (ap paths_of read_are
+        ∙ map-map (λ (e : FileEntry). e.path) entry_of_file (files_to_read with_payload (files_of old.bag))),
+  )
+
+  pub sums_are : AreSummed algs (files_to_read with_payload (files_of old.bag)) summed
+  sums_are = subst (λ files. AreSummed algs files summed) files_are h.checked.sums
+
+-- so it is where all was read
+module _ (algs : List Alg) (old new : TreeState) (summed : List SummedFile)
+    (all : HasCheckedAll algs old new summed) where
   -- the manifests are those of its payload, whatever tree it is
   pub same_bytes : (made : List File) → made ≡ manifests_of algs (filter (λ one. is_payload_path one.path) summed)
       → AreOfSameBytes algs made
   same_bytes made is = record {
-    facts = h.facts;
-    bag = h.seen.0;
-    is_bag = h.seen.1;
-    facts_of = h.seen.2;
-    files = h.checked.files;
-    listed = h.checked.listed;
-    right = h.checked.right;
-    made_of = is ∙ manifests_are algs h.checked.files summed h.checked.sums;
+    facts = all.0;
+    bag = all.1.seen.0;
+    is_bag = all.1.seen.1;
+    facts_of = all.1.seen.2;
+    files = all.1.checked.files;
+    listed = all.1.checked.listed ∙ all_listed all.0.listing.files;
+    right = all.1.checked.right;
+    made_of = is ∙ manifests_are algs all.1.checked.files summed all.1.checked.sums;
   }
 
   module _ (honest : IsTrue old.honest) where
-    of : IsFactsOf old.bag h.facts
-    of = h.of_bag honest
-
-    files_are : h.checked.files ≡ files_of old.bag
-    files_are =
-        same_files old.bag h.checked.files (files_of old.bag)
-        (h.checked.listed ∙ listings_are_of_the_bag old.bag h.facts.listing of.ordered of.listing)
-        (λ e c. All-contains (λ (x : File). file old.bag x.0 ≡ Some x.1) h.checked.files e (h.checked.honest honest) c)
-        (λ e c. held_at old.bag.files e.0 e.1 c)
-
     pub of_the_bag : (made : List File)
         → made ≡ manifests_of algs (filter (λ one. is_payload_path one.path) summed)
         → made ≡ manifests_for algs (payload old.bag)
     of_the_bag made is =
-        is ∙ manifests_are algs h.checked.files summed h.checked.sums
-        ∙ ap (λ files. manifests_for algs (payload_of files)) files_are
+        is ∙ manifests_are algs (files_to_read true (files_of old.bag)) summed
+        (sums_are all.0 true algs old new summed all.1 honest)
+        ∙ ap (λ files. manifests_for algs (payload_of files)) (all_files (files_of old.bag))
 
     pub has_no_fault : HasNoFault old.bag
-    has_no_fault =
-        nothing_listed fault_cmp (IsReported (record { bag = old.bag; profile = None; options = full }))
-        (λ f has. no_fault h.facts old.bag of h.options h.none
-        (λ e c. All-contains (IsRight h.facts) h.checked.files e h.checked.right
-        (subst (λ (xs : List File). Contains xs e) (sym files_are) c))
-        f has.0 has)
+    has_no_fault = none_at_all all.0 true algs old new summed all.1 honest refl
 
     pub opens_twice : OpensTwice old new
-    opens_twice = (
-      h.tags,
-      h.ascend,
-      h.wanted,
-      h.opened
-          ∙ ap (λ xs. (old.openings ++ h.tags) ++ xs)
-          (ap paths_of (listings_are_of_the_bag old.bag h.facts.listing of.ordered of.listing)
-          ∙ map-map (λ (e : FileEntry). e.path) entry_of_file (files_of old.bag)),
-    )
+    opens_twice =
+        let read = opens_read all.0 true algs old new summed all.1 honest in (
+          read.0,
+          read.1,
+          read.2,
+          read.3
+              ∙ ap (λ files. (old.openings ++ read.0) ++ map (λ (e : File). e.0) files)
+              (all_files (files_of old.bag)),
+        )

@@ -16,6 +16,7 @@ pub use Rattle.std.specs.FinMap.{is_sorted}
 pub use Rattle.std.specs.FinMap.Entries.{below_all, is_some-find}
 pub use Rattle.std.specs.FinSet.{contains-remove, same_set}
 pub use Rattle.std.specs.List.{AllByRecursion, list_any}
+pub use Rattle.std.specs.Option.{unwrap_or}
 pub use Rattle.std.specs.Ordering.{eq_by_cmp}
 pub use Rattle.std.specs.Prelude.{All, filter}
 pub use Rattle.bag_facts.proofs.Mapped.{contains_mapped, mapped_contains}
@@ -45,10 +46,11 @@ pub use Rattle.bag_tree.specs.Moved.{is_within}
 pub use Rattle.bag_tree.specs.Steps.{Files, create}
 pub use Rattle.bag_tree.specs.declared.file_change.FileChange.{FileChange}
 pub use Rattle.bag_tree.specs.declared.file_change.FileChange.TheVariants.{Put, Remove}
-pub use Rattle.bag_renew.specs.Changes.{after, changes, clearing, closing, dropping, opening, put, putting}
+pub use Rattle.bag_renew.specs.Changes.{after, changes, clearing, closing, dropping, opening, put, putting, unkept}
 pub use Rattle.bag_renew.specs.Laws.{ChangesKeepPayload, ChangesRenew, HasKnownManifests, IsOutOfTheWay}
-pub use Rattle.bag_renew.specs.Renewed.{File, algs_where, begun_file, has_payload_manifest, has_tag_manifest, is_new_alg}
-pub use Rattle.bag_renew.specs.Renewed.{declaration_file, info_file, kept_tag_files, manifest}
-pub use Rattle.bag_renew.specs.Renewed.{named_tag_files, new_algs, new_tag_files, payload_manifests}
-pub use Rattle.bag_renew.specs.Renewed.{renewed, stays, tag_manifests}
+pub use Rattle.bag_renew.specs.Renewed.{File, algs_where, begun_file, declaration_file, has_payload_manifest}
+pub use Rattle.bag_renew.specs.Renewed.{has_tag_manifest, info_files, is_kept, is_new_alg, keeps, kept_or}
+pub use Rattle.bag_renew.specs.Renewed.{kept_tag_files, manifest, named_tag_files, new_algs, new_elements}
+pub use Rattle.bag_renew.specs.Renewed.{new_tag_files, payload_manifest, payload_manifests, renewed, stays}
+pub use Rattle.bag_renew.specs.Renewed.{tag_manifests, with_path, writes_info}
 pub use Rattle.bag_renew.specs.declared.renewal.Renewal.{Renewal}

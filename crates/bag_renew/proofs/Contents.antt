@@ -1,12 +1,7 @@
 -- What stands in the renewed bag.
-use Rattle.bag_renew.proofs.Common.{◌≡◌, inl, inr, ℕ, List}
-use Rattle.bag_renew.proofs.Common.{Some, sym, ap, ◌∙◌, subst}
-use Rattle.bag_renew.proofs.Common.{nat_list_cmp_total, find, get-from_entries}
-use Rattle.bag_renew.proofs.Common.{text_cmp, paths_differ}
-use Rattle.bag_renew.proofs.Common.{is_payload_path}
-use Rattle.bag_renew.proofs.Common.{Payload, Tag, TagName, Declaration, Info, Fetch, Manifest, Bag, file}
-use Rattle.bag_renew.proofs.Common.{stays}
-use Rattle.bag_renew.proofs.Common.{Renewal}
+use Rattle.bag_renew.proofs.Common.{◌≡◌, inl, inr, ℕ, List, Some, sym, ap, ◌∙◌, subst, nat_list_cmp_total, find}
+use Rattle.bag_renew.proofs.Common.{get-from_entries, text_cmp, paths_differ, is_payload_path, Payload, Tag}
+use Rattle.bag_renew.proofs.Common.{TagName, Declaration, Info, Fetch, Manifest, Bag, file, stays, Renewal}
 use Rattle.bag_renew.specs.Renewed.{renewed}
 use Rattle.bag_renew.specs.Contents.{IsNew, IsNewText, IsOld, RenewedHasTheseFiles, Stands}
 use Rattle.bag_renew.proofs.Found.{found, found_alone}
@@ -24,7 +19,7 @@ module _ (bag : Bag) (renewal : Renewal) where
   one_new_text (Manifest Payload alg) c d h k = h.1 ∙ sym k.1
   one_new_text (Manifest Tag alg) c d h k = h.1 ∙ sym k.1
   one_new_text Declaration c d h k = h ∙ sym k
-  one_new_text Info c d h k = h ∙ sym k
+  one_new_text Info c d h k = let both : Some c ≡ Some d = sym h ∙ k in cc
   one_new_text Fetch c d h k = absurd h
 
   written : (tag : TagName) (c : List ℕ) → IsNewText bag renewal tag c → IsWritten tag

@@ -1,8 +1,6 @@
 -- Which paths stay.
-use Rattle.bag_renew.proofs.Common.{◌≡◌, true}
-use Rattle.bag_renew.proofs.Common.{tag_path}
-use Rattle.bag_renew.proofs.Common.{TagName, Declaration, Info, Fetch, Manifest}
-use Rattle.bag_renew.proofs.Common.{stays}
+use Rattle.bag_renew.proofs.Common.{arith, ◌≡◌, ◌≢◌, ap, get_or, true, tag_path, Payload, Tag, TagName}
+use Rattle.bag_renew.proofs.Common.{Declaration, Info, Fetch, Manifest, begun_file, stays}
 use Rattle.bag_renew.proofs.NoManifest.{no_manifest}
 pub use Rattle.bag_renew.proofs.NoPayload.{no_payload_name, no_payload_tag}
 pub use Rattle.bag_renew.proofs.StaysSo.{itself, so_it_stays, stays_so}
@@ -18,3 +16,11 @@ written_goes Declaration written e = itself (tag_path Declaration) (stays_so (ta
 written_goes Info written e = itself (tag_path Info) (stays_so (tag_path Info) e).info
 written_goes Fetch written e = written
 written_goes (Manifest kind alg) written e = no_manifest kind alg e
+
+-- no tag file has the name of the begun file
+pub no_begun : (tag : TagName) → begun_file ≢ tag_path tag
+no_begun (Manifest Payload alg) = λ same. absurd (omega (arith, ap (λ t. get_or t 0 0) same))
+no_begun (Manifest Tag alg) = λ same. absurd (omega (arith, ap (λ t. get_or t 0 0) same))
+no_begun Declaration = λ same. absurd (omega (arith, ap (λ t. get_or t 0 0) same))
+no_begun Info = λ same. absurd (omega (arith, ap (λ t. get_or t 0 0) same))
+no_begun Fetch = λ same. absurd (omega (arith, ap (λ t. get_or t 0 0) same))

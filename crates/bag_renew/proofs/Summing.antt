@@ -3,7 +3,9 @@ use Rattle.bag_renew.proofs.Common.{◌≡◌, ◌<◌, ◌≤◌, ◌+◌, ◌+
 use Rattle.bag_renew.proofs.Common.{contains_first}
 use Rattle.bag_renew.proofs.Common.{sym, ap, ◌∙◌, subst, arith, append_assoc, append-nil, map-append, All-append, All-cons}
 use Rattle.bag_renew.proofs.Common.{All-nil, Alg, file}
+use Rattle.bag_renew.proofs.Common.{Bool, cond, true, false}
 use Rattle.std.proofs.lemmas.List.{take_all}
+use Rattle.std.proofs.lemmas.List.Elements.{filter-append}
 use Rattle.bag_facts.proofs.Mapped.{take_one_more}
 use Rattle.bag_facts.proofs.Reading.{keeps_itself, keeps_on}
 use Rattle.bag_facts.specs.Wanted.{paths_of}
@@ -20,7 +22,7 @@ use Rattle.bag_renew.specs.declared.checked.Unchecked.{Unchecked}
 use Rattle.bag_renew.specs.declared.checked.Unchecked.TheVariants.{Faulty, Stopped}
 use Rattle.bag_renew.specs.Renewed.{File}
 use Rattle.bag_renew.specs.Summed.{AreChecked, AreSummed, HasItsSums, IsCheckedFile, IsFaultyFile, IsGivenFor}
-use Rattle.bag_renew.specs.Summed.{IsRight, entry_of_file}
+use Rattle.bag_renew.specs.Summed.{IsRight, entry_of_file, is_to_read, to_read}
 use Rattle.bag_renew.specs.declared.summed.SummedFile.{SummedFile}
 
 summed_more : (algs : List Alg) (files : List File) (summed : List SummedFile) (e : File) (one : SummedFile)
@@ -31,16 +33,16 @@ summed_more algs (x ∷ files) (y ∷ summed) e one h s = (h.0, summed_more algs
 summed_more algs _ _ e one h s = absurd h
 
 -- the first of the listed files were checked and summed
-pub record ChecksFirst (facts : Facts) (files : List FileEntry) (count : ℕ) (algs : List Alg) (old new : TreeState)
-    (sums : List SummedFile) : Type 0 where
+pub record ChecksFirst (facts : Facts) (files : List FileEntry) (count : ℕ) (with_payload : Bool) (algs : List Alg)
+    (old new : TreeState) (sums : List SummedFile) : Type 0 where
   pub keeps : Keeps old new
   pub no_failure : NothingFailed old new
-  pub opened : new.openings ≡ old.openings ++ paths_of (take count files)
-  pub checked : AreChecked old facts (take count files) algs sums
+  pub opened : new.openings ≡ old.openings ++ paths_of (to_read with_payload (take count files))
+  pub checked : AreChecked old facts (to_read with_payload (take count files)) algs sums
 
-pub checks_none : (facts : Facts) (files : List FileEntry) (algs : List Alg) (old : TreeState)
-    → ChecksFirst facts files 0 algs old old []
-checks_none facts files algs old = record {
+pub checks_none : (facts : Facts) (files : List FileEntry) (with_payload : Bool) (algs : List Alg) (old : TreeState)
+    → ChecksFirst facts files 0 with_payload algs old old []
+checks_none facts files with_payload algs old = record {
   keeps = keeps_itself old;
   no_failure = nothing_asked old;
   opened = sym (append-nil old.openings);
@@ -53,15 +55,38 @@ checks_none facts files algs old = record {
   };
 }
 
-module _ (facts : Facts) (files : List FileEntry) (i : ℕ) (entry : FileEntry) (algs : List Alg) (old mid new : TreeState)
-    (summed : List SummedFile)
+module _ (facts : Facts) (files : List FileEntry) (i : ℕ) (entry : FileEntry) (with_payload : Bool) (algs : List Alg)
+    (old mid new : TreeState) (summed : List SummedFile)
     (lt : i < length files) (is : entry ≡ get_or files i entry)
-    (before : ChecksFirst facts files i algs old mid summed) where
-  next : take (i + 1) files ≡ take i files ++ entry ∷ []
-  next = take_one_more files i entry lt is
+    (before : ChecksFirst facts files i with_payload algs old mid summed) where
+  listed_next : (b : Bool) → is_to_read with_payload entry.path ≡ b
+      → to_read with_payload (take (i + 1) files) ≡ to_read with_payload (take i files) ++ cond b (entry ∷ []) []
+  listed_next b read =
+      ap (to_read with_payload) (take_one_more files i entry lt is)
+      ∙ filter-append (λ (e : FileEntry). is_to_read with_payload e.path) (take i files) (entry ∷ [])
+      ∙ ap (λ c. to_read with_payload (take i files) ++ cond c (entry ∷ []) []) read
+
+  -- a file isn't read
+  pub passes_over : is_to_read with_payload entry.path ≡ false
+      → ChecksFirst facts files (i + 1) with_payload algs old mid summed
+  passes_over other =
+      let same = listed_next false other ∙ append-nil (to_read with_payload (take i files)) in record {
+        keeps = before.keeps;
+        no_failure = before.no_failure;
+        opened = before.opened ∙ ap (λ xs. old.openings ++ paths_of xs) (sym same);
+        checked = subst (λ xs. AreChecked old facts xs algs summed) (sym same) before.checked;
+      }
+
+module _ (facts : Facts) (files : List FileEntry) (i : ℕ) (entry : FileEntry) (with_payload : Bool) (algs : List Alg)
+    (old mid new : TreeState) (summed : List SummedFile)
+    (lt : i < length files) (is : entry ≡ get_or files i entry)
+    (before : ChecksFirst facts files i with_payload algs old mid summed)
+    (read : is_to_read with_payload entry.path ≡ true) where
+  next : to_read with_payload (take (i + 1) files) ≡ to_read with_payload (take i files) ++ entry ∷ []
+  next = listed_next facts files i entry with_payload algs old mid new summed lt is before true read
 
   added : (one : SummedFile) → IsCheckedFile mid facts entry algs one
-      → AreChecked old facts (take (i + 1) files) algs (summed ++ one ∷ [])
+      → AreChecked old facts (to_read with_payload (take (i + 1) files)) algs (summed ++ one ∷ [])
   added one e =
       let so_far = before.checked in
       let last : File = (entry.path, e.content) in record {
@@ -79,14 +104,14 @@ module _ (facts : Facts) (files : List FileEntry) (i : ℕ) (entry : FileEntry) 
       }
 
   opened_more : new.openings ≡ mid.openings ++ entry.path ∷ []
-      → new.openings ≡ old.openings ++ paths_of (take (i + 1) files)
+      → new.openings ≡ old.openings ++ paths_of (to_read with_payload (take (i + 1) files))
   opened_more once = grind (arith, append_assoc, next, map-append)
 
   -- one more was
   pub checks_one_more : (after : List SummedFile) (one : SummedFile) → after ≡ summed ++ one ∷ [] → Keeps mid new
       → NothingFailed mid new
       → new.openings ≡ mid.openings ++ entry.path ∷ [] → IsCheckedFile mid facts entry algs one
-      → ChecksFirst facts files (i + 1) algs old new after
+      → ChecksFirst facts files (i + 1) with_payload algs old new after
   checks_one_more after one e k no_failure once s = grind (arith, keeps_on, nothing_then, opened_more, added)
 
 -- a file was found to have another digest, or was refused
@@ -107,11 +132,12 @@ module _ (facts : Facts) (state : TreeState) where
       (h (keeps.honest ∙ honest) (subst (λ bag. IsFactsOf bag facts) (sym keeps.bag) of) deep)
 
 -- all were gone through
-module _ (facts : Facts) (files : List FileEntry) (count : ℕ) (algs : List Alg) (old new : TreeState)
-    (summed : List SummedFile)
-    (le : length files ≤ count) (all : ChecksFirst facts files count algs old new summed) where
-  pub opens_all : new.openings ≡ old.openings ++ paths_of files
-  opens_all = all.opened ∙ ap (λ xs. old.openings ++ paths_of xs) (take_all count files le)
+module _ (facts : Facts) (files : List FileEntry) (count : ℕ) (with_payload : Bool) (algs : List Alg)
+    (old new : TreeState) (summed : List SummedFile)
+    (le : length files ≤ count) (all : ChecksFirst facts files count with_payload algs old new summed) where
+  pub opens_all : new.openings ≡ old.openings ++ paths_of (to_read with_payload files)
+  opens_all = all.opened ∙ ap (λ xs. old.openings ++ paths_of (to_read with_payload xs)) (take_all count files le)
 
-  pub checks_all : AreChecked old facts files algs summed
-  checks_all = subst (λ xs. AreChecked old facts xs algs summed) (take_all count files le) all.checked
+  pub checks_all : AreChecked old facts (to_read with_payload files) algs summed
+  checks_all =
+      subst (λ xs. AreChecked old facts (to_read with_payload xs) algs summed) (take_all count files le) all.checked

@@ -1,187 +1,84 @@
--- The renewed bag of a bag without a fault has none, where its bag-info.txt has none.
-use Rattle.bag_renew.proofs.Common.{◌≡◌, ◌≢◌, ◌∷◌, ◌∙◌, inl, inr, ℕ, Bool, true, false, List, [], Option, None, Some}
-use Rattle.bag_renew.proofs.Common.{is_some, refl, ap, sym, subst, Contains, codes, false≢true, contains_first}
-use Rattle.bag_renew.proofs.Common.{contains_nothing, manifest_name, tag_path, Kind, Payload, TagName, Declaration}
-use Rattle.bag_renew.proofs.Common.{Info, Fetch, Manifest, Alg, name, name_is_text, name_named, Bag, file}
-use Rattle.bag_renew.proofs.Common.{has_folder, paths_differ, payload, manifest, new_algs}
-use Rattle.bag_renew.proofs.Common.{HasKnownManifests, Renewal}
+-- A fault of the renewed bag is damage that the bag had, by a manifest that is kept.
+use Rattle.bag_renew.proofs.Common.{◌≡◌, ◌≢◌, ◌∷◌, ◌∙◌, inl, inr, ℕ, true, not, List, [], Option, None}
+use Rattle.bag_renew.proofs.Common.{Some, is_some, refl, ap, sym, subst, Contains, codes, false≢true, contains_first}
+use Rattle.bag_renew.proofs.Common.{contains_nothing, false_from_ne_true, and_from, is_payload_path, tag_path}
+use Rattle.bag_renew.proofs.Common.{Payload, Tag, TagName, Declaration, Info, Fetch, Manifest, Alg, name, name_is_text}
+use Rattle.bag_renew.proofs.Common.{name_named, Bag, HasFile, file, has_folder, paths_differ, payload, manifest}
+use Rattle.bag_renew.proofs.Common.{is_kept, is_new_alg, new_algs, payload_manifest, stays, Renewal}
 use Rattle.std.proofs.Common.{◌-◌}
 use Rattle.std.specs.List.{slice_get}
 use Rattle.bag_text.proofs.ListOf.{nothing_listed}
 use Rattle.bag_text.specs.Alg.{alg_named}
+use Rattle.bag_text.specs.Lines.{lines_of_file}
 use Rattle.bag_text.specs.Text.{IsNoText}
 use Rattle.bag_text.specs.declared.code.Code.{Code}
-use Rattle.bag_text.specs.declared.code.Code.TheVariants.{AlgorithmUnsupported, FetchNotInManifest, NameClash}
-use Rattle.bag_text.specs.declared.code.Code.TheVariants.{NoDeclaration, NoPayloadFolder, NoPayloadManifest, NotUtf8}
-use Rattle.bag_read.proofs.TagPaths.{alg_named_is}
-use Rattle.bag_read.specs.Declaration.{IsDeclarationFault}
-use Rattle.bag_read.specs.LineFault.{not_utf8}
-use Rattle.bag_facts.specs.FaultOrder.{fault_cmp}
-use Rattle.bag_facts.specs.declared.fault.Fault.{Fault}
-use Rattle.bag_report.specs.Report.{Is, IsReported, asks}
-use Rattle.bag_stages.specs.DeclarationStage.{DeclarationHolds, InDeclaration, IsOfDeclaration}
-use Rattle.bag_stages.specs.FaultFields.{in_line}
-use Rattle.bag_stages.specs.FetchStage.{FetchHolds, InFetch, IsOfFetch}
-use Rattle.bag_stages.specs.PartsStage.{IsOfParts, PartHolds}
-use Rattle.bag_stages.specs.TagFiles.{HasManifest, lines_or_none}
-use Rattle.bag_tags.proofs.DeclarationReadAgain.{declaration_again}
-use Rattle.bag_tags.proofs.ManifestReadAgain.{manifest_again}
-use Rattle.bag_tags.specs.Declaration.{declaration_text}
-use Rattle.bag_renew.specs.Contents.{IsNewText}
-use Rattle.bag_renew.specs.Renewed.{entries_of, renewed}
-use Rattle.bag_renew.specs.Telling.{TellsItsFiles, to_name}
-use Rattle.bag_renew.specs.Valid.{CanRenew, HasGoodInfo, HasNoFault, RenewedIsValid, full}
-use Rattle.bag_renew.proofs.Contents.{these_files}
-use Rattle.bag_renew.proofs.RenewedTells.{tells}
-use Rattle.bag_renew.proofs.Staying.{IsWritten, no_payload_tag, written_goes}
-use Rattle.bag_renew.proofs.Common.{HasFile, Tag, false_from_ne_true, has_file, is_payload_path, not, stays}
-use Rattle.bag_text.specs.declared.code.Code.TheVariants.{FetchEscape, FetchLine, FetchOutsidePayload}
-use Rattle.bag_text.specs.declared.code.Code.TheVariants.{FetchUnsafePath, PayloadFileMissing}
+use Rattle.bag_text.specs.declared.code.Code.TheVariants.{AlgorithmUnsupported, DeclarationLine, DeclarationLineCount}
+use Rattle.bag_text.specs.declared.code.Code.TheVariants.{DeclarationNotUtf8, EncodingUnsupported, FetchEscape}
+use Rattle.bag_text.specs.declared.code.Code.TheVariants.{FetchLine}
+use Rattle.bag_text.specs.declared.code.Code.TheVariants.{FetchNotInManifest, FetchOutsidePayload, FetchUnsafePath}
+use Rattle.bag_text.specs.declared.code.Code.TheVariants.{NameClash, NoDeclaration, NoPayloadFolder, NoPayloadManifest}
+use Rattle.bag_text.specs.declared.code.Code.TheVariants.{NotUtf8, PayloadSumDiffers, TagSumDiffers, VersionUnsupported}
 use Rattle.bag_text.specs.declared.rules.Rules.{Rules}
 use Rattle.bag_text.specs.declared.rules.Rules.TheVariants.{V10}
 use Rattle.bag_read.proofs.FetchLineParts.{lines_read}
+use Rattle.bag_read.proofs.ManifestEntries.{entry_named}
 use Rattle.bag_read.proofs.ManifestName.{is_named}
+use Rattle.bag_read.specs.Declaration.{IsDeclarationFault}
 use Rattle.bag_read.specs.Fetch.{IsFetch, IsFetchFault}
+use Rattle.bag_read.specs.LineFault.{not_utf8}
+use Rattle.bag_read.specs.Manifest.{IsEntry}
 use Rattle.bag_read.specs.declared.fetch.FetchEntry.{FetchEntry}
-use Rattle.bag_facts.specs.Facts.{rules_in}
-use Rattle.bag_stages.proofs.BagLists.{some_alg, there_or_not}
-use Rattle.bag_stages.proofs.HasLists.{Decided}
-use Rattle.bag_stages.proofs.LeftOut.{by_one, left_out_by, not_both}
-use Rattle.bag_stages.specs.CompletenessStage.{CompletenessHolds, IsOfCompleteness}
-use Rattle.bag_stages.specs.FetchStage.{HasFetch, fetch_txt}
+use Rattle.bag_read.specs.declared.manifest.ManifestEntry.{ManifestEntry}
+use Rattle.bag_facts.specs.FaultOrder.{fault_cmp}
+use Rattle.bag_facts.specs.Facts.{IsByV10, rules_in}
+use Rattle.bag_facts.specs.declared.fault.Fault.{Fault}
+use Rattle.bag_report.specs.Report.{Is, asks}
+use Rattle.bag_stages.proofs.LeftOut.{left_out_by, not_both}
+use Rattle.bag_stages.specs.DeclarationStage.{DeclarationHolds, InDeclaration, IsOfDeclaration}
+use Rattle.bag_stages.specs.FaultFields.{At, in_line}
+use Rattle.bag_stages.specs.FetchStage.{FetchHolds, HasFetch, InFetch, IsOfFetch, fetch_txt}
 use Rattle.bag_stages.specs.LeftOut.{IsLeftOut}
-use Rattle.bag_stages.specs.TagFiles.{HasSupported, Names, lines_in, manifest_of, named_in}
+use Rattle.bag_stages.specs.PartsStage.{IsOfParts, PartHolds}
+use Rattle.bag_stages.specs.TagFiles.{lines_in, lines_or_none, manifest_of}
+use Rattle.bag_stages.specs.ValidityStage.{Differs, IsOfValidity, ValidityHolds, expected_and_found}
+use Rattle.bag_tags.proofs.DeclarationReadAgain.{declaration_again}
+use Rattle.bag_tags.specs.Declaration.{declaration_text}
 use Rattle.bag_tree.specs.Bag.{LacksFile}
-use Rattle.bag_renew.proofs.Found.{content_of, same_option}
-use Rattle.bag_renew.proofs.RenewedTells.{no_manifest_name}
-use Rattle.bag_renew.proofs.Staying.{so_it_stays}
-use Rattle.bag_renew.proofs.Telling.{is_there, listed_named}
-use Rattle.bag_renew.proofs.Telling.{no_completeness_fault, no_manifest_fault, no_validity_fault, writable}
+use Rattle.bag_tree.specs.Digest.{digest}
+use Rattle.bag_renew.specs.Contents.{IsNewText}
+use Rattle.bag_renew.specs.Renewed.{is_kept_alg, renewed}
+use Rattle.bag_renew.specs.Telling.{NamesItsFiles, NewManifestsGiveDigests}
+use Rattle.bag_renew.specs.Valid.{CanRenew, HasGoodInfo, IsFaultOf, IsOldDamage}
+use Rattle.bag_renew.specs.Valid.{RenewedHasOldFaults, RenewedIsValid, full}
+use Rattle.bag_renew.proofs.AlgsWhere.{passes}
+use Rattle.bag_renew.proofs.Contents.{these_files}
+use Rattle.bag_renew.proofs.Found.{same_option}
+use Rattle.bag_renew.proofs.KeptOr.{kept_or_written, of_v10}
+use Rattle.bag_renew.proofs.OldBag.{fetched, has_data, known, names_its_payload, no_declaration_fault, no_fetch_fault}
+use Rattle.bag_renew.proofs.OldBag.{old_text}
+use Rattle.bag_renew.proofs.RenewedNames.{declared, give_digests, names_files, new_text, same_file}
+use Rattle.bag_renew.proofs.Staying.{no_payload_tag, so_it_stays}
+use Rattle.bag_renew.proofs.TagNames.{no_manifest_name}
+use Rattle.bag_renew.proofs.Telling.{no_completeness_fault, no_line, no_manifest_fault, none_differs, text_of_entry}
+use Rattle.bag_renew.proofs.Telling.{there_named}
 
 some_member : (algs : List Alg) → algs ≢ [] → (alg : Alg) × Contains algs alg
 some_member [] some = absurd (some refl)
 some_member (alg ∷ algs) some = (alg, contains_first alg algs)
 
-no_line : (k : ℕ) (line : List ℕ) → slice_get {X = List ℕ} [] k ≡ Some line → ⊥
-no_line k line e = cc
-
--- ---- what a bag without a fault has
-
-module _ (bag : Bag) (good : HasNoFault bag) where
-  none : (f : Fault) → Is bag None f → asks full f.code ≡ true → ⊥
-  none f is asked = contains_nothing f ((good.members f).1 (is, asked))
-
-  no_folder : has_folder bag (codes "data") ≡ false → ⊥
-  unfolding Is IsOfParts PartHolds asks
-  no_folder lacks =
-      none (record { code = NoPayloadFolder; path = []; alg = None; line = 0; detail = [] })
-      (inr (inl (record { path_is = refl; alg_is = refl; line_is = refl; detail_is = refl }, lacks))) refl
-
-  has_data : (b : Bool) → has_folder bag (codes "data") ≡ b → has_folder bag (codes "data") ≡ true
-  has_data true there = there
-  has_data false lacks = absurd (no_folder lacks)
-
-  unsupported : (kind : Kind) (alg : List ℕ) → HasManifest bag kind alg → alg_named alg ≡ None → ⊥
-  unfolding Is IsOfParts PartHolds asks
-  unsupported kind alg has no_alg =
-      none (record { code = AlgorithmUnsupported; path = manifest_name kind alg; alg = None; line = 0; detail = alg })
-      (inr (inl (kind, alg, record { path_is = refl; alg_is = refl; line_is = refl; detail_is = refl }, has, no_alg)))
-      refl
-
-  known_by : (kind : Kind) (alg : List ℕ) → HasManifest bag kind alg → (o : Option Alg) → alg_named alg ≡ o
-      → (a : Alg) × (alg ≡ name a)
-  known_by kind alg has (Some a) at = (a, alg_named_is alg a at)
-  known_by kind alg has None at = absurd (unsupported kind alg has at)
-
-  pub known : HasKnownManifests bag
-  known kind alg has = known_by kind alg has (alg_named alg) refl
-
-  -- each tag file that is read as lines is a text
-  pub old_text : (tag : TagName) (c : List ℕ) → tag ≢ Declaration → file bag (tag_path tag) ≡ Some c → IsNoText c → ⊥
-  unfolding Is IsOfParts PartHolds asks
-  old_text tag c other at bad =
-      none (record { code = NotUtf8; path = tag_path tag; alg = None; line = 0; detail = [] })
-      (inr (inl (
-        record { path_is = refl; alg_is = refl; line_is = refl; detail_is = refl },
-        ((tag, other, refl), (c, at, bad)),
-      ))) refl
-
-  -- a payload manifest is there
-  has_or_not : (alg : Alg) → Decided (HasSupported bag Payload alg)
-  has_or_not alg = by_test (has_file bag (manifest_of Payload alg)) refl
-    where
-      by_test : (b : Bool) → has_file bag (manifest_of Payload alg) ≡ b → Decided (HasSupported bag Payload alg)
-      by_test true there = inl there
-      by_test false lacks = inr (λ there. false≢true (sym lacks ∙ there))
-
-  no_manifest_there : ((alg : Alg) → ¬ (HasSupported bag Payload alg)) → ⊥
-  unfolding Is IsOfParts PartHolds asks
-  no_manifest_there lacks =
-      none (record { code = NoPayloadManifest; path = []; alg = None; line = 0; detail = [] })
-      (inr (inl (
-        record { path_is = refl; alg_is = refl; line_is = refl; detail_is = refl },
-        λ alg has.
-            let a = known Payload alg has in lacks a.0 (subst (λ t. HasFile bag (manifest_name Payload t)) a.1 has.1),
-      ))) refl
-
-  some_manifest : (alg : Alg) × HasSupported bag Payload alg
-  some_manifest = elim (some_alg (λ alg. HasSupported bag Payload alg) has_or_not) [
-    | inl there ↦ there
-    | inr lacks ↦ absurd (no_manifest_there (λ alg has. lacks (alg, has)))
-  ]
-
-  module _ (e : FetchEntry) (has : HasFetch bag e) (v10 : rules_in bag ≡ V10) where
-    not_left_out : (alg : Alg) → HasSupported bag Payload alg → ¬ (Names bag Payload alg e.path) → ⊥
-    unfolding Is IsOfFetch FetchHolds asks
-    not_left_out alg there unnamed =
-        none (record { code = FetchNotInManifest; path = fetch_txt; alg = Some alg; line = e.line; detail = e.path })
-        (inr (inr (inr (inl (
-          e,
-          record { path_is = refl; alg_is = refl; line_is = refl; detail_is = refl },
-          has,
-          by_one bag e.path (rules_in bag) alg v10 (there, unnamed),
-        ))))) refl
-
-    not_missing : (alg : Alg) → Names bag Payload alg e.path → has_file bag e.path ≡ false → ⊥
-    unfolding Is IsOfCompleteness CompletenessHolds asks
-    not_missing alg names lacks =
-        none (record { code = PayloadFileMissing; path = e.path; alg = Some alg; line = 0; detail = [] })
-        (inr (inr (inr (inr (inr (inl (
-          alg,
-          record { path_is = refl; alg_is = refl; line_is = refl; detail_is = refl },
-          names,
-          lacks,
-        ))))))) refl
-
-    -- a file that is to be fetched is there
-    fetched : (b : Bool) → has_file bag e.path ≡ b → HasFile bag e.path
-    fetched true there = there
-    fetched false lacks =
-        let some = some_manifest in
-        elim (there_or_not (named_in bag Payload some.0) e.path) [
-          | inl names ↦ absurd (not_missing some.0 names lacks)
-          | inr unnamed ↦ absurd (not_left_out some.0 some.1 unnamed)
-        ]
-
 module _ (bag : Bag) (renewal : Renewal) (can : CanRenew bag renewal) (info : HasGoodInfo bag renewal) where
   abbrev now : Bag
   now = renewed bag renewal
 
-  it_tells : TellsItsFiles now
-  it_tells = tells bag renewal can.is_bag (known bag can.no_fault) can.unmarked
+  names : NamesItsFiles now
+  names =
+      names_files bag renewal can.is_bag can.unmarked (known bag can.damaged) (names_its_payload bag can.damaged)
+
+  right : NewManifestsGiveDigests bag renewal
+  right = give_digests bag renewal can.is_bag can.unmarked
 
   there : (tag : TagName) (c : List ℕ) → IsNewText bag renewal tag c → file now (tag_path tag) ≡ Some c
   there tag c text = (these_files bag renewal (tag_path tag) c).1 (inr (tag, refl, text))
-
-  -- a tag file that is written has its text
-  held : (tag : TagName) (c : List ℕ) → IsWritten tag → file now (tag_path tag) ≡ Some c → IsNewText bag renewal tag c
-  held tag c written at = elim ((these_files bag renewal (tag_path tag) c).0 at) [
-    | inl old ↦ elim old.1 [
-      | inl is ↦ absurd (no_payload_tag tag is)
-      | inr is ↦ absurd (written_goes tag written is)
-    ]
-    | inr new ↦ subst (λ t. IsNewText bag renewal t c) (paths_differ new.0 tag (sym new.1)) new.2
-  ]
 
   fetch_stays : stays (tag_path Fetch) ≡ true
   fetch_stays = so_it_stays (tag_path Fetch) (record {
@@ -199,7 +96,7 @@ module _ (bag : Bag) (renewal : Renewal) (can : CanRenew bag renewal) (info : Ha
   same_fetch : file now (tag_path Fetch) ≡ file bag (tag_path Fetch)
   same_fetch = same_option (file now (tag_path Fetch)) (file bag (tag_path Fetch)) (λ c at.
       elim ((these_files bag renewal (tag_path Fetch) c).0 at) [
-        | inl old ↦ old.0
+        | inl stayed ↦ stayed.0
         | inr new ↦ absurd (subst (λ t. IsNewText bag renewal t c) (paths_differ new.0 Fetch (sym new.1)) new.2)
       ]) (λ c at. (these_files bag renewal (tag_path Fetch) c).1 (inl (at, inr fetch_stays)))
 
@@ -209,40 +106,58 @@ module _ (bag : Bag) (renewal : Renewal) (can : CanRenew bag renewal) (info : Ha
 
   is_text : (tag : TagName) (c : List ℕ) → tag ≢ Declaration → file now (tag_path tag) ≡ Some c → IsNoText c → ⊥
   is_text Declaration c other at bad = other refl
-  is_text Info c other at bad = false≢true (sym (subst IsNoText (held Info c tt at) bad) ∙ info.text)
-  is_text Fetch c other at bad =
-      old_text bag can.no_fault Fetch c (λ same. cc) (sym same_fetch ∙ at) bad
-  is_text (Manifest kind alg) c other at bad =
-      let written = writable now it_tells kind alg in
-      (manifest_again kind alg (entries_of alg (to_name now kind)) written.0 written.1).1 not_utf8
-      (refl, refl, subst IsNoText (it_tells.told kind alg c at) bad)
+  is_text Info c other at bad = false≢true (sym bad ∙ info.text c at)
+  is_text Fetch c other at bad = old_text bag can.damaged Fetch c (λ same. cc) (sym same_fetch ∙ at) bad
+  is_text (Manifest kind alg) c other at bad = (names.told kind alg c at).no_fault not_utf8 (refl, refl, bad)
 
   module _ (f : Fault) where
-    declaration_reads : InDeclaration now f → ⊥
-    declaration_reads (at, alg, (bytes, stands, wrong)) =
-        declaration_again.2 (in_line f)
-        (subst (λ b. IsDeclarationFault b (in_line f)) (held Declaration bytes tt stands) wrong)
+    -- ---- the declaration: the old one, or that of 1.0
 
-    declared : (code : Code) → DeclarationHolds now f code → ⊥
-    unfolding DeclarationHolds
-    declared NoDeclaration (at, lacks) =
-        false≢true (sym lacks ∙ ap is_some (there Declaration declaration_text refl))
-    declared _ h = search declaration_reads
+    module _ (same : file now (tag_path Declaration) ≡ file bag (tag_path Declaration)) where
+      in_old : InDeclaration now f → InDeclaration bag f
+      in_old (at, alg, (bytes, stands, wrong)) = (at, alg, (bytes, sym same ∙ stands, wrong))
 
-    no_declaration_fault : IsOfDeclaration now f → ⊥
+      as_it_was : (code : Code) → DeclarationHolds now f code → DeclarationHolds bag f code
+      unfolding DeclarationHolds
+      as_it_was NoDeclaration (at, lacks) = (at, ap is_some (sym same) ∙ lacks)
+      as_it_was DeclarationNotUtf8 h = in_old h
+      as_it_was DeclarationLineCount h = in_old h
+      as_it_was DeclarationLine h = in_old h
+      as_it_was VersionUnsupported h = in_old h
+      as_it_was EncodingUnsupported h = in_old h
+      as_it_was _ h = h
+
+    module _ (at : file now (tag_path Declaration) ≡ Some declaration_text) where
+      none_wrong : InDeclaration now f → ⊥
+      none_wrong (path, alg, (bytes, stands, wrong)) =
+          let both : Some bytes ≡ Some declaration_text = sym stands ∙ at in
+          let same : bytes ≡ declaration_text = cc in
+          declaration_again.2 (in_line f) (subst (λ b. IsDeclarationFault b (in_line f)) same wrong)
+
+      anew : (code : Code) → DeclarationHolds now f code → ⊥
+      unfolding DeclarationHolds
+      anew NoDeclaration (path, lacks) = false≢true (sym lacks ∙ ap is_some at)
+      anew _ h = search none_wrong
+
+    declares_well : IsOfDeclaration now f → asks full f.code ≡ true → ⊥
     unfolding IsOfDeclaration
-    no_declaration_fault h = declared f.code h
+    declares_well h asked = elim (kept_or_written bag (tag_path Declaration) declaration_text) [
+      | inl was ↦ no_declaration_fault bag can.damaged f
+          (as_it_was (declared bag renewal ∙ sym was.1) f.code h) asked
+      | inr new ↦ anew (declared bag renewal ∙ ap Some new.1) f.code h
+    ]
+
+    -- ---- its parts
 
     parts : (code : Code) → PartHolds now f code → ⊥
     unfolding PartHolds
-    parts NoPayloadFolder (at, lacks) =
-        false≢true (sym lacks ∙ renewed_folder ∙ has_data bag can.no_fault (has_folder bag (codes "data")) refl)
+    parts NoPayloadFolder (at, lacks) = false≢true (sym lacks ∙ renewed_folder ∙ has_data bag can.damaged)
     parts NoPayloadManifest (at, no_manifest) =
         let m = some_member (new_algs bag renewal) can.some_alg in
         no_manifest (name m.0)
-        (name_is_text m.0, ap is_some (there (Manifest Payload m.0) (manifest m.0 (payload bag)) (m.1, refl)))
+        (name_is_text m.0, ap is_some (there (Manifest Payload m.0) (payload_manifest bag renewal m.0).1 (m.1, refl)))
     parts AlgorithmUnsupported (kind, alg, at, has, no_alg) =
-        let a = it_tells.known kind alg has in
+        let a = names.known kind alg has in
         false≢true (ap is_some (sym no_alg ∙ ap alg_named a.1 ∙ name_named a.0))
     parts NotUtf8 (at, ((tag, other, same), (bytes, stands, bad))) =
         is_text tag bytes other (ap (file now) same ∙ stands) bad
@@ -252,8 +167,9 @@ module _ (bag : Bag) (renewal : Renewal) (can : CanRenew bag renewal) (info : Ha
     unfolding IsOfParts
     no_part_fault h = parts f.code h
 
-    -- of a bag of 1.0 that has such a list
-    module _ (v10 : rules_in bag ≡ V10) where
+    -- ---- what is to be fetched: of a bag of 1.0 that has such a list
+
+    module _ (v10 : IsByV10 bag) where
       in_fetch : InFetch now f → InFetch bag f
       in_fetch (at, alg, (bytes, stands, wrong)) = (
         at,
@@ -261,30 +177,29 @@ module _ (bag : Bag) (renewal : Renewal) (can : CanRenew bag renewal) (info : Ha
         (
           bytes,
           sym same_fetch ∙ stands,
-          subst (λ rules. IsFetchFault rules bytes (in_line f)) (it_tells.rules ∙ sym v10) wrong,
+          subst (λ rules. IsFetchFault rules bytes (in_line f)) (names.rules ∙ sym v10) wrong,
         ),
       )
 
       same_entry : (e : FetchEntry) → HasFetch now e → HasFetch bag e
       same_entry e has =
           subst (λ o. IsFetch (rules_in bag) (lines_or_none o) e) same_fetch
-          (subst (λ rules. IsFetch rules (lines_in now fetch_txt) e) (it_tells.rules ∙ sym v10) has)
+          (subst (λ rules. IsFetch rules (lines_in now fetch_txt) e) (names.rules ∙ sym v10) has)
+
+      fetch_is_payload : (e : FetchEntry) (rules : Rules) → IsFetch rules (lines_in bag fetch_txt) e
+          → is_payload_path e.path ≡ true
+      fetch_is_payload e rules is = ((lines_read rules is.0 e.url e.length e.path).0 is.2).in_payload
 
       none_left_out : (e : FetchEntry) → HasFetch now e → IsLeftOut (rules_in now) now f.alg e.path → ⊥
       none_left_out e has out =
-          let old = same_entry e has in
-          let there = fetched bag can.no_fault e old v10 (has_file bag e.path) refl in
-          let c = content_of (file bag e.path) there in
-          let of_it = fetch_is_payload (rules_in bag) old in
-          let stands = (these_files bag renewal e.path c.0).1 (inl (c.1, inl of_it)) in
+          let was = same_entry e has in
+          let of_it = fetch_is_payload e (rules_in bag) was in
+          let has_it : HasFile now e.path =
+          ap is_some (same_file bag renewal e.path of_it) ∙ fetched bag can.damaged e was v10 in
           elim (left_out_by now e.path (rules_in now) f.alg out) [
-            | inl one ↦ one.1.2.1 (listed_named now it_tells Payload one.1.0 e.path c.0 one.1.2.0
-                (is_there now it_tells Payload e.path c.0 of_it stands))
-            | inr all ↦ not_both (rules_in now) it_tells.rules all.0
+            | inl one ↦ one.1.2.1 (there_named now names Payload one.1.0 e.path one.1.2.0 has_it of_it)
+            | inr all ↦ not_both (rules_in now) names.rules all.0
           ]
-        where
-          fetch_is_payload : (rules : Rules) → IsFetch rules (lines_in bag fetch_txt) e → is_payload_path e.path ≡ true
-          fetch_is_payload rules is = ((lines_read rules is.0 e.url e.length e.path).0 is.2).in_payload
 
       fetches : (code : Code) → FetchHolds now f code → FetchHolds bag f code
       unfolding FetchHolds
@@ -295,9 +210,9 @@ module _ (bag : Bag) (renewal : Renewal) (can : CanRenew bag renewal) (info : Ha
       fetches FetchOutsidePayload h = in_fetch h
       fetches _ h = h
 
-      by_v10 : IsOfFetch now f → asks full f.code ≡ true → ⊥
-      unfolding Is IsOfFetch
-      by_v10 h asked = none bag can.no_fault f (inr (inr (inr (inl (fetches f.code h))))) asked
+      of_v10_bag : IsOfFetch now f → asks full f.code ≡ true → ⊥
+      unfolding IsOfFetch
+      of_v10_bag h asked = no_fetch_fault bag can.damaged f (fetches f.code h) asked
 
     -- of one that has none
     module _ (lacks : LacksFile bag (tag_path Fetch)) where
@@ -318,30 +233,96 @@ module _ (bag : Bag) (renewal : Renewal) (can : CanRenew bag renewal) (info : Ha
           no_entry (e.line - 1) has.0 (file now (tag_path Fetch)) refl has.1.1
       without _ h = search in_none
 
-      by_none : IsOfFetch now f → ⊥
+      of_no_list : IsOfFetch now f → ⊥
       unfolding IsOfFetch
-      by_none h = without f.code h
+      of_no_list h = without f.code h
 
-    no_fetch_fault : IsOfFetch now f → asks full f.code ≡ true → ⊥
-    no_fetch_fault h asked = elim can.fetch [ inl v10 ↦ by_v10 v10 h asked | inr lacks ↦ by_none lacks h ]
+    fetches_well : IsOfFetch now f → asks full f.code ≡ true → ⊥
+    fetches_well h asked = elim can.fetch [ inl v10 ↦ of_v10_bag v10 h asked | inr lacks ↦ of_no_list lacks h ]
+
+    -- ---- the digests: those of a manifest that is kept are as they were
+
+    abbrev OldDiffers : Type 0
+    OldDiffers = Differs bag f Payload × ((alg : Alg) × (f.alg ≡ Some alg) × (is_kept_alg bag renewal alg ≡ true))
+
+    differs_by : (alg : Alg) (entry : ManifestEntry) (content text : List ℕ)
+        → file now (manifest_of Payload alg) ≡ Some text → IsEntry V10 Payload alg (lines_of_file text) entry
+        → file now entry.path ≡ Some content → entry.digest ≢ digest alg content
+        → At f entry.path (Some alg) 0 (expected_and_found entry.digest (digest alg content)) → OldDiffers
+    differs_by alg entry content text there is held other at =
+        let path = tag_path (Manifest Payload alg) in
+        let new = manifest alg (payload bag) in
+        elim (kept_or_written bag path new) [
+          | inr anew ↦ absurd (other (right Payload alg text anew.0 there entry content is held))
+          | inl was ↦ (
+              let said = new_text bag renewal (Manifest Payload alg) text tt there in
+              let there_too : file bag path ≡ Some text = was.1 ∙ ap Some (sym said.1) in
+              let of_it =
+              (((names.told Payload alg text there).paths entry.path).0
+              (entry_named V10 Payload alg (lines_of_file text) entry is)).1 in (
+                (
+                  alg,
+                  entry,
+                  content,
+                  subst (λ o. IsEntry (rules_in bag) Payload alg (lines_or_none o) entry) (sym there_too)
+                      (subst (λ rules. IsEntry rules Payload alg (lines_of_file text) entry)
+                      (sym (of_v10 bag path new was.0)) is),
+                  sym (same_file bag renewal entry.path of_it) ∙ held,
+                  other,
+                  at,
+                ),
+                (
+                  alg,
+                  at.alg_is,
+                  and_from (is_new_alg bag renewal alg) (is_kept bag path)
+                      (passes (is_new_alg bag renewal) alg said.0) was.0,
+                ),
+              ))
+        ]
+
+    payload_differs : Differs now f Payload → OldDiffers
+    payload_differs (alg, entry, content, is, held, other, at) =
+        let t = text_of_entry now Payload alg entry is in
+        differs_by alg entry content t.0 t.1
+        (subst (λ rules. IsEntry rules Payload alg (lines_of_file t.0) entry) names.rules t.2) held other at
+
+    differs : (code : Code) → ValidityHolds now f code → (code ≡ PayloadSumDiffers) × OldDiffers
+    unfolding ValidityHolds
+    differs PayloadSumDiffers h = (refl, payload_differs h)
+    differs TagSumDiffers h = absurd (none_differs now names f Tag (λ alg text at. right Tag alg text tt at) h)
+    differs _ h = absurd h
+
+    old_damage : IsOfValidity now f → asks full f.code ≡ true → IsOldDamage bag renewal f
+    unfolding Is IsOfValidity ValidityHolds
+    old_damage h asked =
+        let d = differs f.code h in (
+          d.0,
+          (inr (inr (inr (inr (inr (inr (inl (subst (ValidityHolds bag f) (sym d.0) d.1.0))))))), asked),
+          d.1.1,
+        )
+
+    -- ---- all of them
 
     not_asked : f.code ≡ NameClash → asks full f.code ≡ true → ⊥
     unfolding asks
     not_asked is asked = false≢true (sym (ap (asks full) is) ∙ asked)
 
-    no_fault : Is now None f → asks full f.code ≡ true → ⊥
+    old_faults : Is now None f → asks full f.code ≡ true → IsOldDamage bag renewal f
     unfolding Is
-    no_fault (inl h) asked = no_declaration_fault h
-    no_fault (inr (inl h)) asked = no_part_fault h
-    no_fault (inr (inr (inl h))) asked = info.no_fault f h asked
-    no_fault (inr (inr (inr (inl h)))) asked = no_fetch_fault h asked
-    no_fault (inr (inr (inr (inr (inl h))))) asked = no_manifest_fault now it_tells f h
-    no_fault (inr (inr (inr (inr (inr (inl h)))))) asked =
-        no_completeness_fault now it_tells f h (λ is. not_asked is asked)
-    no_fault (inr (inr (inr (inr (inr (inr (inl h))))))) asked = no_validity_fault now it_tells f h
-    no_fault (inr (inr (inr (inr (inr (inr (inr h))))))) asked = h
+    old_faults (inl h) asked = absurd (declares_well h asked)
+    old_faults (inr (inl h)) asked = absurd (no_part_fault h)
+    old_faults (inr (inr (inl h))) asked = absurd (info.no_fault f h asked)
+    old_faults (inr (inr (inr (inl h)))) asked = absurd (fetches_well h asked)
+    old_faults (inr (inr (inr (inr (inl h))))) asked = absurd (no_manifest_fault now names f h)
+    old_faults (inr (inr (inr (inr (inr (inl h)))))) asked =
+        absurd (no_completeness_fault now names f h (λ is. not_asked is asked))
+    old_faults (inr (inr (inr (inr (inr (inr (inl h))))))) asked = old_damage h asked
+    old_faults (inr (inr (inr (inr (inr (inr (inr h))))))) asked = absurd h
+
+pub renewed_has_old_faults : RenewedHasOldFaults
+renewed_has_old_faults bag renewal can info f is = old_faults bag renewal can info f is.0 is.1
 
 pub renewed_is_valid : RenewedIsValid
-renewed_is_valid bag renewal can info =
-    nothing_listed fault_cmp (IsReported (record { bag = renewed bag renewal; profile = None; options = full }))
-    (λ f reported. no_fault bag renewal can info f reported.0 reported.1)
+renewed_is_valid bag renewal can info none =
+    nothing_listed fault_cmp (IsFaultOf (renewed bag renewal)) (λ f is.
+    contains_nothing f ((none.members f).1 (renewed_has_old_faults bag renewal can info f is).1))

@@ -1,5 +1,5 @@
 -- The changes in which a bag is renewed, one tag file after the other.
-use Rattle.std.specs.Prelude.{ℕ, List, [], ◌∷◌, ◌++◌, ◌&&◌, map, take, if◌then◌else◌}
+use Rattle.std.specs.Prelude.{ℕ, List, [], ◌∷◌, ◌++◌, ◌&&◌, filter, map, not, take, if◌then◌else◌}
 use Rattle.bag_text.specs.AlgList.{has_member}
 use Rattle.bag_read.specs.ManifestName.{tag_path}
 use Rattle.bag_read.specs.declared.kind.Kind.TheVariants.{Payload, Tag}
@@ -9,9 +9,13 @@ use Rattle.bag_tree.specs.FileChanges.{after_changes}
 use Rattle.bag_tree.specs.declared.file_change.FileChange.{FileChange}
 use Rattle.bag_tree.specs.declared.file_change.FileChange.TheVariants.{Put, Remove}
 use Rattle.bag_renew.specs.Renewed.{File, algs_where, begun_file, declaration_file}
-use Rattle.bag_renew.specs.Renewed.{has_payload_manifest, has_tag_manifest, info_file}
-use Rattle.bag_renew.specs.Renewed.{payload_manifests, tag_manifests}
+use Rattle.bag_renew.specs.Renewed.{has_payload_manifest, has_tag_manifest, info_files, is_kept}
+use Rattle.bag_renew.specs.Renewed.{payload_manifests, tag_manifests, writes_info}
 use Rattle.bag_renew.specs.declared.renewal.Renewal.{Renewal}
+
+-- those of these files that aren't kept
+abbrev pub unkept : Bag → List File → List File
+unkept bag files = filter (λ e. not (is_kept bag e.0)) files
 
 -- the change that puts a file
 abbrev pub put : File → FileChange
@@ -26,9 +30,11 @@ module _ (bag : Bag) (renewal : Renewal) where
   abbrev pub clearing : List FileChange
   clearing = if has_file bag begun_file then Remove begun_file ∷ [] else []
 
-  -- the metadata and the payload manifests are put
+  -- the metadata and the payload manifests that aren't kept are put
   abbrev pub putting : List FileChange
-  putting = put (info_file bag renewal) ∷ map put (payload_manifests bag renewal)
+  putting =
+      map put (if writes_info bag renewal then info_files bag renewal else [])
+      ++ map put (unkept bag (payload_manifests bag renewal))
 
   -- the payload manifests of algorithms that are dropped are removed
   abbrev pub dropping : List FileChange
@@ -36,9 +42,10 @@ module _ (bag : Bag) (renewal : Renewal) where
       map (λ alg. Remove (tag_path (Manifest Payload alg)))
       (algs_where (λ alg. has_payload_manifest bag alg && has_member renewal.dropped alg))
 
-  -- the declaration is put, and last the tag manifests
+  -- the declaration is put, where it isn't kept, and last the tag manifests
   abbrev pub closing : List FileChange
-  closing = put (declaration_file bag renewal) ∷ map put (tag_manifests bag renewal)
+  closing =
+      map put (unkept bag (declaration_file bag ∷ [])) ++ map put (tag_manifests bag renewal)
 
   abbrev pub changes : List FileChange
   changes = opening ++ (clearing ++ (putting ++ (dropping ++ closing)))

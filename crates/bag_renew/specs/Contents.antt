@@ -1,5 +1,5 @@
 -- What stands in the renewed bag, path by path.
-use Rattle.std.specs.Prelude.{ℕ, ◌≡◌, ◌⊎◌, ◌↔◌, true, List, Some, Contains}
+use Rattle.std.specs.Prelude.{ℕ, ◌≡◌, ◌⊎◌, ◌↔◌, true, List, Some, Contains, if◌then◌else◌}
 use Rattle.bag_text.specs.Path.{is_payload_path}
 use Rattle.bag_read.specs.ManifestName.{tag_path}
 use Rattle.bag_read.specs.declared.kind.Kind.TheVariants.{Payload, Tag}
@@ -8,8 +8,9 @@ use Rattle.bag_read.specs.declared.tag_name.TagName.TheVariants.{Declaration, In
 use Rattle.bag_tree.specs.Bag.{Bag, file}
 use Rattle.bag_stages.specs.Payload.{payload}
 use Rattle.bag_tags.specs.Declaration.{declaration_text}
-use Rattle.bag_renew.specs.Elements.{text_on_lines}
-use Rattle.bag_renew.specs.Renewed.{manifest, named_tag_files, new_algs, new_elements, renewed, stays}
+use Rattle.bag_tags.specs.OnLines.{text_on_lines}
+use Rattle.bag_renew.specs.Renewed.{kept_or, manifest, named_tag_files, new_algs, new_elements}
+use Rattle.bag_renew.specs.Renewed.{renewed, stays, writes_info}
 use Rattle.bag_renew.specs.declared.renewal.Renewal.{Renewal}
 
 -- a file of the bag that stays: one of the payload, or a tag file that isn't written anew
@@ -18,13 +19,21 @@ IsOld bag path content =
     (file bag path ≡ Some content) × ((is_payload_path path ≡ true) ⊎ (stays path ≡ true))
 
 module _ (bag : Bag) (renewal : Renewal) where
-  -- the text of a tag file that is written (2.1.1, 2.1.3, 2.2.1 and 2.2.2); fetch.txt isn't
+  -- the bytes of a file that is kept, else these
+  abbrev pub IsKeptOr : List ℕ → List ℕ → List ℕ → Type 0
+  IsKeptOr path new text = text ≡ kept_or bag path new
+
+  -- the text of a tag file whose name a renewal writes (2.1.1, 2.1.3, 2.2.1 and 2.2.2); fetch.txt
+  -- isn't one
   abbrev pub IsNewText : TagName → List ℕ → Type 0
-  IsNewText Declaration text = text ≡ declaration_text
-  IsNewText Info text = text ≡ text_on_lines (new_elements bag renewal)
+  IsNewText Declaration text = IsKeptOr (tag_path Declaration) declaration_text text
+  IsNewText Info text =
+      (if writes_info bag renewal then Some (text_on_lines (new_elements bag renewal))
+      else file bag (tag_path Info)) ≡ Some text
   IsNewText Fetch text = ⊥
   IsNewText (Manifest Payload alg) text =
-      Contains (new_algs bag renewal) alg × (text ≡ manifest alg (payload bag))
+      Contains (new_algs bag renewal) alg
+      × IsKeptOr (tag_path (Manifest Payload alg)) (manifest alg (payload bag)) text
   IsNewText (Manifest Tag alg) text =
       Contains (new_algs bag renewal) alg
       × (text ≡ manifest alg (named_tag_files bag renewal))

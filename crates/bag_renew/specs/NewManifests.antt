@@ -1,5 +1,6 @@
 -- The payload manifests of further algorithms.
-use Rattle.std.specs.Prelude.{ℕ, ◌≡◌, ◌<◌, ◌++◌, All, IsTrue, List, None, Option, Some, [], map}
+use Rattle.std.specs.Prelude.{ℕ, ◌≡◌, ◌<◌, ◌++◌, All, Bool, IsTrue, List, None, Option, Some, [], map}
+use Rattle.std.specs.Prelude.{true}
 use Rattle.std.specs.List.Sorted.{IsStrictlySortedBy}
 use Rattle.bag_text.specs.Code.{stage}
 use Rattle.bag_text.specs.Text.{text_cmp}
@@ -18,7 +19,8 @@ use Rattle.bag_tree.specs.DigestsOf.{sum_at}
 use Rattle.bag_tree.specs.Tree.{TreeState}
 use Rattle.bag_renew.specs.FirstFaults.{HasNoneBefore}
 use Rattle.bag_renew.specs.Renewed.{File, manifest}
-use Rattle.bag_renew.specs.Summed.{AreChecked, IsRight, entry_of_file, payload_of}
+use Rattle.bag_renew.specs.Summed.{AreChecked, IsRight, entry_of_file, files_to_read, payload_of}
+use Rattle.bag_renew.specs.Summed.{to_read}
 use Rattle.bag_renew.specs.Valid.{full}
 use Rattle.bag_renew.specs.declared.checked.Unchecked.{Unchecked}
 use Rattle.bag_renew.specs.declared.checked.Unchecked.TheVariants.{Faulty, Stopped}
@@ -41,6 +43,14 @@ abbrev pub manifests_of : List Alg → List SummedFile → List File
 manifests_of algs files =
     map (λ alg. (tag_path (Manifest Payload alg), manifest_text (map (summed_entry alg) files))) algs
 
+-- the tag files that are read were opened, each once, and then once each file of the bag that is to
+-- be read
+abbrev pub OpensRead : Bool → TreeState → TreeState → Type 0
+OpensRead with_payload old new =
+    (tags : List (List ℕ)) × IsStrictlySortedBy text_cmp tags × All (IsWanted full) tags
+    × (new.openings
+    ≡ (old.openings ++ tags) ++ map (λ e. e.0) (files_to_read with_payload (files_of old.bag)))
+
 -- the tag files that are read were opened, each once, and then each file of the bag once
 abbrev pub OpensTwice : TreeState → TreeState → Type 0
 OpensTwice old new =
@@ -60,20 +70,24 @@ pub record AreOfSameBytes (algs : List Alg) (made : List File) : Type 0 where
   pub made_of : made ≡ manifests_for algs (payload_of files)
 
 -- All was read and checked: the tag files, of what they say no fault of stages 1 to 6 was found, and
--- each listed file, which has the digests that manifests give for it. Of an honest tree this is of
--- its bag.
-pub record HasChecked (algs : List Alg) (old new : TreeState) (summed : List SummedFile) : Type 0
-  where
-    pub facts : Facts
-    pub options : facts.options ≡ full
-    pub seen : (bag : Bag) × IsBag bag × IsFactsOf bag facts
-    pub none : HasNoneBefore facts 7
-    pub tags : List (List ℕ)
-    pub ascend : IsStrictlySortedBy text_cmp tags
-    pub wanted : All (IsWanted full) tags
-    pub opened : new.openings ≡ (old.openings ++ tags) ++ paths_of facts.listing.files
-    pub of_bag : IsTrue old.honest → IsFactsOf old.bag facts
-    pub checked : AreChecked old facts facts.listing.files algs summed
+-- each listed file that is to be read, which has the digests that manifests give for it. Of an
+-- honest tree this is of its bag.
+pub record HasChecked (facts : Facts) (with_payload : Bool) (algs : List Alg) (old new : TreeState)
+    (summed : List SummedFile) : Type 0 where
+  pub options : facts.options ≡ full
+  pub seen : (bag : Bag) × IsBag bag × IsFactsOf bag facts
+  pub none : HasNoneBefore facts 7
+  pub tags : List (List ℕ)
+  pub ascend : IsStrictlySortedBy text_cmp tags
+  pub wanted : All (IsWanted full) tags
+  pub opened : new.openings
+      ≡ (old.openings ++ tags) ++ paths_of (to_read with_payload facts.listing.files)
+  pub of_bag : IsTrue old.honest → IsFactsOf old.bag facts
+  pub checked : AreChecked old facts (to_read with_payload facts.listing.files) algs summed
+
+-- so it was with all listed files
+abbrev pub HasCheckedAll : List Alg → TreeState → TreeState → List SummedFile → Type 0
+HasCheckedAll algs old new summed = (facts : Facts) × HasChecked facts true algs old new summed
 
 -- a fault of the bag, checked in full but for names that clash
 abbrev pub HasFault : Bag → Fault → Type 0

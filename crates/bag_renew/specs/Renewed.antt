@@ -1,7 +1,9 @@
 -- The bag that a renewal makes of a bag (RFC 8493, 2).
-use Rattle.std.specs.Prelude.{ℕ, ◌||◌, ◌&&◌, Bool, not, List, ◌∷◌, ◌++◌, bytes_eq, codes}
-use Rattle.std.specs.Prelude.{filter, map}
+use Rattle.std.specs.Prelude.{ℕ, ◌||◌, ◌&&◌, Bool, true, false, not, List, [], ◌∷◌, ◌++◌, bytes_eq}
+use Rattle.std.specs.Prelude.{codes, Option, None, Some, filter, map, if◌then◌else◌}
 use Rattle.std.specs.FinMap as fin
+use Rattle.std.specs.List.{list_any}
+use Rattle.std.specs.Option.{unwrap_or}
 use Rattle.bag_text.specs.Alg.{algs}
 use Rattle.bag_text.specs.AlgList.{has_member}
 use Rattle.bag_text.specs.Path.{is_payload_path}
@@ -10,13 +12,17 @@ use Rattle.bag_text.specs.declared.alg.Alg.{Alg}
 use Rattle.bag_read.specs.ManifestName.{is_manifest_name, tag_path}
 use Rattle.bag_read.specs.declared.kind.Kind.TheVariants.{Payload, Tag}
 use Rattle.bag_read.specs.declared.tag_name.TagName.TheVariants.{Declaration, Info, Manifest}
-use Rattle.bag_tree.specs.Bag.{Bag, files_of, has_file}
+use Rattle.bag_text.specs.declared.rules.Rules.{Rules}
+use Rattle.bag_text.specs.declared.rules.Rules.TheVariants.{V10, V097}
+use Rattle.bag_tree.specs.Bag.{Bag, file, files_of, has_file}
+use Rattle.bag_facts.specs.Facts.{rules_in}
 use Rattle.bag_tree.specs.Digest.{digest}
 use Rattle.bag_stages.specs.Payload.{oxum, oxum_text, payload}
 use Rattle.bag_tags.specs.Declaration.{declaration_text}
 use Rattle.bag_tags.specs.Element.{NewElement}
 use Rattle.bag_tags.specs.Entry.{NewEntry, manifest_text}
-use Rattle.bag_renew.specs.Elements.{elements_of, renewed_elements, text_on_lines}
+use Rattle.bag_tags.specs.OnLines.{text_on_lines}
+use Rattle.bag_renew.specs.Elements.{asks_nothing, elements_of, renewed_elements}
 use Rattle.bag_renew.specs.declared.renewal.Renewal.{Renewal}
 
 -- a file: its path and its bytes
@@ -58,9 +64,38 @@ stays path =
     && not (bytes_eq path (tag_path Info)) && not (is_manifest_name Payload path)
     && not (is_manifest_name Tag path) && not (bytes_eq path begun_file)
 
--- the tag files that stay as they are
+-- the tag files whose names no renewal writes
 abbrev pub kept_tag_files : Bag → List File
 kept_tag_files bag = filter (λ e. stays e.0) (files_of bag)
+
+-- a bag of version 1.0 keeps what needs no change, and one of 0.97 nothing
+abbrev pub is_v10 : Rules → Bool
+is_v10 V10 = true
+is_v10 V097 = false
+
+abbrev pub keeps : Bag → Bool
+keeps bag = is_v10 (rules_in bag)
+
+-- a file that is there and is kept
+abbrev pub is_kept : Bag → List ℕ → Bool
+is_kept bag path = keeps bag && has_file bag path
+
+-- the file at a path, if any
+abbrev pub with_path : List ℕ → Option (List ℕ) → List File
+with_path path None = []
+with_path path (Some content) = (path, content) ∷ []
+
+abbrev pub file_at : Bag → List ℕ → List File
+file_at bag path = with_path path (file bag path)
+
+-- the bytes of a file that is kept, else these
+abbrev pub kept_or : Bag → List ℕ → List ℕ → List ℕ
+kept_or bag path text = if keeps bag then unwrap_or (file bag path) text else text
+
+-- the declaration (2.1.1)
+abbrev pub declaration_file : Bag → File
+declaration_file bag =
+    (tag_path Declaration, kept_or bag (tag_path Declaration) declaration_text)
 
 module _ (bag : Bag) (renewal : Renewal) where
   -- the algorithms of the manifests: those that it had, and that are added, but for those that are
@@ -73,32 +108,43 @@ module _ (bag : Bag) (renewal : Renewal) where
   abbrev pub new_algs : List Alg
   new_algs = algs_where is_new_alg
 
-  abbrev pub declaration_file : File
-  declaration_file = (tag_path Declaration, declaration_text)
-
-  -- the old elements and the given ones, and the size of the payload (2.2.2)
+  -- the old elements, changed, and the size of the payload (2.2.2)
   abbrev pub new_elements : List NewElement
   new_elements =
       renewed_elements renewal.elements (oxum_text (oxum bag)) (elements_of bag)
 
-  abbrev pub info_file : File
-  info_file = (tag_path Info, text_on_lines new_elements)
+  -- the metadata is written where something is asked of it, and where nothing is kept
+  abbrev pub writes_info : Bool
+  writes_info = not (keeps bag && asks_nothing renewal.elements)
 
-  -- a payload manifest for each algorithm names the whole payload (2.1.3)
+  -- the metadata, if any
+  abbrev pub info_files : List File
+  info_files =
+      if writes_info then (tag_path Info, text_on_lines new_elements) ∷ []
+      else file_at bag (tag_path Info)
+
+  -- a payload manifest for each algorithm names the whole payload (2.1.3); one that is kept has the
+  -- bytes that it had
+  abbrev pub payload_manifest : Alg → File
+  payload_manifest alg =
+      let path = tag_path (Manifest Payload alg) in
+      (path, kept_or bag path (manifest alg (payload bag)))
+
   abbrev pub payload_manifests : List File
-  payload_manifests = map (λ alg. (tag_path (Manifest Payload alg), manifest alg (payload bag))) new_algs
+  payload_manifests = map payload_manifest new_algs
 
   -- what a tag manifest names, in path order: all other tag files, but no tag manifest (2.2.1)
   abbrev pub named_tag_files : List File
   named_tag_files =
-      in_path_order (kept_tag_files bag ++ declaration_file ∷ info_file ∷ payload_manifests)
+      in_path_order
+      (kept_tag_files bag ++ (declaration_file bag ∷ (info_files ++ payload_manifests)))
 
   abbrev pub tag_manifests : List File
   tag_manifests = map (λ alg. (tag_path (Manifest Tag alg), manifest alg named_tag_files)) new_algs
 
-  -- the tag files that are written
+  -- the tag files whose names a renewal writes
   abbrev pub new_tag_files : List File
-  new_tag_files = declaration_file ∷ info_file ∷ payload_manifests ++ tag_manifests
+  new_tag_files = declaration_file bag ∷ (info_files ++ (payload_manifests ++ tag_manifests))
 
   -- The renewed bag: the payload and the folders as they are, and of tag files these.
   unfoldable pub renewed : Bag
@@ -106,3 +152,11 @@ module _ (bag : Bag) (renewal : Renewal) where
     files = fin.from_entries (payload bag ++ (kept_tag_files bag ++ new_tag_files));
     folders = bag.folders;
   }
+
+  -- an algorithm whose payload manifest is kept
+  abbrev pub is_kept_alg : Alg → Bool
+  is_kept_alg alg = is_new_alg alg && is_kept bag (tag_path (Manifest Payload alg))
+
+  -- the payload is read where a payload manifest is written
+  abbrev pub reads_payload : Bool
+  reads_payload = list_any (λ alg. not (is_kept_alg alg)) new_algs

@@ -1,6 +1,6 @@
 -- Files of a bag that were checked, with the digests that manifests are to give.
 use Rattle.std.specs.Prelude.{ℕ, ◌≡◌, ◌≢◌, ◌∷◌, [], ⊤, All, Contains, IsTrue, List, Some, filter, length}
-use Rattle.std.specs.Prelude.{map}
+use Rattle.std.specs.Prelude.{◌||◌, Bool, map, not}
 use Rattle.bag_text.specs.Order.{IsListOf}
 use Rattle.bag_text.specs.Path.{is_payload_path}
 use Rattle.bag_text.specs.declared.alg.Alg.{Alg}
@@ -30,6 +30,18 @@ entry_of_file e = record { path = e.0; size = length e.1 }
 -- those of the payload
 abbrev pub payload_of : List File → List File
 payload_of files = filter (λ e. is_payload_path e.0) files
+
+-- a file that is read: every one, or every one that isn't of the payload
+abbrev pub is_to_read : Bool → List ℕ → Bool
+is_to_read with_payload path = with_payload || not (is_payload_path path)
+
+-- the listed files that are read
+abbrev pub to_read : Bool → List FileEntry → List FileEntry
+to_read with_payload files = filter (λ entry. is_to_read with_payload entry.path) files
+
+-- and what they are of a bag's files
+abbrev pub files_to_read : Bool → List File → List File
+files_to_read with_payload files = filter (λ e. is_to_read with_payload e.0) files
 
 -- this is what the manifests of which these are the facts give for the path
 pub record IsGivenFor (facts : Facts) (path : List ℕ) (expected : List Expected) : Type 0 where

@@ -7,6 +7,7 @@ ghost use Rattle.bag_tree.specs.FileReads.{OpensAtMost};
 ghost use Rattle.bag_text.specs.declared.alg.Alg.{Alg as Member};
 ghost use Rattle.bag_stages.specs.declared.expected.Expected.{Expected as Given};
 ghost use Rattle.bag_renew.specs.Checked.{IsChecked, IsUnchecked};
+ghost use Rattle.bag_renew.specs.Stops.{StopsChecking};
 
 use bag_facts::{Fault, refusal_of};
 use bag_stages::{Packed, faults_by};
@@ -29,6 +30,7 @@ pub enum Unchecked {
 /// The file is opened once and read once. Over any tree the digests that are given are compared
 /// with those of the very bytes of which the new ones are computed, so that damage that comes after
 /// a check is never given a digest.
+#[tactic(auto, using(crate::proofs::Stopping::stop_of_memory, crate::proofs::Stopping::stop_of_refusal, bag_tree::proofs::Calm::nothing_asked))]
 pub fn check_and_sum<T: Tree>(
     alloc: Global,
     tree: &mut T,
@@ -46,6 +48,8 @@ pub fn check_and_sum<T: Tree>(
         (OpensAtMost (T.state tree.old) (T.state tree.new) file.now.path) }
     ensures checked { IfOk result (IsChecked (T.state tree.old) file.now expected.now algs) }
     ensures unchecked { IfErr result (IsUnchecked (T.state tree.old) file.now expected.now) }
+    ensures stopped { IfErr result
+        (StopsChecking (file.now ∷ []) (T.state tree.old) (T.state tree.new)) }
 {
     // Copied before the file is read, so that its refusal isn't reported as out of memory.
     let Ok(path) = file.path.copy(alloc) else {

@@ -4,26 +4,22 @@ ghost use Rattle.bag_text.specs.Path.{is_payload_path};
 ghost use Rattle.bag_text.specs.Lines.{line_feed};
 ghost use Rattle.bag_stages.specs.Payload.{payload};
 ghost use Rattle.bag_tags.specs.Entry as entry;
-ghost use Rattle.bag_tree.specs.Tree.{Keeps};
-ghost use Rattle.bag_renew.specs.NewManifests.{AreOfSameBytes, HasChecked, IsRefusedFor, OpensTwice};
+ghost use Rattle.bag_tree.specs.Tree.{Keeps, NothingFailed};
+ghost use Rattle.bag_renew.specs.NewManifests.{AreOfSameBytes, HasCheckedAll, IsRefusedFor, OpensTwice};
 ghost use Rattle.bag_renew.specs.NewManifests.{manifests_for, manifests_of, summed_entry};
+ghost use Rattle.bag_renew.specs.Stops.{MayStopUnchecked};
 ghost use Rattle.bag_renew.specs.Valid.{HasNoFault};
 
 use crate::Unchecked;
+use crate::reading::FULL;
 use crate::stages::check_stages;
 use crate::summed::{SummedFile, check_files, no_memory};
-use bag_facts::{Depth, Facts, Options};
+use bag_facts::Facts;
 use bag_read::{Kind, TagName};
 use bag_tags::push_entry;
 use bag_text::{Alg, AlgSet, Items, Text, is_payload};
 use bag_tree::Tree;
 use std::alloc::{AllocError, Global};
-
-/// Everything is checked, but for names that clash.
-const FULL: Options = Options {
-    depth: Depth::Full,
-    clashes: false,
-};
 
 /// The payload manifests of these algorithms, each with its name, of a bag that has no fault
 /// (RFC 8493, 2.1.3 and 3). The bag stays as it is.
@@ -32,7 +28,6 @@ const FULL: Options = Options {
 /// opened once, and the digests that manifests give for it are compared with those of the very bytes
 /// of which the new ones are computed. So a file that was damaged is never given a digest, also
 /// where the damage comes while the bag is read.
-#[tactic(auto, using(crate::proofs::CheckedBag::same_bytes, crate::proofs::CheckedBag::of_the_bag, crate::proofs::CheckedBag::has_no_fault, crate::proofs::CheckedBag::opens_twice))]
 pub fn new_manifests<T: Tree>(
     alloc: Global,
     tree: &mut T,
@@ -49,6 +44,7 @@ pub fn new_manifests<T: Tree>(
         → made.items ≡ manifests_for algs (payload (T.state tree.old).bag)) }
     ensures refused { IfErr result (λ fault.
         IsTrue (T.state tree.old).honest → IsRefusedFor (T.state tree.old).bag fault) }
+    ensures stopped { IfErr result (MayStopUnchecked (T.state tree.old) (T.state tree.new)) }
 {
     let summed = match check_bag(alloc, tree, algs) {
         Ok(summed) => payload_only(summed),
@@ -71,18 +67,19 @@ fn payload_only(summed: Vec<SummedFile>) -> Vec<SummedFile>
 
 /// Checks a bag in full, but for names that clash, and gives the digests of its files in their
 /// order.
-#[tactic(auto, using(crate::proofs::CheckedBag::stages_refuse, crate::proofs::CheckedBag::files_refuse, crate::proofs::CheckedBag::has_checked))]
+#[tactic(auto, using(bag_tree::proofs::Calm::nothing_then, crate::proofs::ReadBag::stop_of_stages, crate::proofs::CheckedBag::stages_refuse, crate::proofs::CheckedBag::files_refuse, crate::proofs::CheckedBag::has_checked))]
 fn check_bag<T: Tree>(
     alloc: Global,
     tree: &mut T,
     algs: AlgSet,
 ) -> Result<Vec<SummedFile>, Unchecked>
     ensures keeps { Keeps (T.state tree.old) (T.state tree.new) }
-    ensures no_failure { OnOk result ((T.state tree.new).failures ≡ (T.state tree.old).failures) }
+    ensures no_failure { OnOk result (NothingFailed (T.state tree.old) (T.state tree.new)) }
     ensures checked { IfOk result (λ summed.
-        HasChecked algs (T.state tree.old) (T.state tree.new) summed.items) }
+        HasCheckedAll algs (T.state tree.old) (T.state tree.new) summed.items) }
     ensures refused { IfErr result (λ fault.
         IsTrue (T.state tree.old).honest → IsRefusedFor (T.state tree.old).bag fault) }
+    ensures stopped { IfErr result (MayStopUnchecked (T.state tree.old) (T.state tree.new)) }
 {
     let facts = match Facts::read(alloc, tree, FULL) {
         Ok(facts) => facts,
@@ -91,7 +88,7 @@ fn check_bag<T: Tree>(
     if let Err(unchecked) = check_stages(alloc, &facts) {
         return Err(unchecked);
     }
-    match check_files(alloc, tree, &facts, algs) {
+    match check_files(alloc, tree, &facts, algs, true) {
         Ok(summed) => Ok(summed),
         Err(unchecked) => Err(unchecked),
     }
@@ -109,7 +106,7 @@ fn manifests(
     manifests_by(alloc, &members, files)
 }
 
-fn manifests_by(
+pub(crate) fn manifests_by(
     alloc: Global,
     algs: &[Alg],
     files: &[SummedFile],
@@ -125,7 +122,11 @@ fn manifests_by(
 }
 
 /// The manifest of an algorithm that names these files (RFC 8493, 2.1.3).
-fn manifest(alloc: Global, alg: Alg, files: &[SummedFile]) -> Result<Items<u8>, AllocError>
+pub(crate) fn manifest(
+    alloc: Global,
+    alg: Alg,
+    files: &[SummedFile],
+) -> Result<Items<u8>, AllocError>
     ensures { IfOk result (λ bytes.
         bytes ≡ entry.manifest_text (map (summed_entry alg) files.now)) }
 {

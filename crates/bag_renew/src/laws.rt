@@ -1,7 +1,13 @@
 //! Laws of the definitions, each the contract of a function that does nothing.
 ghost use Rattle.bag_renew.specs.Contents.{RenewedHasTheseFiles};
-ghost use Rattle.bag_renew.specs.Valid.{RenewedIsValid, ShortElementsAreGood};
-ghost use Rattle.bag_renew.specs.Telling.{BagsThatTellTheirFilesAreValid, RenewedTells};
+ghost use Rattle.bag_renew.specs.Valid.{GoodElementsAreGoodInfo, RenewedHasOldFaults, RenewedIsValid};
+ghost use Rattle.bag_renew.specs.Telling.{BagsThatNameTheirFilesAreComplete};
+ghost use Rattle.bag_renew.specs.Telling.{BagsThatTellTheirFilesAreValid, RenewedNames};
+ghost use Rattle.bag_renew.specs.Telling.{WrittenManifestsTell};
+ghost use Rattle.bag_renew.specs.Again.{CutBagsCanBeRenewed, ElementsAreRenewedOnce};
+ghost use Rattle.bag_renew.specs.Again.{RenewingAgainMakesTheSame};
+ghost use Rattle.bag_renew.specs.OnTheWay.{EachBagOnTheWayHasOldFaults, EachBagOnTheWayIsValid};
+ghost use Rattle.bag_renew.specs.OnTheWay.{EachCutBagHasOldFaults, EachCutBagIsValid};
 ghost use Rattle.bag_renew.specs.Laws.{ChangesCanBeMade, ChangesKeepPayload};
 ghost use Rattle.bag_renew.specs.Laws.{ChangesKeepPayloadList, ChangesRenew};
 
@@ -28,25 +34,82 @@ pub fn a_renewed_bag_has_these_files()
     ensures { RenewedHasTheseFiles }
 {}
 
-/// A bag of version 1.0 each of whose manifests names just what it is to name, with the digests,
-/// has no fault of its manifests, and is complete and valid (RFC 8493, 3), whatever tool wrote it.
+/// A bag of version 1.0 each of whose manifests names just what it is to name has no fault of its
+/// manifests, and is complete (RFC 8493, 3), whatever tool wrote it.
+pub fn bags_that_name_their_files_are_complete()
+    ensures { BagsThatNameTheirFilesAreComplete }
+{}
+
+/// Where they also give the digests, it is valid.
 pub fn bags_that_tell_their_files_are_valid()
     ensures { BagsThatTellTheirFilesAreValid }
 {}
 
-/// The renewed bag is such a bag, with the payload of the old one.
-pub fn a_renewed_bag_tells_its_files()
-    ensures { RenewedTells }
+/// A manifest that is written names just what it is to name, with the digests.
+pub fn written_manifests_tell()
+    ensures { WrittenManifestsTell }
 {}
 
-/// The renewed bag of a bag without a fault has none (RFC 8493, 3), where the `bag-info.txt` that is
-/// written has none. So it is for every bag of version 1.0, and for each of 0.97 without `fetch.txt`,
-/// of which no path begins with a blank or a `*`, as long as an algorithm is left.
+/// Each manifest of the renewed bag names just what it is to name, also one that is kept; those that
+/// are written give the digests, and the payload is that of the old bag.
+pub fn a_renewed_bag_names_its_files()
+    ensures { RenewedNames }
+{}
+
+/// A renewal makes no fault: each fault of the renewed bag is damage of a payload file that the bag
+/// had, by the manifest of an algorithm that is kept. So it is for every bag of version 1.0 without
+/// other faults, and for each such bag of 0.97 without `fetch.txt`, of which no path begins with a
+/// blank or a `*`, as long as an algorithm is left and `bag-info.txt` is good.
+pub fn a_renewed_bag_has_old_faults()
+    ensures { RenewedHasOldFaults }
+{}
+
+/// So the renewed bag of a bag without a fault has none (RFC 8493, 3).
 pub fn a_renewed_bag_has_no_fault()
     ensures { RenewedIsValid }
 {}
 
-/// It has none where its elements can be written, each value on one line.
-pub fn short_elements_are_good()
-    ensures { ShortElementsAreGood }
+/// `bag-info.txt` is good where it is kept, and where the elements that are written can be.
+pub fn good_elements_are_good_info()
+    ensures { GoodElementsAreGoodInfo }
+{}
+
+/// A renewal of a bag of version 1.0 makes no fault on its way: after any number of the changes each
+/// fault is damage of a payload file that the bag had. So it is where no folder has the name of a tag
+/// file or of `.bagit-begun`, and no tag manifest names `.bagit-begun`. Of bags of 0.97 it isn't
+/// proved.
+pub fn each_bag_on_the_way_has_old_faults()
+    ensures { EachBagOnTheWayHasOldFaults }
+{}
+
+/// So each bag on the way from such a bag without a fault is a valid bag (RFC 8493, 3).
+pub fn each_bag_on_the_way_is_valid()
+    ensures { EachBagOnTheWayIsValid }
+{}
+
+/// The same holds of what a power cut at any moment leaves: the bag after the first of the changes,
+/// and perhaps `.bagit-begun`.
+pub fn each_cut_bag_has_old_faults()
+    ensures { EachCutBagHasOldFaults }
+{}
+
+/// So a cut leaves a valid bag, where the bag had no fault.
+pub fn each_cut_bag_is_valid()
+    ensures { EachCutBagIsValid }
+{}
+
+/// What is asked of elements, asked again, changes nothing, as long as it can be asked.
+pub fn elements_are_renewed_once()
+    ensures { ElementsAreRenewedOnce }
+{}
+
+/// What a power cut leaves of a bag of version 1.0 can be renewed by the same request, where the
+/// elements that are written can be.
+pub fn cut_bags_can_be_renewed()
+    ensures { CutBagsCanBeRenewed }
+{}
+
+/// And that makes the same renewed bag, so that a renewal which was cut off is asked for again.
+pub fn renewing_again_makes_the_same()
+    ensures { RenewingAgainMakesTheSame }
 {}

@@ -1,7 +1,7 @@
 //! The renewed bag of a bag: its tag files written anew in place, and its payload as it was.
 //!
 //! ```
-//! let renewal = Renewal { added: AlgSet::empty().with(Alg::Sha512), dropped, elements };
+//! let renewal = Renewal { added: AlgSet::empty().with(Alg::Sha512), dropped, elements, to_1_0: false };
 //! let sums = check_and_sum(alloc, &mut tree, file, &expected, algs, &mut buffer)?;
 //! for (name, text) in &new_manifests(alloc, &mut tree, renewal.added)? {
 //!     let bytes = text.as_slice();
@@ -18,13 +18,27 @@
 //! can be made after those before it, and none touches the payload.
 #![tactic(auto)]
 
+mod alg_choice;
+mod algorithms;
 mod checked;
+mod composing;
+mod elements;
+mod fault;
 mod further;
+mod info;
 pub mod laws;
+mod named;
+mod obstacles;
+mod reading;
+mod removing;
 mod renewal;
+mod renewing;
 mod stages;
 mod summed;
+mod tag_files;
 
 pub use checked::{Unchecked, check_and_sum};
+pub use fault::RenewFault;
 pub use further::new_manifests;
-pub use renewal::Renewal;
+pub use renewal::{ElementChanges, Renewal};
+pub use renewing::{plan_renewal, renew};

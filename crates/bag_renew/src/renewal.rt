@@ -1,5 +1,20 @@
 //! What a bag is to have after a renewal.
+ghost use Rattle.std.specs.Prelude.{◌≡◌};
+ghost use Rattle.bag_renew.specs.Asked.{nothing};
+
 use bag_text::{AlgSet, Items, Text};
+use std::alloc::Global;
+
+/// What is asked of the elements of `bag-info.txt`. Labels are compared ignoring ASCII case.
+#[derive(Debug, Drop)]
+pub struct ElementChanges {
+    /// Elements that stand in place of all those with their labels, in their order.
+    pub set: Items<(Text, Text)>,
+    /// Elements that are added, but for one that stands there with its value.
+    pub appended: Items<(Text, Text)>,
+    /// Labels of which no element is to be left, where none is set or appended.
+    pub unset: Items<Text>,
+}
 
 /// What a bag is to have after a renewal, beside what it has.
 #[derive(Debug, Drop)]
@@ -8,6 +23,26 @@ pub struct Renewal {
     pub added: AlgSet,
     /// Algorithms whose manifests are to go.
     pub dropped: AlgSet,
-    /// Elements of `bag-info.txt`, in place of all those with their labels.
-    pub elements: Items<(Text, Text)>,
+    /// What is asked of `bag-info.txt`.
+    pub elements: ElementChanges,
+    /// A bag of version 0.97 becomes one of 1.0, of which else none is renewed.
+    pub to_1_0: bool,
+}
+
+impl Renewal {
+    /// That asks for nothing.
+    pub fn nothing(alloc: Global) -> Renewal
+        ensures { result ≡ nothing }
+    {
+        Renewal {
+            added: AlgSet::empty(),
+            dropped: AlgSet::empty(),
+            elements: ElementChanges {
+                set: Items::new(alloc),
+                appended: Items::new(alloc),
+                unset: Items::new(alloc),
+            },
+            to_1_0: false,
+        }
+    }
 }

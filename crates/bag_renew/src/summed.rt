@@ -3,12 +3,13 @@ ghost use Rattle.std.specs.Prelude.{◌≡◌, ◌<◌, ◌++◌, ◌∷◌, [],
 ghost use Rattle.bag_tree.specs.Tree.{Keeps, NothingFailed};
 ghost use Rattle.bag_facts.specs.Wanted.{paths_of};
 ghost use Rattle.bag_renew.specs.Summed.{AreChecked, IsCheckedFile, IsFaultyFile, IsGivenFor};
-ghost use Rattle.bag_renew.specs.Summed.{IsNoMemory};
+ghost use Rattle.bag_renew.specs.Stops.{StopsChecking};
+ghost use Rattle.bag_renew.specs.Summed.{IsNoMemory, is_to_read, to_read};
 
 use crate::{Unchecked, check_and_sum};
 use bag_facts::Facts;
 use bag_stages::{Packed, Places, expected_of};
-use bag_text::{AlgSet, Text};
+use bag_text::{AlgSet, Text, is_payload};
 use bag_tree::{FileEntry, Stop, Sums, Tree, TreeFault};
 use std::alloc::{AllocError, Global};
 
@@ -29,51 +30,73 @@ pub(crate) fn no_memory(alloc: Global) -> Unchecked
     Unchecked::Stopped(Stop::without_path(alloc, TreeFault::Memory))
 }
 
-/// The digests of all listed files in their order, where each file has those that manifests give
-/// for it. Each is opened once, and read through one buffer: what is compared and what is computed
-/// are digests of the same bytes.
+/// The digests of listed files in their order, where each file has those that manifests give for
+/// it: of all of them, or of all but those of the payload. Each is opened once, and read through one
+/// buffer: what is compared and what is computed are digests of the same bytes.
+#[tactic(auto, using(crate::proofs::Stopping::stops_for_memory, bag_tree::proofs::Calm::nothing_asked))]
 pub(crate) fn check_files<T: Tree>(
     alloc: Global,
     tree: &mut T,
     facts: &Facts,
     algs: AlgSet,
+    with_payload: bool,
 ) -> Result<Vec<SummedFile>, Unchecked>
     ensures keeps { Keeps (T.state tree.old) (T.state tree.new) }
     ensures no_failure { OnOk result (NothingFailed (T.state tree.old) (T.state tree.new)) }
     ensures opened { OnOk result ((T.state tree.new).openings
-        ≡ (T.state tree.old).openings ++ paths_of facts.now.listing.files) }
+        ≡ (T.state tree.old).openings
+        ++ paths_of (to_read with_payload facts.now.listing.files)) }
     ensures checked { IfOk result (λ summed.
-        AreChecked (T.state tree.old) facts.now facts.now.listing.files algs summed.items) }
+        AreChecked (T.state tree.old) facts.now (to_read with_payload facts.now.listing.files) algs
+        summed.items) }
     ensures faulty { IfErr result (IsFaultyFile facts.now (T.state tree.old)) }
+    ensures stopped { IfErr result
+        (StopsChecking facts.now.listing.files (T.state tree.old) (T.state tree.new)) }
 {
     let Ok(mut buffer) = Vec::from_elem(alloc, 0, BUFFER_BYTES) else {
         return Err(no_memory(alloc));
     };
-    check_each(alloc, tree, facts, facts.files(), algs, &mut buffer)
+    check_each(
+        alloc,
+        tree,
+        facts,
+        facts.files(),
+        algs,
+        with_payload,
+        &mut buffer,
+    )
 }
 
-/// The digests of listed files, one file after another.
-#[tactic(auto, using(crate::proofs::Summing::checks_none, crate::proofs::Summing::checks_one_more, crate::proofs::Summing::opens_all, crate::proofs::Summing::checks_all, crate::proofs::Summing::faulty_before))]
+/// The digests of listed files that are read, one file after another.
+#[tactic(auto, using(crate::proofs::Stopping::stops_for_memory, crate::proofs::Stopping::stops_at, bag_tree::proofs::Calm::nothing_then, crate::proofs::Summing::checks_none, crate::proofs::Summing::checks_one_more, crate::proofs::Summing::opens_all, crate::proofs::Summing::checks_all, crate::proofs::Summing::faulty_before))]
 fn check_each<T: Tree>(
     alloc: Global,
     tree: &mut T,
     facts: &Facts,
     files: &[FileEntry],
     algs: AlgSet,
+    with_payload: bool,
     buffer: &mut [u8],
 ) -> Result<Vec<SummedFile>, Unchecked>
     requires { 0 < length buffer.old }
     ensures keeps { Keeps (T.state tree.old) (T.state tree.new) }
     ensures no_failure { OnOk result (NothingFailed (T.state tree.old) (T.state tree.new)) }
     ensures opened { OnOk result
-        ((T.state tree.new).openings ≡ (T.state tree.old).openings ++ paths_of files.now) }
+        ((T.state tree.new).openings
+        ≡ (T.state tree.old).openings ++ paths_of (to_read with_payload files.now)) }
     ensures checked { IfOk result (λ summed.
-        AreChecked (T.state tree.old) facts.now files.now algs summed.items) }
+        AreChecked (T.state tree.old) facts.now (to_read with_payload files.now) algs
+        summed.items) }
     ensures faulty { IfErr result (IsFaultyFile facts.now (T.state tree.old)) }
+    ensures stopped { IfErr result
+        (StopsChecking files.now (T.state tree.old) (T.state tree.new)) }
 {
     let mut places = Places::new();
     let mut summed = Vec::new(alloc);
     for entry in files {
+        if !is_read(entry, with_payload) {
+            continue;
+        }
         let one = match check_file(alloc, tree, facts, entry, algs, &mut places, buffer) {
             Ok(one) => one,
             Err(unchecked) => return Err(unchecked),
@@ -85,8 +108,15 @@ fn check_each<T: Tree>(
     Ok(summed)
 }
 
+/// Whether a listed file is read: one that isn't of the payload always.
+fn is_read(entry: &FileEntry, with_payload: bool) -> bool
+    ensures { result ≡ is_to_read with_payload entry.now.path }
+{
+    with_payload || !is_payload(entry.path.as_str())
+}
+
 /// The digests of one listed file, where it has those that manifests give for it.
-#[tactic(auto, using(crate::proofs::Summing::faulty_file))]
+#[tactic(auto, using(crate::proofs::Stopping::stops_for_memory, bag_tree::proofs::Calm::nothing_asked, crate::proofs::Summing::faulty_file))]
 fn check_file<T: Tree>(
     alloc: Global,
     tree: &mut T,
@@ -103,6 +133,8 @@ fn check_file<T: Tree>(
         ((T.state tree.new).openings ≡ (T.state tree.old).openings ++ entry.now.path ∷ []) }
     ensures checked { IfOk result (IsCheckedFile (T.state tree.old) facts.now entry.now algs) }
     ensures faulty { IfErr result (IsFaultyFile facts.now (T.state tree.old)) }
+    ensures stopped { IfErr result
+        (StopsChecking (entry.now ∷ []) (T.state tree.old) (T.state tree.new)) }
 {
     let Ok(path) = entry.path.copy(alloc) else {
         return Err(no_memory(alloc));

@@ -1,10 +1,18 @@
 use Rattle.bag_renew.proofs.Common.{subst}
-use Rattle.std.specs.Prelude.{IfOk}
-use Rattle.bag_renew.specs.Summed.{AreChecked}
+use Rattle.std.specs.Prelude.{IfErr, IfOk}
+use Rattle.bag_renew.specs.Stops.{StopsChecking}
+use Rattle.bag_renew.specs.Summed.{AreChecked, to_read}
 use Rattle.bag_renew.proofs.summed.check_files.Goals as goal
 
 pub returns-clause-checked : goal.returns-clause-checked
 returns-clause-checked g c =
     subst (λ files. IfOk c.check_each.result (λ summed.
-    AreChecked (g.T.Tree.state c.args.tree.now) c.args.facts.now files c.args.algs summed.items))
+    AreChecked (g.T.Tree.state c.args.tree.now) c.args.facts.now (to_read c.args.with_payload files) c.args.algs
+    summed.items))
     c.files.ensures c.check_each.ensures.checked
+
+pub returns-clause-stopped : goal.returns-clause-stopped
+returns-clause-stopped g c =
+    subst (λ files. IfErr c.check_each.result (StopsChecking files (g.T.Tree.state c.args.tree.now)
+    (g.T.Tree.state c.check_each.new.tree)))
+    c.files.ensures c.check_each.ensures.stopped

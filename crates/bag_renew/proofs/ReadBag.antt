@@ -1,0 +1,260 @@
+-- What a bag is that was read for a renewal, and why it is refused.
+use Rattle.bag_renew.proofs.Common.{◌≡◌, ◌≢◌, ◌∙◌, ◌⊎◌, inl, inr, ℕ, List, [], Bool, true, IsTrue, sym, ap, subst}
+use Rattle.bag_renew.proofs.Common.{Contains, All, All-contains, and_parts, is_path, in_base, Alg}
+use Rattle.bag_renew.proofs.Common.{Bag, IsBag, HasFile, files_of, Renewal}
+use Rattle.std.proofs.lemmas.List.Elements.{All-from_recursion}
+use Rattle.bag_text.proofs.ListOf.{each_from_members}
+use Rattle.bag_facts.proofs.ListedFiles.{own_size}
+use Rattle.bag_facts.proofs.Mapped.{contains_mapped}
+use Rattle.bag_facts.proofs.Reading.{later_refusal}
+use Rattle.bag_facts.proofs.Refusing.{has_entry, path_some}
+use Rattle.bag_facts.specs.FactsOfBag.{IfBagRead, IsFactsOf}
+use Rattle.bag_facts.specs.Stops.{IsOfListing, IsOutOfMemory}
+use Rattle.bag_facts.specs.TagReader.{MayStopReading}
+use Rattle.bag_facts.specs.Wanted.{IsRefusedFile, paths_of}
+use Rattle.bag_facts.specs.declared.facts.Facts.{Facts}
+use Rattle.bag_facts.specs.declared.options.Depth.TheVariants.{Declaration}
+use Rattle.bag_facts.specs.declared.options.Options.{Options}
+use Rattle.bag_tree.proofs.Calm.{memory_then}
+use Rattle.bag_tree.specs.FileReads.{IsEntryOf}
+use Rattle.bag_tree.specs.Tree.{Keeps, NothingFailed, TreeState}
+use Rattle.bag_tree.specs.declared.listing.FileEntry.{FileEntry}
+use Rattle.bag_tree.specs.declared.tree_fault.Stop.{Stop}
+use Rattle.bag_renew.proofs.CheckedBag.{damaged, files_refuse, none_at_all, opens_read, stages_refuse, sums_are}
+use Rattle.bag_renew.proofs.FirstFaults.{before_first}
+use Rattle.bag_renew.specs.FirstFaults.{IsFoundFirst}
+use Rattle.bag_renew.specs.NewManifests.{HasChecked, OpensRead}
+use Rattle.bag_renew.specs.Obstacles.{IsObstacle}
+use Rattle.bag_renew.specs.Reading.{AllowsRenewal, HasReadBag, IsRefusalOf, IsRefusalOfStop, IsRefusedByFacts}
+use Rattle.bag_renew.specs.Reading.{MayRefuseReading, MayStopReadingBag}
+use Rattle.bag_renew.specs.Renewed.{reads_payload}
+use Rattle.bag_renew.specs.Stops.{IsOfFile, MayStop, MayStopUnchecked, StopsAtFile, StopsChecking}
+use Rattle.bag_renew.specs.Summed.{AreSummed, IsFaultyFile, IsNoMemory, files_to_read}
+use Rattle.bag_renew.specs.Valid.{full}
+use Rattle.bag_renew.specs.declared.checked.Unchecked.{Unchecked}
+use Rattle.bag_renew.specs.declared.checked.Unchecked.TheVariants as checked
+use Rattle.bag_renew.specs.declared.fault.RenewFault.{RenewFault}
+use Rattle.bag_renew.specs.declared.fault.RenewFault.TheVariants as why
+use Rattle.bag_renew.specs.declared.summed.SummedFile.{SummedFile}
+
+-- ---- a stop
+
+of_wanted : (old new : TreeState) (stop : Stop)
+    → IsOutOfMemory stop ⊎ IsOfListing old new stop ⊎ IsRefusedFile full old stop
+    → IsOutOfMemory stop ⊎ IsOfListing old new stop ⊎ IsOfFile old stop
+of_wanted old new stop (inl memory) = inl memory
+of_wanted old new stop (inr (inl listing)) = inr (inl listing)
+of_wanted old new stop (inr (inr ((name, at, wants), has))) =
+    inr (inr (subst (λ p. is_path p ≡ true) at (and_parts _ _ (in_base name)).0, has))
+
+-- the listing or a tag file was refused
+pub stop_of_facts : (old new : TreeState) (stop : Stop) → MayStopReading full old new stop → MayStop old new stop
+stop_of_facts old new stop h =
+    record {
+      cause = h.cause;
+      answered = h.answered;
+      path = of_wanted old new stop h.path;
+      out_of_memory = h.out_of_memory;
+    }
+
+-- memory ran out
+pub stop_for_memory : (old new : TreeState) (stop : Stop) → IsOutOfMemory stop → NothingFailed old new
+    → MayStop old new stop
+stop_for_memory old new stop memory calm =
+    record {
+      cause = rw memory.0 tt;
+      answered = inl memory;
+      path = inl memory;
+      out_of_memory = λ _. inr calm;
+    }
+
+pub unchecked_for_memory : (old new : TreeState) (e : Unchecked) → IsNoMemory e → NothingFailed old new
+    → MayStopUnchecked old new e
+unchecked_for_memory old new (checked.Stopped stop) memory calm = stop_for_memory old new stop memory calm
+unchecked_for_memory old new (checked.Faulty fault) memory calm = absurd memory
+
+refused_path : (old new : TreeState) (stop : Stop) → (IsOutOfMemory stop → ⊥)
+    → IsOutOfMemory stop ⊎ IsOfListing old new stop ⊎ IsOfFile old stop
+    → IsOfListing old new stop ⊎ IsOfFile old stop
+refused_path old new stop not (inl memory) = absurd (not memory)
+refused_path old new stop not (inr other) = other
+
+pub refused_stop : (renewal : Renewal) (old new : TreeState) (stop : Stop) (fault : RenewFault)
+    → MayStop old new stop → IsRefusalOfStop stop fault → MayRefuseReading renewal old new fault
+refused_stop renewal old new stop why.Memory h is = h.out_of_memory is
+refused_stop renewal old new stop (why.ReadStopped other) h is =
+    subst (MayStopReadingBag old new) (sym is.0) (record {
+      cause = h.cause;
+      not_memory = is.1;
+      answered = h.answered;
+      path = refused_path old new stop (λ memory. is.1 memory.0) h.path;
+    })
+refused_stop renewal old new stop (why.Faulty f) h is = absurd is
+refused_stop renewal old new stop why.BadValue h is = absurd is
+refused_stop renewal old new stop why.NoAlgorithm h is = absurd is
+refused_stop renewal old new stop (why.InTheWay n) h is = absurd is
+refused_stop renewal old new stop (why.Unnameable p) h is = absurd is
+refused_stop renewal old new stop why.Version h is = absurd is
+refused_stop renewal old new stop why.Fetch h is = absurd is
+refused_stop renewal old new stop (why.PutRefused n q) h is = absurd is
+refused_stop renewal old new stop (why.RemoveRefused n q) h is = absurd is
+
+-- ---- what is known allows no renewal
+
+module _ (renewal : Renewal) (facts : Facts) where
+  pub refused_by_obstacle : (fault : RenewFault) → IfBagRead facts (λ bag. IsObstacle bag renewal fault)
+      → IsRefusedByFacts facts renewal fault
+  refused_by_obstacle (why.Faulty f) h = λ deep. (1, λ bag of. absurd (h bag of deep), before_first facts)
+  refused_by_obstacle why.BadValue h = h
+  refused_by_obstacle why.NoAlgorithm h = h
+  refused_by_obstacle (why.InTheWay n) h = h
+  refused_by_obstacle (why.Unnameable p) h = h
+  refused_by_obstacle why.Version h = h
+  refused_by_obstacle why.Fetch h = h
+  refused_by_obstacle (why.ReadStopped s) h = h
+  refused_by_obstacle why.Memory h = h
+  refused_by_obstacle (why.PutRefused n q) h = h
+  refused_by_obstacle (why.RemoveRefused n q) h = h
+
+  memory_by_stage : (stop : Stop) (fault : RenewFault) → IsOutOfMemory stop → IsRefusalOfStop stop fault
+      → IsRefusedByFacts facts renewal fault
+  memory_by_stage stop why.Memory memory is = λ bag of deep. tt
+  memory_by_stage stop (why.ReadStopped s) memory is = absurd (is.1 memory.0)
+  memory_by_stage stop (why.Faulty f) memory is = absurd is
+  memory_by_stage stop why.BadValue memory is = absurd is
+  memory_by_stage stop why.NoAlgorithm memory is = absurd is
+  memory_by_stage stop (why.InTheWay n) memory is = absurd is
+  memory_by_stage stop (why.Unnameable p) memory is = absurd is
+  memory_by_stage stop why.Version memory is = absurd is
+  memory_by_stage stop why.Fetch memory is = absurd is
+  memory_by_stage stop (why.PutRefused n q) memory is = absurd is
+  memory_by_stage stop (why.RemoveRefused n q) memory is = absurd is
+
+  pub refused_by_stage : (e : Unchecked) (fault : RenewFault) → IsFoundFirst facts e → IsRefusalOf e fault
+      → IsRefusedByFacts facts renewal fault
+  refused_by_stage (checked.Stopped stop) fault h is = memory_by_stage stop fault h is
+  refused_by_stage (checked.Faulty found) fault h is =
+      subst (IsRefusedByFacts facts renewal) (sym is) (λ deep. h)
+
+-- ---- after the facts were read
+
+module _ (facts : Facts) (old mid new : TreeState) (seen : (bag : Bag) × IsBag bag × IsFactsOf bag facts)
+    (of : IsTrue old.honest → IsFactsOf old.bag facts) (keeps : Keeps old mid) (calm : NothingFailed old mid) where
+  was_honest : IsTrue mid.honest → IsTrue old.honest
+  was_honest honest = sym keeps.honest ∙ honest
+
+  is_entry : IsTrue old.honest → (entry : FileEntry) → Contains facts.listing.files entry → IsEntryOf old.bag entry
+  is_entry honest entry c =
+      sym ((of honest).listing.files entry.path)
+      ∙ own_size facts.listing.files entry (of honest).ordered.ascending c
+
+  entries : IsTrue mid.honest → All (IsEntryOf mid.bag) facts.listing.files
+  entries honest =
+      All-from_recursion (IsEntryOf mid.bag) facts.listing.files
+      (each_from_members (IsEntryOf mid.bag) facts.listing.files
+      (λ entry c. subst (λ bag. IsEntryOf bag entry) (sym keeps.bag) (is_entry (was_honest honest) entry c)))
+
+  its_file : (path : List ℕ) → Contains (paths_of facts.listing.files) path
+      → (is_path path ≡ true) × (IsTrue old.honest → HasFile old.bag path)
+  its_file path has =
+      let m = contains_mapped (λ (e : FileEntry). e.path) facts.listing.files path has in (
+        subst (λ p. is_path p ≡ true) m.2
+            (All-contains (λ (e : FileEntry). IsTrue (is_path e.path)) facts.listing.files m.0 seen.2.ordered.paths
+            m.1),
+        λ honest. subst (HasFile old.bag) m.2
+            (has_entry old m.0 (λ h. is_entry h m.0 m.1) honest),
+      )
+
+  at_file : (stop : Stop) → StopsAtFile facts.listing.files mid new stop
+      → IsOutOfMemory stop ⊎ Contains (paths_of facts.listing.files) stop.path → MayStop old new stop
+  at_file stop h (inl memory) =
+      record {
+        cause = rw memory.0 tt;
+        answered = inl memory;
+        path = inl memory;
+        out_of_memory = λ m. memory_then old mid new calm (h.out_of_memory m);
+      }
+  at_file stop h (inr has) = let its = its_file stop.path has in record {
+    cause = later_refusal old mid new stop.cause keeps (h.cause entries);
+    answered = inr (inr (path_some stop.path its.0, h.answered));
+    path = inr (inr its);
+    out_of_memory = λ m. memory_then old mid new calm (h.out_of_memory m);
+  }
+
+  -- a file was refused
+  pub stop_at_file : (stop : Stop) → StopsAtFile facts.listing.files mid new stop → MayStop old new stop
+  stop_at_file stop h = at_file stop h h.path
+
+  pub stop_of_check : (e : Unchecked) → StopsChecking facts.listing.files mid new e → MayStopUnchecked old new e
+  stop_of_check (checked.Stopped stop) h = stop_at_file stop h
+  stop_of_check (checked.Faulty fault) h = tt
+
+-- a stage has a fault, or memory ran out
+pub stop_of_stages : (facts : Facts) (old mid : TreeState) (e : Unchecked) → IsFoundFirst facts e
+    → NothingFailed old mid → MayStopUnchecked old mid e
+stop_of_stages facts old mid (checked.Stopped stop) h calm = stop_for_memory old mid stop h calm
+stop_of_stages facts old mid (checked.Faulty fault) h calm = tt
+
+module _ (renewal : Renewal) (facts : Facts) (old mid new : TreeState) (options : facts.options ≡ full)
+    (seen : (bag : Bag) × IsBag bag × IsFactsOf bag facts) (of : IsTrue old.honest → IsFactsOf old.bag facts)
+    (keeps : Keeps old mid) (calm : NothingFailed old mid) where
+  deep : facts.options.depth ≢ Declaration
+  deep e = let at : full.depth ≡ Declaration = sym (ap (λ (o : Options). o.depth) options) ∙ e in cc
+
+  -- a file was refused, or has another digest
+  pub refused_by_check : (algs : List Alg) → AllowsRenewal facts renewal algs → (e : Unchecked) (fault : RenewFault)
+      → StopsChecking facts.listing.files mid new e → IsFaultyFile facts mid e → IsRefusalOf e fault
+      → MayRefuseReading renewal old new fault
+  refused_by_check algs allows (checked.Stopped stop) fault stops faulty is =
+      refused_stop renewal old new stop fault (stop_at_file facts old mid new seen of keeps calm stop stops) is
+  refused_by_check algs allows (checked.Faulty found) fault stops faulty is =
+      subst (MayRefuseReading renewal old new) (sym is)
+      (λ honest. files_refuse facts algs old mid new options of keeps allows.none (checked.Faulty found) faulty honest)
+
+  -- what is known allows no renewal
+  pub refused_by_facts : (fault : RenewFault) → IsRefusedByFacts facts renewal fault
+      → MayRefuseReading renewal old mid fault
+  refused_by_facts (why.Faulty f) h = λ honest.
+      stages_refuse facts [] old mid mid options of keeps (checked.Faulty f) (h deep) honest
+  refused_by_facts why.Memory h = inr calm
+  refused_by_facts why.BadValue h = absurd (h seen.0 seen.2 deep)
+  refused_by_facts (why.ReadStopped s) h = absurd (h seen.0 seen.2 deep)
+  refused_by_facts (why.PutRefused n q) h = absurd (h seen.0 seen.2 deep)
+  refused_by_facts (why.RemoveRefused n q) h = absurd (h seen.0 seen.2 deep)
+  refused_by_facts why.NoAlgorithm h = λ honest. h old.bag (of honest) deep
+  refused_by_facts (why.InTheWay n) h = λ honest. h old.bag (of honest) deep
+  refused_by_facts (why.Unnameable p) h = λ honest. h old.bag (of honest) deep
+  refused_by_facts why.Version h = λ honest. h old.bag (of honest) deep
+  refused_by_facts why.Fetch h = λ honest. h old.bag (of honest) deep
+
+  -- all was read and checked
+  module _ (algs : List Alg) (allows : AllowsRenewal facts renewal algs) (with_payload : Bool)
+      (reads : (bag : Bag) → IsFactsOf bag facts → with_payload ≡ reads_payload bag renewal)
+      (summed : List SummedFile) (h : HasChecked facts with_payload algs old new summed) where
+    pub has_read_bag : IsBag old.bag → Keeps old new → NothingFailed old new → HasReadBag renewal old new facts summed
+    has_read_bag is_bag kept never = record {
+      read = record {
+        keeps = kept;
+        no_failure = never;
+        opened = λ honest. subst (λ b. OpensRead b old new) (reads old.bag (of honest))
+            (opens_read facts with_payload algs old new summed h honest);
+        can = λ honest. let free = allows.no_obstacle old.bag (of honest) deep in record {
+          is_bag = is_bag;
+          damaged = damaged facts with_payload algs old new summed h honest;
+          fetch = free.fetch;
+          unmarked = free.unmarked;
+          some_alg = free.some_alg;
+        };
+        valid = λ honest all.
+            none_at_all facts with_payload algs old new summed h honest (reads old.bag (of honest) ∙ all);
+        no_obstacle = λ honest. allows.no_obstacle old.bag (of honest) deep;
+      };
+      options = options;
+      seen = seen;
+      of_bag = of;
+      sums = λ honest.
+          subst (λ some. AreSummed some (files_to_read (reads_payload old.bag renewal) (files_of old.bag)) summed)
+          (allows.new old.bag (of honest))
+          (subst (λ b. AreSummed algs (files_to_read b (files_of old.bag)) summed) (reads old.bag (of honest))
+          (sums_are facts with_payload algs old new summed h honest));
+    }

@@ -1,0 +1,316 @@
+-- The manifests of the renewed bag name what it holds.
+use Rattle.bag_renew.proofs.Common.{◌≡◌, ◌++◌, ◌∷◌, ◌∙◌, inl, inr, ℕ, Bool, true, false, not, cond, List, Option}
+use Rattle.bag_renew.proofs.Common.{[], None, Some, is_some, refl, ap, sym, subst, Contains, and_from, and_parts}
+use Rattle.bag_renew.proofs.Common.{false≢true, entries_sorted, find, get-entries, get-from_entries}
+use Rattle.bag_renew.proofs.Common.{nat_list_cmp_total, exact_texts, contains_back, contains_behind, contains_cases}
+use Rattle.bag_renew.proofs.Common.{contains_mapped}
+use Rattle.bag_renew.proofs.Common.{contains_either, contains_first, contains_nothing, contains_front, name_is_text}
+use Rattle.bag_renew.proofs.Common.{text_cmp, is_path}
+use Rattle.bag_renew.proofs.Common.{is_payload_path, is_manifest_name, manifest_name, tag_path, Kind, Payload, Tag}
+use Rattle.bag_renew.proofs.Common.{TagName, Declaration, Info, Fetch, Manifest, Alg, name, in_base, paths_differ, Bag}
+use Rattle.bag_renew.proofs.Common.{IsBag, file, files_of, payload, File, manifest, stays, declaration_file}
+use Rattle.bag_renew.proofs.Common.{info_files, new_algs, new_elements, with_path, writes_info, kept_or, kept_tag_files}
+use Rattle.bag_renew.proofs.Common.{named_tag_files, payload_manifest}
+use Rattle.bag_renew.proofs.Common.{payload_manifests, HasKnownManifests, Renewal}
+use Rattle.std.specs.FinMap as fin
+use Rattle.std.specs.FinMap.Entries.{find-where_key, is_sorted-where_key, same_entries}
+use Rattle.std.proofs.Common.{IsUtf8}
+use Rattle.std.proofs.lemmas.Str.{IsUtf8-from_is_utf8}
+use Rattle.std.specs.Prelude.{option_and_then}
+use Rattle.bag_text.specs.Rules.{rules_of}
+use Rattle.bag_read.proofs.ManifestName.{named_is}
+use Rattle.bag_read.specs.Declaration.{declared_version}
+use Rattle.bag_facts.proofs.Mapped.{kept, passed}
+use Rattle.bag_facts.specs.Facts.{IsByV10, rules_in}
+use Rattle.bag_stages.proofs.PartFaults.{one_alg}
+use Rattle.bag_tags.proofs.DeclarationReadAgain.{declaration_again}
+use Rattle.bag_tags.specs.Declaration.{declaration_text}
+use Rattle.bag_tags.specs.OnLines.{text_on_lines}
+use Rattle.bag_tags.specs.Writable.{begins_with_mark}
+use Rattle.bag_renew.specs.Contents.{IsNew, IsNewText, Stands}
+use Rattle.bag_renew.specs.Renewed.{renewed}
+use Rattle.bag_renew.specs.Telling.{ArePaths, AreUnmarked, GivesDigests, IsManifestOf, IsWrittenAnew, NamesAll}
+use Rattle.bag_renew.specs.Telling.{NamesItsFiles, NamesItsPayload, NewManifestsGiveDigests, RenewedNames, is_to_name}
+use Rattle.bag_renew.specs.Telling.{to_name}
+use Rattle.bag_renew.proofs.Contents.{one_stands, these_files}
+use Rattle.bag_renew.proofs.Found.{content_of, found, found_alone, held_at, listed, same_option}
+use Rattle.bag_renew.proofs.KeptOr.{kept_or_written, of_v10}
+use Rattle.bag_renew.proofs.Members.{declaration_new, info_listed, info_new, payload_listed, payload_new}
+use Rattle.bag_renew.proofs.Staying.{IsWritten, no_payload_tag, stays_so, written_goes}
+use Rattle.bag_renew.proofs.TagNames.{IsNamed, named_so, no_manifest_name, tag_text, tag_unmarked}
+use Rattle.bag_renew.proofs.WrittenTells.{tells}
+
+module _ (bag : Bag) (renewal : Renewal) where
+  abbrev now : Bag
+  now = renewed bag renewal
+
+  stands : (q c : List ℕ) → file now q ≡ Some c → Stands bag renewal q c
+  stands q c at = (these_files bag renewal q c).0 at
+
+  is_there : (q c : List ℕ) → Stands bag renewal q c → file now q ≡ Some c
+  is_there q c h = (these_files bag renewal q c).1 h
+
+  -- ---- what payload manifests are to name
+
+  pub same_file : (q : List ℕ) → is_payload_path q ≡ true → file now q ≡ file bag q
+  same_file q is = same_option (file now q) (file bag q) (λ c at. elim (stands q c at) [
+    | inl old ↦ old.0
+    | inr new ↦ absurd (no_payload_tag new.0 (ap is_payload_path (sym new.1) ∙ is))
+  ]) (λ c at. is_there q c (inl (at, inl is)))
+
+  in_payload : (b : Bag) (q : List ℕ) → find text_cmp q (payload b) ≡ cond (is_payload_path q) (file b q) None
+  in_payload b q =
+      find-where_key text_cmp is_payload_path q (λ x e. ap is_payload_path (sym (exact_texts q x e))) (files_of b)
+      ∙ ap (λ o. cond (is_payload_path q) o None) (sym (get-entries b.files q))
+
+  by_test : (q : List ℕ) (t : Bool) → is_payload_path q ≡ t → cond t (file now q) None ≡ cond t (file bag q) None
+  by_test q true of_it = same_file q of_it
+  by_test q false other = refl
+
+  pub same_payload : payload now ≡ payload bag
+  same_payload =
+      same_entries text_cmp nat_list_cmp_total exact_texts (payload now) (payload bag)
+      (is_sorted-where_key text_cmp is_payload_path (files_of now) (entries_sorted now.files))
+      (is_sorted-where_key text_cmp is_payload_path (files_of bag) (entries_sorted bag.files))
+      (λ q. in_payload now q ∙ by_test q (is_payload_path q) refl ∙ sym (in_payload bag q))
+
+  -- ---- and tag manifests
+
+  -- the metadata and the payload manifests
+  abbrev others : List File
+  others = info_files bag renewal ++ payload_manifests bag renewal
+
+  abbrev some : List File
+  some = kept_tag_files bag ++ (declaration_file bag ∷ others)
+
+  old_kept : (q c : List ℕ) → Contains (kept_tag_files bag) (q, c) → (stays q ≡ true) × (file bag q ≡ Some c)
+  old_kept q c h =
+      let k = kept (λ (e : File). stays e.0) (files_of bag) (q, c) h in (k.0, held_at bag.files q c k.1)
+
+  abbrev IsToBeNamed : List ℕ → List ℕ → Type 0
+  IsToBeNamed q c = (is_to_name Tag q ≡ true) × Stands bag renewal q c
+
+  stays_named : (q : List ℕ) → stays q ≡ true → is_to_name Tag q ≡ true
+  stays_named q is =
+      let s = stays_so q is in
+      and_from (not (is_payload_path q)) (not (is_manifest_name Tag q)) s.outside s.tag_manifest
+
+  named_by : (q c : List ℕ) (tag : TagName) → IsNamed tag → (q ≡ tag_path tag) → IsNew bag renewal q c
+      → IsToBeNamed q c
+  named_by q c tag named path new = (ap (is_to_name Tag) path ∙ named_so tag named, inr new)
+
+  only_path : (q c only : List ℕ) → Contains {X = File} ((tag_path Info, only) ∷ []) (q, c) → q ≡ tag_path Info
+  only_path q c only h = elim (contains_cases {A = File} (tag_path Info, only) [] (q, c) h) [
+    | inl e ↦ sym (ap (λ (y : File). y.0) e)
+    | inr none ↦ absurd (contains_nothing {A = File} (q, c) none)
+  ]
+
+  info_path : (written : Bool) (there : Option (List ℕ)) (text q c : List ℕ)
+      → Contains (cond written ((tag_path Info, text) ∷ []) (with_path (tag_path Info) there)) (q, c)
+      → q ≡ tag_path Info
+  info_path true there text q c h = only_path q c text h
+  info_path false None text q c h = absurd (contains_nothing {A = File} (q, c) h)
+  info_path false (Some old) text q c h = only_path q c old h
+
+  from_info : (q c : List ℕ) → Contains (info_files bag renewal) (q, c) → IsToBeNamed q c
+  from_info q c h =
+      named_by q c Info tt
+      (info_path (writes_info bag renewal) (file bag (tag_path Info)) (text_on_lines (new_elements bag renewal)) q c h)
+      (info_new bag renewal q c h)
+
+  from_manifest : (q c : List ℕ) → Contains (payload_manifests bag renewal) (q, c) → IsToBeNamed q c
+  from_manifest q c h =
+      let m = contains_mapped {B = File} (payload_manifest bag renewal) (new_algs bag renewal) (q, c) h in
+      named_by q c (Manifest Payload m.0) tt (sym (ap (λ (y : File). y.0) m.2)) (payload_new bag renewal q c h)
+
+  from_some : (q c : List ℕ) → Contains some (q, c) → IsToBeNamed q c
+  from_some q c h = elim (contains_either (kept_tag_files bag) (declaration_file bag ∷ others) (q, c) h) [
+    | inl k ↦ let old = old_kept q c k in (stays_named q old.0, inl (old.1, inr old.0))
+    | inr l ↦ elim (contains_cases (declaration_file bag) others (q, c) l) [
+      | inl e ↦ named_by q c Declaration tt (sym (ap (λ (y : File). y.0) e)) (declaration_new bag renewal q c e)
+      | inr o ↦ elim (contains_either (info_files bag renewal) (payload_manifests bag renewal) (q, c) o)
+          [ inl i ↦ from_info q c i | inr m ↦ from_manifest q c m ]
+    ]
+  ]
+
+  among_others : (e : File) → Contains others e → Contains some e
+  among_others e h =
+      contains_back (kept_tag_files bag) (declaration_file bag ∷ others) e
+      (contains_behind (declaration_file bag) others e h)
+
+  new_in : (tag : TagName) (c : List ℕ) → IsNewText bag renewal tag c → is_to_name Tag (tag_path tag) ≡ true
+      → Contains some (tag_path tag, c)
+  new_in Declaration c text is =
+      subst (λ t. Contains some (tag_path Declaration, t)) (sym text)
+      (contains_back (kept_tag_files bag) (declaration_file bag ∷ others) (declaration_file bag)
+      (contains_first (declaration_file bag) others))
+  new_in Info c text is =
+      among_others (tag_path Info, c)
+      (contains_front (info_files bag renewal) (payload_manifests bag renewal) (tag_path Info, c)
+      (info_listed bag renewal c text))
+  new_in Fetch c text is = absurd text
+  new_in (Manifest Payload alg) c text is =
+      let one : File = payload_manifest bag renewal alg in
+      subst (λ t. Contains some (tag_path (Manifest Payload alg), t)) (sym text.1)
+      (among_others one
+      (contains_back (info_files bag renewal) (payload_manifests bag renewal) one
+      (payload_listed bag renewal alg text.0)))
+  new_in (Manifest Tag alg) c text is =
+      let path = tag_path (Manifest Tag alg) in
+      absurd (false≢true (sym (ap not (named_is Tag path (name alg) (name_is_text alg, refl)))
+      ∙ (and_parts (not (is_payload_path path)) (not (is_manifest_name Tag path)) is).1))
+
+  to_some : (q c : List ℕ) → is_to_name Tag q ≡ true → Stands bag renewal q c → Contains some (q, c)
+  to_some q c is (inl (at, inl of_payload)) =
+      absurd (false≢true (sym (ap not of_payload)
+      ∙ (and_parts (not (is_payload_path q)) (not (is_manifest_name Tag q)) is).0))
+  to_some q c is (inl (at, inr stays_there)) =
+      contains_front (kept_tag_files bag) (declaration_file bag ∷ others) (q, c)
+      (passed (λ (e : File). stays e.0) (files_of bag) (q, c) stays_there (listed bag.files q c at))
+  to_some q c is (inr (tag, path, text)) =
+      subst (λ p. Contains some (p, c)) (sym path) (new_in tag c text (ap (is_to_name Tag) (sym path) ∙ is))
+
+  found_in : (q c : List ℕ) → is_to_name Tag q ≡ true → file now q ≡ Some c → find text_cmp q some ≡ Some c
+  found_in q c is at =
+      found_alone q c some (to_some q c is (stands q c at)) (λ d e.
+      one_stands bag renewal q d c (from_some q d (found q d some e)).1 (stands q c at))
+
+  cond_some : (t : Bool) (o : Option (List ℕ)) (c : List ℕ) → cond t o None ≡ Some c → (t ≡ true) × (o ≡ Some c)
+  cond_some true o c at = (refl, at)
+  cond_some false o c at = absurd (false≢true (ap is_some at))
+
+  named_alike : (q : List ℕ) → find text_cmp q (to_name now Tag) ≡ find text_cmp q (named_tag_files bag renewal)
+  named_alike q =
+      find-where_key text_cmp (is_to_name Tag) q (λ x e. ap (is_to_name Tag) (sym (exact_texts q x e))) (files_of now)
+      ∙ ap (λ o. cond (is_to_name Tag q) o None) (sym (get-entries now.files q))
+      ∙ same_option (cond (is_to_name Tag q) (file now q) None) (find text_cmp q some)
+      (λ c at. let two = cond_some (is_to_name Tag q) (file now q) c at in found_in q c two.0 two.1)
+      (λ c at.
+      let named = from_some q c (found q c some at) in
+      ap (λ t. cond t (file now q) None) named.0 ∙ is_there q c named.1)
+      ∙ sym (sym (get-entries (fin.from_entries {R = text_cmp} some) q) ∙ get-from_entries nat_list_cmp_total some q)
+
+  pub same_named : to_name now Tag ≡ named_tag_files bag renewal
+  same_named =
+      same_entries text_cmp nat_list_cmp_total exact_texts (to_name now Tag) (named_tag_files bag renewal)
+      (is_sorted-where_key text_cmp (is_to_name Tag) (files_of now) (entries_sorted now.files))
+      (entries_sorted (fin.from_entries {R = text_cmp} some)) named_alike
+
+  -- ---- the text of a tag file whose name a renewal writes
+
+  pub new_text : (tag : TagName) (c : List ℕ) → IsWritten tag → file now (tag_path tag) ≡ Some c
+      → IsNewText bag renewal tag c
+  new_text tag c written at = elim (stands (tag_path tag) c at) [
+    | inl old ↦ elim old.1 [
+      | inl is ↦ absurd (no_payload_tag tag is)
+      | inr is ↦ absurd (written_goes tag written is)
+    ]
+    | inr new ↦ subst (λ t. IsNewText bag renewal t c) (paths_differ new.0 tag (sym new.1)) new.2
+  ]
+
+  -- the declaration is the old one, or that of 1.0
+  pub declared : file now (tag_path Declaration) ≡ Some (kept_or bag (tag_path Declaration) declaration_text)
+  declared =
+      is_there (tag_path Declaration) (kept_or bag (tag_path Declaration) declaration_text)
+      (inr (Declaration, refl, refl))
+
+  by_content : (b : Bag) (o : Option (List ℕ)) → file b (tag_path Declaration) ≡ o
+      → rules_in b ≡ rules_of (option_and_then declared_version o)
+  unfolding rules_in
+  by_content b o at = ap (λ (content : Option (List ℕ)). rules_of (option_and_then declared_version content)) at
+
+  pub by_v10 : IsByV10 now
+  by_v10 = elim (kept_or_written bag (tag_path Declaration) declaration_text) [
+    | inl old ↦ by_content now (file bag (tag_path Declaration)) (declared ∙ sym old.1)
+        ∙ sym (by_content bag (file bag (tag_path Declaration)) refl)
+        ∙ of_v10 bag (tag_path Declaration) declaration_text old.0
+    | inr new ↦ by_content now (Some declaration_text) (declared ∙ ap Some new.1) ∙ ap rules_of declaration_again.0
+  ]
+
+  known : HasKnownManifests bag → HasKnownManifests now
+  known old kind alg has =
+      let c = content_of (file now (manifest_name kind alg)) has.1 in
+      elim (stands (manifest_name kind alg) c.0 c.1) [
+        | inl stayed ↦ old kind alg (has.0, ap is_some stayed.0)
+        | inr new ↦ by_tag new.0 c.0 new.2 (sym new.1)
+      ]
+    where
+      by_tag : (tag : TagName) (c : List ℕ) → IsNewText bag renewal tag c → tag_path tag ≡ manifest_name kind alg
+          → (a : Alg) × (alg ≡ name a)
+      by_tag (Manifest k a) c text same = (a, sym (one_alg k kind (name a) alg same))
+      by_tag Declaration c text same = absurd (no_manifest_name Declaration tt kind alg same)
+      by_tag Info c text same = absurd (no_manifest_name Info tt kind alg same)
+      by_tag Fetch c text same = absurd text
+
+  -- ---- what the manifests say
+
+  -- a payload manifest that is kept names the payload, which is as it was
+  carried : (alg : Alg) (text : List ℕ) → NamesAll bag Payload alg text → NamesAll now Payload alg text
+  carried alg text names = record {
+    no_fault = names.no_fault;
+    paths = λ path. (
+      λ h. let old = (names.paths path).0 h in (ap is_some (same_file path old.1) ∙ old.0, old.1),
+      λ h. (names.paths path).1 (sym (ap is_some (same_file path h.1)) ∙ h.0, h.1),
+    );
+  }
+
+  -- a manifest that is written is that of what it is to name
+  says : (kind : Kind) (alg : Alg) (text : List ℕ) → IsWrittenAnew bag kind alg
+      → file now (tag_path (Manifest kind alg)) ≡ Some text → IsManifestOf now kind alg text
+  says Payload alg text anew at =
+      elim (kept_or_written bag (tag_path (Manifest Payload alg)) (manifest alg (payload bag))) [
+        | inl old ↦ absurd (false≢true (sym anew ∙ old.0))
+        | inr new ↦ (new_text (Manifest Payload alg) text tt at).1 ∙ new.1 ∙ ap (manifest alg) (sym same_payload)
+      ]
+  says Tag alg text anew at = (new_text (Manifest Tag alg) text tt at).1 ∙ ap (manifest alg) (sym same_named)
+
+  module _ (is : IsBag bag) (unmarked : AreUnmarked bag) where
+    are_paths : ArePaths now
+    are_paths q has =
+        let c = content_of (file now q) has in
+        elim (stands q c.0 c.1) [
+          | inl stayed ↦ is.paths q (ap is_some stayed.0)
+          | inr new ↦ (
+            ap is_path new.1 ∙ (and_parts (is_path (tag_path new.0)) _ (in_base new.0)).0,
+            subst IsUtf8 (sym new.1) (IsUtf8-from_is_utf8 (tag_path new.0) (tag_text new.0)),
+          )
+        ]
+
+    are_unmarked : AreUnmarked now
+    are_unmarked q has =
+        let c = content_of (file now q) has in
+        elim (stands q c.0 c.1) [
+          | inl stayed ↦ unmarked q (ap is_some stayed.0)
+          | inr new ↦ ap begins_with_mark new.1 ∙ tag_unmarked new.0
+        ]
+
+    written : (kind : Kind) (alg : Alg) (text : List ℕ) → IsWrittenAnew bag kind alg
+        → file now (tag_path (Manifest kind alg)) ≡ Some text
+        → NamesAll now kind alg text × GivesDigests now kind alg text
+    written kind alg text anew at = tells now kind alg are_paths are_unmarked text (says kind alg text anew at)
+
+    pub give_digests : NewManifestsGiveDigests bag renewal
+    give_digests kind alg text anew at = (written kind alg text anew at).1
+
+    told : (IsByV10 bag → NamesItsPayload bag) → (kind : Kind) (alg : Alg) (text : List ℕ)
+        → file now (tag_path (Manifest kind alg)) ≡ Some text → NamesAll now kind alg text
+    told old Tag alg text at = (written Tag alg text tt at).0
+    told old Payload alg text at =
+        let path = tag_path (Manifest Payload alg) in
+        let new = manifest alg (payload bag) in
+        elim (kept_or_written bag path new) [
+          | inl was ↦ carried alg text
+              (old (of_v10 bag path new was.0) alg text
+              (was.1 ∙ ap Some (sym (new_text (Manifest Payload alg) text tt at).1)))
+          | inr anew ↦ (written Payload alg text anew.0 at).0
+        ]
+
+    pub names_files : HasKnownManifests bag → (IsByV10 bag → NamesItsPayload bag) → NamesItsFiles now
+    names_files are_known old = record { rules = by_v10; known = known are_known; told = told old }
+
+pub renewed_names : RenewedNames
+renewed_names bag renewal is are_known unmarked old = (
+  names_files bag renewal is unmarked are_known old,
+  give_digests bag renewal is unmarked,
+  same_payload bag renewal,
+)

@@ -1,0 +1,57 @@
+-- Files with their digests: one more, some more, and those that pass a test.
+use Rattle.bag_renew.proofs.Common.{◌≡◌, ◌<◌, ◌+◌, ◌++◌, ◌∷◌, ℕ, Bool, true, false, cond, List, [], length, take}
+use Rattle.bag_renew.proofs.Common.{get_or, filter, refl, sym, ap, subst, ◌∙◌, false≢true, Alg, File}
+use Rattle.bag_facts.proofs.Mapped.{take_one_more}
+use Rattle.bag_renew.specs.Composing.{of_path}
+use Rattle.bag_renew.specs.Summed.{AreSummed, HasItsSums}
+use Rattle.bag_renew.specs.declared.summed.SummedFile.{SummedFile}
+
+-- those that pass a test, of those that pass a wider one
+module _ {A : Type 0} (narrow wide : A → Bool) (within : (x : A) → narrow x ≡ true → wide x ≡ true) where
+  within_by : (b c : Bool) (x : A) (some xs : List A) → wide x ≡ b → narrow x ≡ c
+      → filter narrow some ≡ filter narrow xs
+      → filter narrow (cond b (x ∷ some) some) ≡ cond (narrow x) (x ∷ filter narrow xs) (filter narrow xs)
+  within_by true c x some xs is passes rest = ap (λ ys. cond (narrow x) (x ∷ ys) ys) rest
+  within_by false true x some xs is passes rest = absurd (false≢true (sym is ∙ within x passes))
+  within_by false false x some xs is passes rest =
+      rest ∙ sym (ap (λ b. cond b (x ∷ filter narrow xs) (filter narrow xs)) passes)
+
+  pub filter_within : (xs : List A) → filter narrow (filter wide xs) ≡ filter narrow xs
+  filter_within [] = refl
+  filter_within (x ∷ xs) = within_by (wide x) (narrow x) x (filter wide xs) xs refl refl (filter_within xs)
+
+module _ (algs : List Alg) where
+  pub some_more : (files more : List File) (summed others : List SummedFile) → AreSummed algs files summed
+      → AreSummed algs more others → AreSummed algs (files ++ more) (summed ++ others)
+  some_more [] more [] others h k = k
+  some_more [] more (y ∷ summed) others h k = absurd h
+  some_more (x ∷ files) more [] others h k = absurd h
+  some_more (x ∷ files) more (y ∷ summed) others h k = (h.0, some_more files more summed others h.1 k)
+
+  filter_by : (test : List ℕ → Bool) (b : Bool) (e : File) (one : SummedFile) (files : List File)
+      (summed : List SummedFile) → test one.path ≡ b → HasItsSums algs e one → AreSummed algs files summed
+      → AreSummed algs (cond (test e.0) (e ∷ files) files) (cond (test one.path) (one ∷ summed) summed)
+  filter_by test b e one files summed is h rest =
+      subst (λ t. AreSummed algs (cond t (e ∷ files) files) (cond (test one.path) (one ∷ summed) summed))
+      (ap test h.path)
+      (elim (test one.path) as (λ t. AreSummed algs (cond t (e ∷ files) files) (cond t (one ∷ summed) summed))
+      [ true ↦ (h, rest) | false ↦ rest ])
+
+  -- those whose paths pass a test
+  pub passing_summed : (test : List ℕ → Bool) (files : List File) (summed : List SummedFile)
+      → AreSummed algs files summed
+      → AreSummed algs (filter (λ e. test e.0) files) (filter (of_path test) summed)
+  passing_summed test [] [] h = tt
+  passing_summed test [] (y ∷ summed) h = absurd h
+  passing_summed test (x ∷ files) [] h = absurd h
+  passing_summed test (x ∷ files) (y ∷ summed) h =
+      filter_by test (test y.path) x y _ _ refl h.0 (passing_summed test files summed h.1)
+
+-- the digests of the first of these files
+pub sums_more : (algs : List Alg) (files : List File) (i : ℕ) (e : File) (summed : List SummedFile) (one : SummedFile)
+    → i < length files → e ≡ get_or files i e
+    → AreSummed algs (take i files) summed → HasItsSums algs e one
+    → AreSummed algs (take (i + 1) files) (summed ++ one ∷ [])
+sums_more algs files i e summed one lt is h s =
+    subst (λ xs. AreSummed algs xs (summed ++ one ∷ [])) (sym (take_one_more files i e lt is))
+    (some_more algs (take i files) (e ∷ []) summed (one ∷ []) h (s, tt))

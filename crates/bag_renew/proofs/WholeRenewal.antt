@@ -1,0 +1,216 @@
+-- What renewing a bag promises follows from what reading it and changing its files promise.
+use Rattle.bag_renew.proofs.Common.{arith, ◌≡◌, ◌≤◌, ◌++◌, ◌∷◌, ◌∙◌, inl, inr, ℕ, true, false, IsTrue, List, [], refl, sym}
+use Rattle.bag_renew.proofs.Common.{ap, subst, append-nil, false≢true, Bag, FileChange, Put, Remove, Renewal, begun_file}
+use Rattle.bag_renew.proofs.Common.{after_changes, changes, renewed, writes_info, HasKnownManifests, IsOutOfTheWay}
+use Rattle.bag_renew.proofs.CanChange.{changes_can_be_made}
+use Rattle.bag_renew.proofs.ChangesRenew.{changes_renew}
+use Rattle.bag_renew.proofs.GoodInfo.{good_elements_are_good_info}
+use Rattle.bag_renew.proofs.OldBag.{known}
+use Rattle.bag_renew.proofs.Valid.{renewed_has_old_faults}
+use Rattle.std.specs.Prelude.{Result, Ok, Err, IfErr, OnOk, MatchResult}
+use Rattle.bag_facts.specs.Facts.{IsByV10}
+use Rattle.bag_facts.specs.declared.fault.Fault.{Fault}
+use Rattle.bag_tree.specs.ChangeFiles.{HasChanged, HasStopped, LastsChanged, LeavesChange, OutlastsChanges}
+use Rattle.bag_tree.specs.Cut.{EachCut, IsDurableAs, LeavesOnly, MayLeave}
+use Rattle.bag_tree.specs.FileChanges.{CanChangeAll, IsAfterFirst}
+use Rattle.bag_tree.specs.Tree.{Keeps, TreeState}
+use Rattle.bag_tree.specs.declared.event.DeviceEvent.{DeviceEvent}
+use Rattle.bag_renew.specs.Reading.{HasKnownSize, MayRefuseReading}
+use Rattle.bag_renew.specs.OnTheWay.{CanRenewInPlace}
+use Rattle.bag_renew.specs.Renew.{HasBegun, HasNoNewFault, HasPlanned, HasRenewed, HasStoppedAt, IsRenewal, MayRefuseRenewing, told_as}
+use Rattle.bag_renew.specs.Request.{is_bad_request}
+use Rattle.bag_renew.specs.Valid.{HasGoodInfo, IsFaultOf, IsOldDamage}
+use Rattle.bag_renew.proofs.OnTheWay.{each_cut_has_old_faults}
+use Rattle.bag_renew.specs.declared.fault.RenewFault.{RenewFault}
+use Rattle.bag_renew.specs.declared.fault.RenewFault.TheVariants as why
+
+-- ---- what a change that was refused leaves of the rest
+
+abbrev IsAsBefore : TreeState → TreeState → Type 0
+IsAsBefore old new = (new.honest ≡ old.honest) × (old.failures ≤ new.failures) × (new.noted ≡ old.noted)
+
+left_so : (beside : List ℕ) (change : FileChange) (old new : TreeState) → LeavesChange beside change old new
+    → IsAsBefore old new
+left_so beside (Put name bytes) old new (inl same) = (same.keeps.honest, same.keeps.failures, same.keeps.noted)
+left_so beside (Put name bytes) old new (inr (inl part)) = (part.begun.honest, part.begun.failures, part.begun.noted)
+left_so beside (Put name bytes) old new (inr (inr done)) = (done.honest, done.failures, done.noted)
+left_so beside (Remove name) old new (inl same) = (same.keeps.honest, same.keeps.failures, same.keeps.noted)
+left_so beside (Remove name) old new (inr done) = (done.honest, done.failures, done.noted)
+
+-- ---- where nothing was asked of the device
+
+none_before : (before after : List DeviceEvent) → [] ≡ before ++ after → before ≡ []
+none_before [] after e = refl
+none_before (x ∷ before) after e = cc
+
+nothing_asked : (P : Bag → Type 0) (bag : Bag) (old new : List DeviceEvent) → P bag → new ≡ old → EachCut old new bag P
+nothing_asked P bag old new now same = record {
+  since = [];
+  trail = same ∙ sym (append-nil old);
+  each = λ first durable before after parts left may.
+      let trail_is : old ++ before ≡ old =
+      ap (λ (xs : List DeviceEvent). old ++ xs) (none_before before after parts) ∙ append-nil old in
+      let left_is : left ≡ bag =
+      durable left (subst (λ (xs : List DeviceEvent). MayLeave xs first left) trail_is may) in
+      subst P (sym left_is) now;
+}
+
+none_made : (changes : List FileChange) (bag : Bag) → IsAfterFirst begun_file changes bag bag
+none_made changes bag = record { k = 0; within = omega arith; is = inl refl }
+
+-- what holds of each, where it follows of what a cut leaves
+each_then : (P Q : Bag → Type 0) (bag : Bag) (old new : List DeviceEvent) → ((left : Bag) → P left → Q left)
+    → EachCut old new bag P → EachCut old new bag Q
+each_then P Q bag old new then cut = record {
+  since = cut.since;
+  trail = cut.trail;
+  each = λ first durable before after parts left may. then left (cut.each first durable before after parts left may);
+}
+
+-- ---- a bag that wasn't changed
+
+module _ (renewal : Renewal) (old new : TreeState) where
+  told_before : (fault : RenewFault) → Keeps old new → MayRefuseReading renewal old new fault
+      → MayRefuseRenewing renewal old new fault
+  told_before (why.PutRefused name cause) keeps h = absurd h
+  told_before (why.RemoveRefused name cause) keeps h = absurd h
+  told_before fault keeps h = (keeps, h)
+
+  pub refused_before : (fault : RenewFault) → Keeps old new
+      → (is_bad_request renewal.elements ≡ true → new ≡ old)
+      → MayRefuseReading renewal old new fault → IsRenewal renewal old new (Err fault)
+  refused_before fault keeps untouched h = record {
+    honest = keeps.honest;
+    failures = keeps.failures;
+    noted = keeps.noted;
+    untouched = untouched;
+    is_renewed = tt;
+    valid = tt;
+    refused = told_before fault keeps h;
+    any_moment = λ honest noted way.
+        nothing_asked (IsAfterFirst begun_file (changes old.bag renewal) old.bag) old.bag old.trail new.trail
+        (none_made (changes old.bag renewal) old.bag) keeps.trail;
+    no_new_fault = λ honest noted way rules size.
+        nothing_asked (HasNoNewFault old.bag) old.bag old.trail new.trail (λ f is. is) keeps.trail;
+    lasting = tt;
+  }
+
+-- ---- and one whose files were changed
+
+module _ (renewal : Renewal) (old read new : TreeState) (planned : List FileChange)
+    (plan : HasPlanned renewal old read planned) where
+  keeps : Keeps old read
+  keeps = plan.read.bag.keeps
+
+  untouched : is_bad_request renewal.elements ≡ true → new ≡ old
+  untouched bad = absurd (false≢true (sym plan.asked ∙ bad))
+
+  module _ (honest : IsTrue old.honest) (way : IsOutOfTheWay old.bag) where
+    can_all : CanChangeAll begun_file planned read.bag
+    can_all =
+        rw (keeps.bag, plan.changes_are honest)
+        (changes_can_be_made old.bag renewal (plan.read.bag.can honest).is_bag way)
+
+    after_all : after_changes planned old.bag ≡ renewed old.bag renewal
+    after_all =
+        let can = plan.read.bag.can honest in
+        ap (λ some. after_changes some old.bag) (plan.changes_are honest)
+        ∙ changes_renew old.bag renewal can.is_bag (known old.bag can.damaged) way
+
+    pub at_any_moment : IsTrue old.noted → OutlastsChanges begun_file planned read new
+        → EachCut old.trail new.trail old.bag (IsAfterFirst begun_file (changes old.bag renewal) old.bag)
+    at_any_moment noted outlasts =
+        rw (keeps.trail, keeps.bag, plan.changes_are honest) at (outlasts (keeps.noted ∙ noted) can_all)
+
+    good_info : HasKnownSize old.bag → HasGoodInfo old.bag renewal
+    good_info size =
+        good_elements_are_good_info old.bag renewal (plan.read.bag.can honest)
+        (λ writes. plan.read.elements honest writes size)
+
+    pub no_new_one : IsTrue old.noted → IsByV10 old.bag → HasKnownSize old.bag
+        → OutlastsChanges begun_file planned read new
+        → EachCut old.trail new.trail old.bag (HasNoNewFault old.bag)
+    no_new_one noted rules size outlasts =
+        let in_place : CanRenewInPlace old.bag renewal = record {
+          rules = rules;
+          can = plan.read.bag.can honest;
+          info = good_info size;
+          way = way;
+          begun = λ alg named. (plan.read.bag.no_obstacle honest).own (alg, named);
+        } in
+        each_then (IsAfterFirst begun_file (changes old.bag renewal) old.bag) (HasNoNewFault old.bag) old.bag old.trail
+        new.trail (λ left after f is. (each_cut_has_old_faults old.bag renewal left in_place after f is).1)
+        (at_any_moment noted outlasts)
+
+    renewed_bag : HasChanged begun_file planned read new → new.bag ≡ renewed old.bag renewal
+    renewed_bag changed = changed.bag (keeps.honest ∙ honest) ∙ ap (after_changes planned) keeps.bag ∙ after_all
+
+    lasts : IsTrue old.noted → LastsChanged begun_file planned read new
+        → LeavesOnly old.trail new.trail old.bag (renewed old.bag renewal)
+    lasts noted lasting =
+        subst (λ bag. LeavesOnly old.trail new.trail old.bag bag) after_all
+        (rw (keeps.trail, keeps.bag) at (lasting (keeps.noted ∙ noted) can_all))
+
+    its_faults : HasChanged begun_file planned read new → HasKnownSize old.bag → (f : Fault)
+        → IsFaultOf new.bag f → IsOldDamage old.bag renewal f
+    its_faults changed size f is =
+        let can = plan.read.bag.can honest in
+        renewed_has_old_faults old.bag renewal can
+        (good_info size) f
+        (subst (λ bag. IsFaultOf bag f) (renewed_bag changed) is)
+
+  pub all_made : HasChanged begun_file planned read new → OutlastsChanges begun_file planned read new
+      → LastsChanged begun_file planned read new → IsRenewal renewal old new (Ok tt)
+  all_made changed outlasts lasting = record {
+    honest = changed.honest ∙ keeps.honest;
+    failures = omega (arith, keeps.failures, changed.no_failure);
+    noted = changed.noted ∙ keeps.noted;
+    untouched = untouched;
+    is_renewed = record {
+      planned = planned;
+      read = read;
+      plan = plan;
+      changed = changed;
+      bag = λ honest way. renewed_bag honest way changed;
+    };
+    valid = λ honest way size. its_faults honest way changed size;
+    refused = tt;
+    any_moment = λ honest noted way. at_any_moment honest way noted outlasts;
+    no_new_fault = λ honest noted way rules size. no_new_one honest way noted rules size outlasts;
+    lasting = λ honest noted way. lasts honest way noted lasting;
+  }
+
+  told_stopped : (fault : RenewFault) → HasStoppedAt planned read new fault
+      → MayRefuseRenewing renewal old new fault
+  told_stopped (why.PutRefused name cause) h = record { planned = planned; read = read; plan = plan; stopped = h }
+  told_stopped (why.RemoveRefused name cause) h = record { planned = planned; read = read; plan = plan; stopped = h }
+  told_stopped fault h = absurd (never h.change h.told)
+    where
+      never : (change : FileChange) → fault ≡ told_as change h.refused.cause → ⊥
+      never (Put name bytes) same = cc
+      never (Remove name) same = cc
+
+  pub one_refused : (fault : RenewFault) → HasStoppedAt planned read new fault
+      → OutlastsChanges begun_file planned read new → IsRenewal renewal old new (Err fault)
+  one_refused fault h outlasts =
+      let so_far = h.stopped.changed in
+      let left = left_so begun_file h.stopped.change h.stopped.before new h.stopped.left in record {
+        honest = left.0 ∙ so_far.honest ∙ keeps.honest;
+        failures = omega (arith, keeps.failures, so_far.no_failure, left.1);
+        noted = left.2 ∙ so_far.noted ∙ keeps.noted;
+        untouched = untouched;
+        is_renewed = tt;
+        valid = tt;
+        refused = told_stopped fault h;
+        any_moment = λ honest noted way. at_any_moment honest way noted outlasts;
+        no_new_fault = λ honest noted way rules size. no_new_one honest way noted rules size outlasts;
+        lasting = tt;
+      }
+
+  pub one_result : (result : Result (Unit {0}) RenewFault)
+      → OnOk result (HasChanged begun_file planned read new)
+      → IfErr result (HasStoppedAt planned read new)
+      → OutlastsChanges begun_file planned read new
+      → OnOk result (LastsChanged begun_file planned read new) → IsRenewal renewal old new result
+  one_result (Ok done) changed stopped outlasts lasting = all_made changed outlasts lasting
+  one_result (Err fault) changed stopped outlasts lasting = one_refused fault stopped outlasts

@@ -1,0 +1,42 @@
+use Rattle.bag_facts.proofs.Reading.{keeps_on}
+use Rattle.bag_tree.proofs.Calm.{nothing_then}
+use Rattle.bag_renew.proofs.CheckedBag.{has_checked}
+use Rattle.bag_renew.proofs.ReadBag.{has_read_bag, refused_by_check, refused_by_facts, refused_stop, stop_of_facts}
+use Rattle.bag_renew.proofs.reading.read_bag.Goals as goal
+
+pub returns-in-Err-clause-refused : goal.returns-in-Err-clause-refused
+returns-in-Err-clause-refused g c =
+    let old = g.T.Tree.state c.args.tree.now in
+    let new = g.T.Tree.state c.read.new.tree in
+    refused_stop c.args.renewal.now old new c.in-Err.stop c.stopped.result
+    (stop_of_facts old new c.in-Err.stop c.in-Err.ensures.stop) c.stopped.ensures
+
+pub returns-in-Err-check_facts-clause-refused : goal.returns-in-Err-check_facts-clause-refused
+returns-in-Err-check_facts-clause-refused g c =
+    refused_by_facts c.args.renewal.now c.in-Ok.facts (g.T.Tree.state c.args.tree.now) (g.T.Tree.state c.read.new.tree)
+    (g.T.Tree.state c.read.new.tree) c.in-Ok.ensures.options c.in-Ok.ensures.seen c.in-Ok.ensures.facts
+    c.read.ensures.keeps c.in-Ok.ensures.no_failure c.in-Err-check_facts.fault c.in-Err-check_facts.ensures.refused
+
+pub returns-in-Err-check_files-clause-refused : goal.returns-in-Err-check_files-clause-refused
+returns-in-Err-check_files-clause-refused g c =
+    refused_by_check c.args.renewal.now c.in-Ok.facts (g.T.Tree.state c.args.tree.now) (g.T.Tree.state c.read.new.tree)
+    (g.T.Tree.state c.check_files.new.tree) c.in-Ok.ensures.options c.in-Ok.ensures.seen c.in-Ok.ensures.facts
+    c.read.ensures.keeps c.in-Ok.ensures.no_failure c.in-Ok-check_facts.algs c.in-Ok-check_facts.ensures.algs
+    c.in-Err-check_files.unchecked c.refusal.result c.in-Err-check_files.ensures.stopped
+    c.in-Err-check_files.ensures.faulty c.refusal.ensures
+
+pub returns-in-Ok-check_files-clause-read : goal.returns-in-Ok-check_files-clause-read
+returns-in-Ok-check_files-clause-read g c =
+    let old = g.T.Tree.state c.args.tree.now in
+    let mid = g.T.Tree.state c.read.new.tree in
+    let new = g.T.Tree.state c.check_files.new.tree in
+    let ok = c.in-Ok.ensures in
+    has_read_bag c.args.renewal.now c.in-Ok.facts old mid new ok.options ok.seen ok.facts c.read.ensures.keeps
+    ok.no_failure c.in-Ok-check_facts.algs c.in-Ok-check_facts.ensures.algs c.reads_payload-with_payload.result
+    c.reads_payload-with_payload.ensures c.in-Ok-check_files.summed.items
+    (has_checked c.in-Ok.facts c.in-Ok-check_facts.algs old mid new ok.options ok.facts c.read.ensures.keeps
+    c.in-Ok-check_facts.ensures.algs.none c.reads_payload-with_payload.result c.in-Ok-check_files.summed.items ok.seen
+    ok.opened c.in-Ok-check_files.ensures.opened c.in-Ok-check_files.ensures.checked)
+    (g.met.T.Tree.is_bag c.args.tree.now)
+    (keeps_on old mid new c.read.ensures.keeps c.check_files.ensures.keeps)
+    (nothing_then old mid new ok.no_failure c.in-Ok-check_files.ensures.no_failure)

@@ -1,0 +1,98 @@
+-- What the changes of a renewal are composed of.
+use Rattle.std.specs.Prelude.{ℕ, ◌||◌, ◌&&◌, Bool, not, List, [], ◌∷◌, ◌++◌, Option, bytes_eq}
+use Rattle.std.specs.Prelude.{All, map, if◌then◌else◌}
+use Rattle.std.specs.List.{list_any}
+use Rattle.bag_text.specs.AlgList.{has_member}
+use Rattle.bag_text.specs.Path.{is_payload_path}
+use Rattle.bag_text.specs.declared.alg.Alg.{Alg}
+use Rattle.bag_read.specs.ManifestName.{tag_path}
+use Rattle.bag_read.specs.declared.kind.Kind.{Kind}
+use Rattle.bag_read.specs.declared.kind.Kind.TheVariants.{Payload, Tag}
+use Rattle.bag_read.specs.declared.tag_name.TagName.{TagName}
+use Rattle.bag_read.specs.declared.tag_name.TagName.TheVariants.{Declaration, Info, Manifest}
+use Rattle.bag_tags.specs.Entry.{manifest_text}
+use Rattle.bag_tree.specs.Bag.{Bag, files_of}
+use Rattle.bag_tree.specs.ChangeFiles.{IsOfFile}
+use Rattle.bag_tree.specs.declared.file_change.FileChange.{FileChange}
+use Rattle.bag_tree.specs.declared.file_change.FileChange.TheVariants.{Put, Remove}
+use Rattle.bag_renew.specs.Changes.{unkept}
+use Rattle.bag_renew.specs.NewManifests.{summed_entry}
+use Rattle.bag_renew.specs.Renewed.{File, algs_where, begun_file, declaration_file, in_path_order}
+use Rattle.bag_renew.specs.Renewed.{info_files, is_kept, is_kept_alg, new_algs, payload_manifests}
+use Rattle.bag_renew.specs.Renewed.{reads_payload, stays, writes_info}
+use Rattle.bag_renew.specs.Summed.{AreSummed, files_to_read}
+use Rattle.bag_renew.specs.declared.renewal.Renewal.{Renewal}
+use Rattle.bag_renew.specs.declared.summed.SummedFile.{SummedFile}
+
+abbrev pub is_tag_file : File → Bool
+is_tag_file e = not (is_payload_path e.0)
+
+-- the path and the digests of a file
+abbrev pub summed_of : List ℕ × List (Option (List ℕ)) → SummedFile
+summed_of e = record { path = e.0; sums = e.1 }
+
+-- the test of a path, of a file that was summed
+abbrev pub of_path : (List ℕ → Bool) → SummedFile → Bool
+of_path test one = test one.path
+
+-- a path that isn't one of the payload
+abbrev pub is_tag_path : List ℕ → Bool
+is_tag_path path = not (is_payload_path path)
+
+-- these digests are of these files in the order of their paths
+abbrev pub AreInPathOrder : List Alg → List File → List SummedFile → Type 0
+AreInPathOrder algs files summed = AreSummed algs (in_path_order files) summed
+
+-- the members of one set of algorithms that are also in another, and those that aren't
+abbrev pub in_both : List Alg → List Alg → List Alg
+in_both set other = algs_where (λ alg. has_member set alg && has_member other alg)
+
+abbrev pub in_first : List Alg → List Alg → List Alg
+in_first set other = algs_where (λ alg. has_member set alg && not (has_member other alg))
+
+-- the manifests of these algorithms are removed
+abbrev pub removals_of : Kind → List Alg → List FileChange
+removals_of kind algs = map (λ alg. Remove (tag_path (Manifest kind alg))) algs
+
+-- each change is of a file of the base folder, and puts none of the name that a file has while it
+-- is written
+abbrev pub AreOfFiles : List FileChange → Type 0
+AreOfFiles changes = All (IsOfFile begun_file) changes
+
+-- the tag manifests that give these digests are put
+abbrev pub tag_manifests_of : List Alg → List SummedFile → List FileChange
+tag_manifests_of algs files =
+    map (λ alg. Put (tag_path (Manifest Tag alg)) (manifest_text (map (summed_entry alg) files))) algs
+
+-- the file of this name stays, or is one whose bytes are kept
+abbrev pub keeps_bytes : List TagName → List ℕ → Bool
+keeps_bytes kept path = stays path || list_any (λ name. bytes_eq (tag_path name) path) kept
+
+-- the declaration, where it is put, which is after manifests are dropped
+abbrev pub last_files : Bag → List File
+last_files bag = unkept bag (declaration_file bag ∷ [])
+
+module _ (bag : Bag) (renewal : Renewal) where
+  -- these are the files that a renewal reads, in path order, each with its digests by all new
+  -- algorithms: the tag files, and the payload where it is read
+  abbrev pub AreSummedFor : List SummedFile → Type 0
+  AreSummedFor summed =
+      AreSummed (new_algs bag renewal) (files_to_read (reads_payload bag renewal) (files_of bag))
+      summed
+
+  -- the tag files whose names a renewal writes, and that are kept
+  abbrev pub kept_names : List TagName
+  kept_names =
+      map (Manifest Payload) (algs_where (is_kept_alg bag renewal))
+      ++ ((if writes_info bag renewal then [] else Info ∷ [])
+      ++ (if is_kept bag (tag_path Declaration) then Declaration ∷ [] else []))
+
+  -- the tag files that are put before manifests are dropped
+  abbrev pub first_files : List File
+  first_files =
+      (if writes_info bag renewal then info_files bag renewal else [])
+      ++ unkept bag (payload_manifests bag renewal)
+
+  -- the algorithms whose payload manifest is put
+  abbrev pub written_algs : List Alg
+  written_algs = in_first (new_algs bag renewal) (algs_where (is_kept_alg bag renewal))

@@ -1,0 +1,95 @@
+-- What keeps a bag without faults from being renewed (RFC 8493, 2).
+use Rattle.std.specs.Prelude.{ℕ, ◌≡◌, ◌≢◌, ◌⊎◌, ◌==◌, ◌&&◌, ◌||◌, Bool, true, false, not, List, [], ◌∷◌}
+use Rattle.std.specs.Prelude.{◌++◌, Option, Some, Contains, find, map, nat_eq}
+use Rattle.std.specs.List.{list_any, starts_with}
+use Rattle.bag_text.specs.Alg.{algs}
+use Rattle.bag_text.specs.Path.{under}
+use Rattle.bag_text.specs.Spelling.{percent}
+use Rattle.bag_text.specs.declared.alg.Alg.{Alg}
+use Rattle.bag_read.specs.ManifestName.{tag_path}
+use Rattle.bag_read.specs.declared.kind.Kind.{Kind}
+use Rattle.bag_read.specs.declared.kind.Kind.TheVariants.{Payload, Tag}
+use Rattle.bag_read.specs.declared.tag_name.TagName.TheVariants.{Declaration, Fetch, Info, Manifest}
+use Rattle.bag_facts.specs.Facts.{IsByV10}
+use Rattle.bag_stages.specs.TagFiles.{Names}
+use Rattle.bag_tags.specs.Writable.{begins_with_mark}
+use Rattle.bag_tree.specs.Bag.{Bag, HasFile, LacksFile, files_of}
+use Rattle.bag_tree.specs.declared.listing.FileEntry.{FileEntry}
+use Rattle.bag_renew.specs.Renewed.{begun_file, keeps, new_algs}
+use Rattle.bag_renew.specs.Telling.{AreUnmarked}
+use Rattle.bag_renew.specs.declared.fault.RenewFault.{RenewFault}
+use Rattle.bag_renew.specs.declared.fault.RenewFault.TheVariants as why
+use Rattle.bag_renew.specs.declared.renewal.Renewal.{Renewal}
+
+-- the names of the manifests of a kind, of each supported algorithm
+unfoldable pub manifest_names : Kind → List (List ℕ)
+manifest_names kind = map (λ alg. tag_path (Manifest kind alg)) algs
+
+-- the names of the tag files that a renewal puts or removes, and of one that is begun
+abbrev pub reserved_names : List (List ℕ)
+reserved_names =
+    tag_path Declaration ∷ tag_path Info ∷ begun_file
+    ∷ (manifest_names Payload ++ manifest_names Tag)
+
+-- some file of the bag stands below the name
+abbrev pub HasBelow : Bag → List ℕ → Type 0
+HasBelow bag name = (rest : List ℕ) × HasFile bag (under name rest)
+
+-- no file stands below a reserved name
+abbrev pub AreFree : Bag → Type 0
+AreFree bag = (name : List ℕ) → Contains reserved_names name → ¬ (HasBelow bag name)
+
+-- a tag manifest names the path
+abbrev pub IsNamedAsTag : Bag → List ℕ → Type 0
+IsNamedAsTag bag path = (alg : Alg) × Names bag Tag alg path
+
+-- A reserved name below which files stand; or that of a begun file, where a tag manifest names it:
+-- so it's a user's own, and not what a renewal that was cut off has begun.
+abbrev pub IsInTheWay : Bag → List ℕ → Type 0
+IsInTheWay bag name =
+    (Contains reserved_names name × HasBelow bag name)
+    ⊎ ((name ≡ begun_file) × IsNamedAsTag bag begun_file)
+
+abbrev pub has_percent : List ℕ → Bool
+has_percent path = list_any (λ c. c == percent) path
+
+-- a path that begins with a blank or a *, which readers of manifests drop; or, of a bag of 0.97,
+-- which spells it otherwise than one of 1.0, one with a %
+abbrev pub is_unnameable : Bool → List ℕ → Bool
+is_unnameable is_kept path = begins_with_mark path || (not is_kept && has_percent path)
+
+abbrev pub paths_of : Bag → List (List ℕ)
+paths_of bag = map (λ e. e.0) (files_of bag)
+
+-- the first of them in path order, if any
+abbrev pub first_unnameable : Bag → Option (List ℕ)
+first_unnameable bag = find (is_unnameable (keeps bag)) (paths_of bag)
+
+-- nothing keeps the bag from being renewed
+pub record HasNoObstacle (bag : Bag) (renewal : Renewal) : Type 0 where
+  pub version : (keeps bag ≡ true) ⊎ (renewal.to_1_0 ≡ true)
+  pub fetch : IsByV10 bag ⊎ LacksFile bag (tag_path Fetch)
+  pub some_alg : new_algs bag renewal ≢ []
+  pub free : AreFree bag
+  pub own : ¬ (IsNamedAsTag bag begun_file)
+  pub unmarked : AreUnmarked bag
+  pub spelled : (keeps bag ≡ true)
+      ⊎ ((path : List ℕ) → HasFile bag path → has_percent path ≡ false)
+
+-- the fault is one for which the bag isn't renewed, though it may have no fault itself; memory may
+-- run out at any bag
+abbrev pub IsObstacle : Bag → Renewal → RenewFault → Type 0
+IsObstacle bag renewal why.Version = (keeps bag ≡ false) × (renewal.to_1_0 ≡ false)
+IsObstacle bag renewal why.Fetch = (keeps bag ≡ false) × HasFile bag (tag_path Fetch)
+IsObstacle bag renewal why.NoAlgorithm = new_algs bag renewal ≡ []
+IsObstacle bag renewal (why.InTheWay name) = IsInTheWay bag name
+IsObstacle bag renewal (why.Unnameable path) = first_unnameable bag ≡ Some path
+IsObstacle bag renewal why.Memory = Unit {0}
+IsObstacle bag renewal fault = ⊥
+
+-- among listed files, some stands below the name
+abbrev pub is_below : List ℕ → List ℕ → Bool
+is_below name path = starts_with nat_eq path (under name [])
+
+abbrev pub has_below : List FileEntry → List ℕ → Bool
+has_below files name = list_any (λ entry. is_below name entry.path) files

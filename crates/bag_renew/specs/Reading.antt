@@ -1,0 +1,107 @@
+-- How a bag is read that is to be renewed.
+use Rattle.std.specs.Prelude.{◌≡◌, ◌≢◌, ◌⊎◌, ◌<◌, ◌^◌, true, IsTrue, List}
+use Rattle.std.specs.List.{list_any}
+use Rattle.bag_text.specs.declared.alg.Alg.{Alg}
+use Rattle.bag_facts.specs.FactsOfBag.{IfBagRead, IsFactsOf}
+use Rattle.bag_facts.specs.Stops.{IsOfListing, MayRefuseFacts, ReportsAnswer}
+use Rattle.bag_facts.specs.declared.facts.Facts.{Facts}
+use Rattle.bag_facts.specs.declared.options.Depth.TheVariants.{Declaration}
+use Rattle.bag_stages.specs.Payload.{oxum}
+use Rattle.bag_tags.specs.OnLines.{is_bad_long_element}
+use Rattle.bag_tree.specs.Bag.{Bag, IsBag, files_of}
+use Rattle.bag_tree.specs.Tree.{Keeps, MayReportMemory, NothingFailed, TreeState}
+use Rattle.bag_tree.specs.declared.tree_fault.Stop.{Stop}
+use Rattle.bag_tree.specs.declared.tree_fault.TreeFault.TheVariants as cause_of
+use Rattle.bag_renew.specs.FirstFaults.{HasNoneBefore, IsFoundFirst}
+use Rattle.bag_renew.specs.NewManifests.{IsRefusedFor, OpensRead}
+use Rattle.bag_renew.specs.Obstacles.{HasNoObstacle, IsObstacle}
+use Rattle.bag_renew.specs.Renewed.{new_algs, new_elements, reads_payload, writes_info}
+use Rattle.bag_renew.specs.Request.{is_bad_request}
+use Rattle.bag_renew.specs.Stops.{IsOfFile}
+use Rattle.bag_renew.specs.Summed.{AreSummed, files_to_read}
+use Rattle.bag_renew.specs.Valid.{CanRenew, HasGoodElements, HasNoFault, full}
+use Rattle.bag_renew.specs.declared.checked.Unchecked.{Unchecked}
+use Rattle.bag_renew.specs.declared.checked.Unchecked.TheVariants as checked
+use Rattle.bag_renew.specs.declared.fault.RenewFault.{RenewFault}
+use Rattle.bag_renew.specs.declared.fault.RenewFault.TheVariants as why
+use Rattle.bag_renew.specs.declared.renewal.Renewal.{Renewal}
+use Rattle.bag_renew.specs.declared.summed.SummedFile.{SummedFile}
+
+-- the number of the payload's files and of their bytes can be written
+pub record HasKnownSize (bag : Bag) : Type 0 where
+  pub count : (oxum bag).streams < 2 ^ 64
+  pub size : (oxum bag).octets < 2 ^ 64
+
+-- A bag was read that can be renewed. It has no fault where its payload was read.
+pub record IsReadBag (renewal : Renewal) (old new : TreeState) : Type 0 where
+  pub keeps : Keeps old new
+  pub no_failure : NothingFailed old new
+  -- the payload is opened only where a payload manifest is written
+  pub opened : IsTrue old.honest → OpensRead (reads_payload old.bag renewal) old new
+  pub can : IsTrue old.honest → CanRenew old.bag renewal
+  pub valid : IsTrue old.honest → reads_payload old.bag renewal ≡ true → HasNoFault old.bag
+  pub no_obstacle : IsTrue old.honest → HasNoObstacle old.bag renewal
+
+-- So it was, and these are what is known of it and the digests of the files that were read. What is
+-- known is of the bag of an honest tree, and else of some bag.
+pub record HasReadBag (renewal : Renewal) (old new : TreeState) (facts : Facts)
+    (summed : List SummedFile) : Type 0 where
+  pub read : IsReadBag renewal old new
+  pub options : facts.options ≡ full
+  pub seen : (bag : Bag) × IsBag bag × IsFactsOf bag facts
+  pub of_bag : IsTrue old.honest → IsFactsOf old.bag facts
+  pub sums : IsTrue old.honest → AreSummed (new_algs old.bag renewal)
+      (files_to_read (reads_payload old.bag renewal) (files_of old.bag)) summed
+
+-- A bag was read that can be renewed, and the metadata that is written of it can be.
+pub record IsReadForRenewal (renewal : Renewal) (old new : TreeState) : Type 0 where
+  pub bag : IsReadBag renewal old new
+  pub elements : IsTrue old.honest → writes_info old.bag renewal ≡ true → HasKnownSize old.bag
+      → HasGoodElements old.bag renewal
+
+-- A stop names the cause, which is the tree's own answer, and the file that was refused; none where
+-- it was the listing.
+pub record MayStopReadingBag (old new : TreeState) (stop : Stop) : Type 0 where
+  pub cause : MayRefuseFacts old new stop.cause
+  pub not_memory : stop.cause ≢ cause_of.Memory
+  pub answered : ReportsAnswer new stop
+  pub path : IsOfListing old new stop ⊎ IsOfFile old stop
+
+-- Why a bag isn't renewed before a file of it was changed: of an honest tree for what its bag is.
+-- Out of memory is reported only where the tree reported it or refused nothing.
+abbrev pub MayRefuseReading : Renewal → TreeState → TreeState → RenewFault → Type 0
+MayRefuseReading renewal old new (why.Faulty fault) =
+    IsTrue old.honest → IsRefusedFor old.bag (checked.Faulty fault)
+MayRefuseReading renewal old new why.BadValue =
+    (is_bad_request renewal.elements ≡ true)
+    ⊎ (IsTrue old.honest → list_any is_bad_long_element (new_elements old.bag renewal) ≡ true)
+MayRefuseReading renewal old new (why.ReadStopped stop) = MayStopReadingBag old new stop
+MayRefuseReading renewal old new why.Memory = MayReportMemory old new
+MayRefuseReading renewal old new (why.PutRefused name cause) = ⊥
+MayRefuseReading renewal old new (why.RemoveRefused name cause) = ⊥
+MayRefuseReading renewal old new fault =
+    IsTrue old.honest → IsObstacle old.bag renewal fault
+
+-- What is known of a bag allows that it is renewed: there is no fault of the stages that open no
+-- payload file, and no obstacle, and these are the algorithms of its new manifests.
+pub record AllowsRenewal (facts : Facts) (renewal : Renewal) (algs : List Alg) : Type 0 where
+  pub none : HasNoneBefore facts 7
+  pub no_obstacle : IfBagRead facts (λ bag. HasNoObstacle bag renewal)
+  pub new : (bag : Bag) → IsFactsOf bag facts → algs ≡ new_algs bag renewal
+
+-- or doesn't: by the first fault, or by an obstacle; or memory ran out
+abbrev pub IsRefusedByFacts : Facts → Renewal → RenewFault → Type 0
+IsRefusedByFacts facts renewal (why.Faulty fault) =
+    facts.options.depth ≢ Declaration → IsFoundFirst facts (checked.Faulty fault)
+IsRefusedByFacts facts renewal fault = IfBagRead facts (λ bag. IsObstacle bag renewal fault)
+
+-- the refusal that a stop is: out of memory is one of its own
+abbrev pub IsRefusalOfStop : Stop → RenewFault → Type 0
+IsRefusalOfStop stop why.Memory = stop.cause ≡ cause_of.Memory
+IsRefusalOfStop stop (why.ReadStopped other) = (other ≡ stop) × (stop.cause ≢ cause_of.Memory)
+IsRefusalOfStop stop fault = ⊥
+
+-- and the one for which a file isn't known to have its digests
+abbrev pub IsRefusalOf : Unchecked → RenewFault → Type 0
+IsRefusalOf (checked.Stopped stop) fault = IsRefusalOfStop stop fault
+IsRefusalOf (checked.Faulty found) fault = fault ≡ why.Faulty found

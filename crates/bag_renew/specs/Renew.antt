@@ -1,0 +1,99 @@
+-- What renewing a bag promises.
+use Rattle.std.specs.Prelude.{ℕ, ◌≡◌, ◌≤◌, ◌-◌, false, true, All, IsTrue, List, Some, slice_get}
+use Rattle.std.specs.Prelude.{Result, IfErr, OnOk}
+use Rattle.bag_tree.specs.Bag.{Bag}
+use Rattle.bag_tree.specs.ChangeFiles.{HasChanged, HasStopped, IsOfFile}
+use Rattle.bag_tree.specs.Cut.{EachCut, LeavesOnly}
+use Rattle.bag_tree.specs.FileChanges.{IsAfterFirst}
+use Rattle.bag_tree.specs.Tree.{Keeps, TreeState}
+use Rattle.bag_tree.specs.declared.changing_files.RefusedChange.{RefusedChange}
+use Rattle.bag_tree.specs.declared.file_change.FileChange.{FileChange}
+use Rattle.bag_tree.specs.declared.file_change.FileChange.TheVariants.{Put, Remove}
+use Rattle.bag_tree.specs.declared.tree_fault.TreeFault.{TreeFault}
+use Rattle.bag_facts.specs.Facts.{IsByV10}
+use Rattle.bag_facts.specs.declared.fault.Fault.{Fault}
+use Rattle.bag_renew.specs.Changes.{changes}
+use Rattle.bag_renew.specs.Laws.{IsOutOfTheWay}
+use Rattle.bag_renew.specs.Reading.{HasKnownSize, IsReadForRenewal, MayRefuseReading}
+use Rattle.bag_renew.specs.Renewed.{begun_file, renewed}
+use Rattle.bag_renew.specs.Request.{is_bad_request}
+use Rattle.bag_renew.specs.Valid.{IsFaultOf, IsOldDamage}
+use Rattle.bag_renew.specs.declared.fault.RenewFault.{RenewFault}
+use Rattle.bag_renew.specs.declared.fault.RenewFault.TheVariants as why
+use Rattle.bag_renew.specs.declared.renewal.Renewal.{Renewal}
+
+-- All was read for a renewal, and these are its changes, of an honest tree's bag.
+pub record HasPlanned (renewal : Renewal) (old new : TreeState) (planned : List FileChange) : Type 0
+  where
+    pub asked : is_bad_request renewal.elements ≡ false
+    pub read : IsReadForRenewal renewal old new
+    pub changes_are : IsTrue old.honest → planned ≡ changes old.bag renewal
+    pub of_files : All (IsOfFile begun_file) planned
+
+-- The bag was renewed: all was read for it, and then the changes were made. Of an honest tree it is
+-- the renewed bag then.
+pub record HasRenewed (renewal : Renewal) (old new : TreeState) : Type 0 where
+  pub planned : List FileChange
+  pub read : TreeState
+  pub plan : HasPlanned renewal old read planned
+  pub changed : HasChanged begun_file planned read new
+  pub bag : IsTrue old.honest → IsOutOfTheWay old.bag → new.bag ≡ renewed old.bag renewal
+
+-- what a refused change is told as
+abbrev pub told_as : FileChange → TreeFault → RenewFault
+told_as (Put name bytes) cause = why.PutRefused name cause
+told_as (Remove name) cause = why.RemoveRefused name cause
+
+-- The changes before one were made, and this one was refused, as the tree answered, and is told so.
+pub record HasStoppedAt (planned : List FileChange) (read new : TreeState) (fault : RenewFault)
+    : Type 0 where
+  pub refused : RefusedChange
+  pub stopped : HasStopped begun_file planned read new refused
+  pub change : FileChange
+  pub place : slice_get planned (refused.place - 1) ≡ Some change
+  pub told : fault ≡ told_as change refused.cause
+
+-- All was read for the renewal, and then one of the changes was refused.
+pub record HasBegun (renewal : Renewal) (old new : TreeState) (fault : RenewFault) : Type 0 where
+  pub planned : List FileChange
+  pub read : TreeState
+  pub plan : HasPlanned renewal old read planned
+  pub stopped : HasStoppedAt planned read new fault
+
+-- When each refusal comes. Each but that of a change leaves the tree's bag as it was.
+abbrev pub MayRefuseRenewing : Renewal → TreeState → TreeState → RenewFault → Type 0
+MayRefuseRenewing renewal old new (why.PutRefused name cause) =
+    HasBegun renewal old new (why.PutRefused name cause)
+MayRefuseRenewing renewal old new (why.RemoveRefused name cause) =
+    HasBegun renewal old new (why.RemoveRefused name cause)
+MayRefuseRenewing renewal old new fault = Keeps old new × MayRefuseReading renewal old new fault
+
+-- a bag has no fault that another hasn't
+abbrev pub HasNoNewFault : Bag → Bag → Type 0
+HasNoNewFault bag left = (f : Fault) → IsFaultOf left f → IsFaultOf bag f
+
+-- All that is promised of renewing a bag.
+pub record IsRenewal (renewal : Renewal) (old new : TreeState)
+    (result : Result (Unit {0}) RenewFault) : Type 0 where
+  pub honest : new.honest ≡ old.honest
+  pub failures : old.failures ≤ new.failures
+  pub noted : new.noted ≡ old.noted
+  -- where the request can't be met nothing is looked at
+  pub untouched : is_bad_request renewal.elements ≡ true → new ≡ old
+  pub is_renewed : OnOk result (HasRenewed renewal old new)
+  -- a fault of the renewed bag is damage of the payload that the bag had, by a manifest that is
+  -- kept; it has none where the payload was read
+  pub valid : OnOk result (IsTrue old.honest → IsOutOfTheWay old.bag → HasKnownSize old.bag
+      → (f : Fault) → IsFaultOf new.bag f → IsOldDamage old.bag renewal f)
+  pub refused : IfErr result (MayRefuseRenewing renewal old new)
+  -- a power cut at any moment leaves what the first of the changes made
+  pub any_moment : IsTrue old.honest → IsTrue old.noted → IsOutOfTheWay old.bag
+      → EachCut old.trail new.trail old.bag
+      (IsAfterFirst begun_file (changes old.bag renewal) old.bag)
+  -- where the bag is of version 1.0, that has no fault that the bag hadn't
+  pub no_new_fault : IsTrue old.honest → IsTrue old.noted → IsOutOfTheWay old.bag
+      → IsByV10 old.bag → HasKnownSize old.bag
+      → EachCut old.trail new.trail old.bag (HasNoNewFault old.bag)
+  -- and after Ok a power cut leaves the renewed bag, and nothing else
+  pub lasting : OnOk result (IsTrue old.honest → IsTrue old.noted → IsOutOfTheWay old.bag
+      → LeavesOnly old.trail new.trail old.bag (renewed old.bag renewal))

@@ -1,0 +1,102 @@
+//! The algorithms whose manifests a renewed bag has, and which of them are kept.
+ghost use Rattle.std.specs.Prelude.{◌≡◌, ◌&&◌, ◌||◌, not};
+ghost use Rattle.std.specs.List.{list_any};
+ghost use Rattle.bag_text.specs.Alg.{algs as all_algs};
+ghost use Rattle.bag_text.specs.AlgList.{has_member};
+ghost use Rattle.bag_facts.specs.FactsOfBag.{IsFactsOf};
+ghost use Rattle.bag_tree.specs.Bag.{Bag};
+ghost use Rattle.bag_renew.specs.Renewed as spec;
+
+use crate::Renewal;
+use bag_facts::Facts;
+use bag_read::Kind;
+use bag_text::{Alg, AlgSet, Rules};
+
+/// Whether a bag keeps what needs no change, as one of version 1.0 does.
+pub(crate) fn keeps(facts: &Facts) -> bool
+    ensures { (bag : Bag) → IsFactsOf bag facts.now → result ≡ spec.keeps bag }
+{
+    match facts.rules() {
+        Rules::V10 => true,
+        Rules::V097 => false,
+    }
+}
+
+/// The algorithms of the renewed bag's manifests.
+pub(crate) fn new_algs(facts: &Facts, renewal: &Renewal) -> AlgSet
+    ensures { (bag : Bag) → IsFactsOf bag facts.now → result ≡ spec.new_algs bag renewal.now }
+{
+    let old = facts.algs(Kind::Payload);
+    let mut algs = AlgSet::empty();
+    for alg in Alg::ALL {
+        if is_new(old, renewal, alg) {
+            algs = algs.with(alg);
+        }
+    }
+    algs
+}
+
+/// Those of them whose payload manifest is kept.
+pub(crate) fn kept_algs(facts: &Facts, renewal: &Renewal) -> AlgSet
+    ensures { (bag : Bag) → IsFactsOf bag facts.now
+        → result ≡ spec.algs_where (spec.is_kept_alg bag renewal.now) }
+{
+    let old = facts.algs(Kind::Payload);
+    let mut algs = AlgSet::empty();
+    if !keeps(facts) {
+        return algs;
+    }
+    for alg in Alg::ALL {
+        if stays(old, renewal, alg) {
+            algs = algs.with(alg);
+        }
+    }
+    algs
+}
+
+/// Whether the payload is read: a payload manifest is written.
+pub(crate) fn reads_payload(facts: &Facts, renewal: &Renewal) -> bool
+    ensures { (bag : Bag) → IsFactsOf bag facts.now
+        → result ≡ spec.reads_payload bag renewal.now }
+{
+    has_other(new_algs(facts, renewal), kept_algs(facts, renewal))
+}
+
+/// Whether the renewed bag has the manifest of an algorithm, where the bag had these.
+fn is_new(old: AlgSet, renewal: &Renewal, alg: Alg) -> bool
+    ensures { result
+        ≡ ((has_member old alg || has_member renewal.now.added alg)
+        && not (has_member renewal.now.dropped alg)) }
+{
+    (has(old, alg) || has(renewal.added, alg)) && !has(renewal.dropped, alg)
+}
+
+/// Whether the bag had the manifest of an algorithm, and it isn't dropped.
+fn stays(old: AlgSet, renewal: &Renewal, alg: Alg) -> bool
+    ensures { result ≡ (has_member old alg && not (has_member renewal.now.dropped alg)) }
+{
+    has(old, alg) && !has(renewal.dropped, alg)
+}
+
+/// Whether a set has a member that isn't one of the others.
+fn has_other(algs: AlgSet, others: AlgSet) -> bool
+    ensures { result
+        ≡ list_any (λ alg. has_member algs alg && not (has_member others alg)) all_algs }
+{
+    Alg::ALL.iter().any(|alg| is_other(algs, others, *alg))
+}
+
+/// Whether a member of a set isn't one of the others.
+pub(crate) fn is_other(algs: AlgSet, others: AlgSet, alg: Alg) -> bool
+    ensures { result ≡ (has_member algs alg && not (has_member others alg)) }
+{
+    has(algs, alg) && !has(others, alg)
+}
+
+/// Whether an algorithm is a member of a set.
+#[tactic(auto, using(crate::proofs::AlgsMade::is_member))]
+pub(crate) fn has(set: AlgSet, alg: Alg) -> bool
+    ensures { result ≡ has_member set alg }
+{
+    set.has(alg)
+}

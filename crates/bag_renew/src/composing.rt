@@ -1,0 +1,113 @@
+//! The changes that renew a bag, composed of what was read of it.
+ghost use Rattle.std.specs.Prelude.{◌≡◌, ◌++◌, IfOk, OnOk, map};
+ghost use Rattle.bag_facts.specs.FactsOfBag.{IsFactsOf};
+ghost use Rattle.bag_tree.specs.Bag.{Bag};
+ghost use Rattle.bag_renew.specs.Changes as spec;
+ghost use Rattle.bag_renew.specs.Composing.{AreOfFiles, AreSummedFor, tag_manifests_of};
+ghost use Rattle.bag_renew.specs.NewInfo.{IsNewInfo};
+ghost use Rattle.bag_renew.specs.Composed.{IsComposed, PutsFiles};
+
+use crate::Renewal;
+use crate::algorithms::new_algs;
+use crate::further::manifest;
+use crate::named::{named_tag_files, parted};
+use crate::removing::{dropped, opened};
+use crate::summed::SummedFile;
+use crate::tag_files::{first_files, kept_names, last_files};
+use bag_facts::Facts;
+use bag_read::{Kind, TagName};
+use bag_text::{Alg, Items, Text};
+use bag_tree::FileChange;
+use std::alloc::{AllocError, Global};
+
+/// What the changes are composed of.
+#[derive(Debug, Drop)]
+pub(crate) struct Composed {
+    /// The files that are put before manifests are dropped: the metadata and payload manifests.
+    pub first: Vec<(Text, Items<u8>)>,
+    /// Those that are put after that: the declaration, where it isn't kept.
+    pub last: Vec<(Text, Items<u8>)>,
+    /// The digests of the files that tag manifests name.
+    pub named: Vec<SummedFile>,
+}
+
+/// The changes that renew a bag (RFC 8493, 2.1.1, 2.1.3, 2.2.1 and 2.2.2), in their order. Given are
+/// the digests of the files that were read, and the text of `bag-info.txt` where that is written.
+pub(crate) fn changes_of(
+    alloc: Global,
+    facts: &Facts,
+    renewal: &Renewal,
+    summed: Vec<SummedFile>,
+    info: Option<Items<u8>>,
+) -> Result<Vec<FileChange>, AllocError>
+    ensures changes { IfOk result (λ made. (bag : Bag) → IsFactsOf bag facts.now
+        → AreSummedFor bag renewal.now summed.items → IsNewInfo bag renewal.now info
+        → made.items ≡ spec.changes bag renewal.now) }
+    ensures files { IfOk result (λ made. AreOfFiles made.items) }
+{
+    let algs = new_algs(facts, renewal).members(alloc)?;
+    let Composed { first, last, named } = compose(alloc, facts, renewal, summed, info)?;
+    let mut changes = opened(alloc, facts)?;
+    append(&mut changes, puts(alloc, first)?)?;
+    append(&mut changes, dropped(alloc, facts, renewal)?)?;
+    append(&mut changes, puts(alloc, last)?)?;
+    append(&mut changes, tag_manifests(alloc, &algs, &named)?)?;
+    Ok(changes)
+}
+
+/// The files that are put, and the digests of those that tag manifests name.
+fn compose(
+    alloc: Global,
+    facts: &Facts,
+    renewal: &Renewal,
+    summed: Vec<SummedFile>,
+    info: Option<Items<u8>>,
+) -> Result<Composed, AllocError>
+    ensures composed { IfOk result (λ composed. (bag : Bag) → IsFactsOf bag facts.now
+        → AreSummedFor bag renewal.now summed.items → IsNewInfo bag renewal.now info
+        → IsComposed bag renewal.now composed) }
+    ensures files { IfOk result PutsFiles }
+{
+    let algs = new_algs(facts, renewal);
+    let kept = kept_names(alloc, facts, renewal, info.is_none())?;
+    let (payload, tags) = parted(alloc, summed, &kept)?;
+    let first = first_files(alloc, facts, renewal, &payload, info)?;
+    let last = last_files(alloc, facts)?;
+    let named = named_tag_files(alloc, tags, &first, &last, algs)?;
+    Ok(Composed { first, last, named })
+}
+
+/// Puts changes behind others.
+fn append(changes: &mut Vec<FileChange>, more: Vec<FileChange>) -> Result<(), AllocError>
+    ensures { OnOk result (changes.new.items ≡ changes.old.items ++ more.items) }
+{
+    let mut more = more;
+    changes.append(&mut more)
+}
+
+/// The changes that put files.
+fn puts(alloc: Global, files: Vec<(Text, Items<u8>)>) -> Result<Vec<FileChange>, AllocError>
+    ensures { IfOk result (λ made. made.items ≡ map spec.put files.items) }
+{
+    let mut changes = Vec::with_capacity(alloc, files.len())?;
+    for (path, bytes) in files {
+        changes.push(FileChange::Put(path, bytes))?;
+    }
+    Ok(changes)
+}
+
+/// The changes that put tag manifests, each of which names these files (RFC 8493, 2.2.1).
+fn tag_manifests(
+    alloc: Global,
+    algs: &[Alg],
+    files: &[SummedFile],
+) -> Result<Vec<FileChange>, AllocError>
+    ensures { IfOk result (λ made. made.items ≡ tag_manifests_of algs.now files.now) }
+{
+    let mut changes = Vec::new(alloc);
+    for alg in algs {
+        let path = TagName::Manifest(Kind::Tag, *alg).path(alloc)?;
+        changes.push(FileChange::Put(path, manifest(alloc, *alg, files)?))?;
+    }
+    Ok(changes)
+}

@@ -1,0 +1,141 @@
+//! The new `bag-info.txt` (RFC 8493, 2.2.2).
+ghost use Rattle.std.specs.Prelude.{◌≡◌, false, length, All, IfErr, IfOk};
+ghost use Rattle.std.specs.List.{list_any};
+ghost use Rattle.bag_facts.specs.FactsOfBag.{IfBagRead, IsFactsOf};
+ghost use Rattle.bag_stages.specs.Payload.{oxum_text};
+ghost use Rattle.bag_stages.specs.PayloadSize.{listed_oxum, payload_entries};
+ghost use Rattle.bag_tags.specs.OnLines as bad;
+ghost use Rattle.bag_text.specs.Text.{IsText};
+ghost use Rattle.bag_tree.specs.Bag.{Bag};
+ghost use Rattle.bag_renew.specs.Elements.{elements_of};
+ghost use Rattle.bag_renew.specs.NewInfo as info;
+ghost use Rattle.bag_renew.specs.NewInfo.{AreTexts, IsInfoRefusal, IsNewInfo};
+ghost use Rattle.bag_renew.specs.Renewed as spec;
+
+use crate::algorithms::keeps;
+use crate::elements::{asks_nothing, renewed_elements};
+use crate::{RenewFault, Renewal};
+use bag_facts::Facts;
+use bag_tags::{Element, is_bad_long_element, write_long_info};
+use bag_text::{Items, Text, is_payload};
+use bag_tree::FileEntry;
+use std::alloc::{AllocError, Global};
+
+/// The bytes of the `bag-info.txt` that is written, where one is.
+pub(crate) fn info_file(
+    alloc: Global,
+    facts: &Facts,
+    renewal: &Renewal,
+) -> Result<Option<Items<u8>>, RenewFault>
+    ensures text { IfOk result (λ info.
+        IfBagRead facts.now (λ bag. IsNewInfo bag renewal.now info)) }
+    ensures refused { IfErr result (IsInfoRefusal facts.now renewal.now) }
+{
+    if !writes_info(facts, renewal) {
+        return Ok(None);
+    }
+    let Ok(elements) = new_elements(alloc, facts, renewal) else {
+        return Err(RenewFault::Memory);
+    };
+    if has_bad(&elements) {
+        return Err(RenewFault::BadValue);
+    }
+    // The elements were asked, so that only memory can be wanting.
+    match write_long_info(alloc, &elements) {
+        Ok(bytes) => Ok(Some(Items::from_vec(bytes))),
+        Err(_) => Err(RenewFault::Memory),
+    }
+}
+
+/// Whether `bag-info.txt` is written: something is asked of it, or nothing is kept.
+fn writes_info(facts: &Facts, renewal: &Renewal) -> bool
+    ensures { (bag : Bag) → IsFactsOf bag facts.now → result ≡ spec.writes_info bag renewal.now }
+{
+    !(keeps(facts) && asks_nothing(&renewal.elements))
+}
+
+/// Whether one of the elements can't be written. Where none is, each is of texts.
+fn has_bad(elements: &[(Text, Text)]) -> bool
+    ensures bad { result ≡ list_any bad.is_bad_long_element elements.now }
+    ensures texts { result ≡ false → All AreTexts elements.now }
+{
+    elements.iter().any(|element| is_bad(element))
+}
+
+fn is_bad(element: &(Text, Text)) -> bool
+    ensures bad { result ≡ bad.is_bad_long_element element.now }
+    ensures texts { AreTexts element.now }
+{
+    are_texts(element.0.as_str(), element.1.as_str());
+    is_bad_long_element(element)
+}
+
+/// The law that what a `&str` holds is a text.
+fn are_texts(label: &str, value: &str)
+    ensures { IsText label.now × IsText value.now }
+{}
+
+/// The elements of the renewed bag.
+fn new_elements(
+    alloc: Global,
+    facts: &Facts,
+    renewal: &Renewal,
+) -> Result<Vec<(Text, Text)>, AllocError>
+    ensures { IfOk result (λ made.
+        IfBagRead facts.now (λ bag. made.items ≡ spec.new_elements bag renewal.now)) }
+{
+    let old = old_elements(alloc, facts)?;
+    let size = size_text(alloc, facts.files())?;
+    renewed_elements(alloc, &renewal.elements, size, &old)
+}
+
+/// The elements that the bag has.
+fn old_elements(alloc: Global, facts: &Facts) -> Result<Vec<(Text, Text)>, AllocError>
+    ensures { IfOk result (λ made. IfBagRead facts.now (λ bag. made.items ≡ elements_of bag)) }
+{
+    match facts.metadata() {
+        Some(metadata) => labels_and_values(alloc, metadata.elements.as_slice()),
+        None => Ok(Vec::new(alloc)),
+    }
+}
+
+fn labels_and_values(alloc: Global, elements: &[Element]) -> Result<Vec<(Text, Text)>, AllocError>
+    ensures { IfOk result (λ made. made.items ≡ info.labels_and_values elements.now) }
+{
+    let mut made = Vec::new(alloc);
+    for element in elements {
+        made.push((element.label.copy(alloc)?, element.value.copy(alloc)?))?;
+    }
+    Ok(made)
+}
+
+/// The value of `Payload-Oxum`: how many bytes the payload has, a dot, and how many files.
+fn size_text(alloc: Global, files: &[FileEntry]) -> Result<Text, AllocError>
+    ensures { IfOk result (λ text. text ≡ oxum_text (listed_oxum files.now)) }
+{
+    let octets = payload_octets(files);
+    let streams = payload_count(files);
+    Ok(Text::from_string(format!(in alloc; "{octets}.{streams}")?))
+}
+
+/// How many bytes the payload has. Sizes that each fit 64 bits need not fit them together.
+fn payload_octets(files: &[FileEntry]) -> u128
+    ensures { result ≡ (listed_oxum files.now).octets }
+{
+    let mut octets: u128 = 0;
+    for entry in files {
+        if is_payload(entry.path.as_str()) {
+            octets += u128::from(entry.size);
+        }
+    }
+    octets
+}
+
+fn payload_count(files: &[FileEntry]) -> usize
+    ensures { result ≡ length (payload_entries files.now) }
+{
+    files
+        .iter()
+        .filter(|entry| is_payload(entry.path.as_str()))
+        .count()
+}

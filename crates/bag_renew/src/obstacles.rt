@@ -1,0 +1,225 @@
+//! What keeps a bag without faults from being renewed.
+ghost use Rattle.std.specs.Prelude.{◌≡◌, ◌↔◌, ◌&&◌, ◌++◌, not, find, IfErr, IfOk, IsTrue};
+ghost use Rattle.std.specs.Prelude.{MatchOption, OnOk};
+ghost use Rattle.std.specs.Option.{option_copied};
+ghost use Rattle.bag_read.specs.ManifestName.{tag_path};
+ghost use Rattle.bag_read.specs.declared.kind.Kind.TheVariants.{Tag};
+ghost use Rattle.bag_read.specs.declared.tag_name.TagName.TheVariants.{Fetch};
+ghost use Rattle.bag_facts.specs.FactsOfBag.{IfBagRead, IsFactsOf};
+ghost use Rattle.bag_stages.specs.TagFiles.{Names};
+ghost use Rattle.bag_tags.specs.Writable.{begins_with_mark};
+ghost use Rattle.bag_tree.specs.Bag.{Bag, has_file};
+ghost use Rattle.bag_renew.specs.Obstacles as spec;
+ghost use Rattle.bag_renew.specs.Renewed as renewed;
+
+use crate::algorithms::{keeps, new_algs};
+use crate::{RenewFault, Renewal};
+use bag_facts::Facts;
+use bag_read::{Kind, TagName};
+use bag_text::{Alg, Text, is_blank};
+use bag_tree::{FileEntry, rest_within};
+use std::alloc::{AllocError, Global};
+
+/// The name that a tag file has while it is written.
+pub(crate) const BEGUN_FILE: &str = ".bagit-begun";
+
+const STAR: u8 = b'*';
+
+const PERCENT: u8 = b'%';
+
+/// Whether nothing keeps a bag without faults from being renewed; else the first obstacle, in this
+/// order: its version, what it fetches, its algorithms, the names of tag files, and paths that no
+/// manifest can name. The facts are those read for more than the declaration. Memory is taken for
+/// names only.
+///
+/// A folder with the name of a tag file is noticed where a file stands below it. One that holds no
+/// file isn't listed, and isn't noticed here.
+pub(crate) fn check_obstacles(
+    alloc: Global,
+    facts: &Facts,
+    renewal: &Renewal,
+) -> Result<(), RenewFault>
+    ensures none { OnOk result (IfBagRead facts.now (λ bag.
+        spec.HasNoObstacle bag renewal.now)) }
+    ensures obstacle { IfErr result (λ fault. IfBagRead facts.now (λ bag.
+        spec.IsObstacle bag renewal.now fault)) }
+{
+    match first_obstacle(alloc, facts, renewal) {
+        Ok(None) => Ok(()),
+        Ok(Some(fault)) => Err(fault),
+        Err(AllocError) => Err(RenewFault::Memory),
+    }
+}
+
+/// The first obstacle, if any.
+fn first_obstacle(
+    alloc: Global,
+    facts: &Facts,
+    renewal: &Renewal,
+) -> Result<Option<RenewFault>, AllocError>
+    ensures { IfOk result (λ found. IfBagRead facts.now (λ bag.
+        MatchOption found (spec.HasNoObstacle bag renewal.now)
+        (spec.IsObstacle bag renewal.now))) }
+{
+    if stays_old(facts, renewal) {
+        return Ok(Some(RenewFault::Version));
+    }
+    if has_old_fetch(facts) {
+        return Ok(Some(RenewFault::Fetch));
+    }
+    if new_algs(facts, renewal).is_empty() {
+        return Ok(Some(RenewFault::NoAlgorithm));
+    }
+    if let Some(name) = name_in_the_way(alloc, facts)? {
+        return Ok(Some(RenewFault::InTheWay(name)));
+    }
+    match unnameable_path(alloc, facts)? {
+        Some(path) => Ok(Some(RenewFault::Unnameable(path))),
+        None => Ok(None),
+    }
+}
+
+/// Whether a bag is of version 0.97, and wasn't asked to become one of 1.0.
+fn stays_old(facts: &Facts, renewal: &Renewal) -> bool
+    ensures { (bag : Bag) → IsFactsOf bag facts.now
+        → result ≡ (not (renewed.keeps bag) && not renewal.now.to_1_0) }
+{
+    !keeps(facts) && !renewal.to_1_0
+}
+
+/// Whether a bag is of version 0.97, and has `fetch.txt`.
+fn has_old_fetch(facts: &Facts) -> bool
+    ensures { IfBagRead facts.now (λ bag.
+        result ≡ (not (renewed.keeps bag) && has_file bag (tag_path Fetch))) }
+{
+    !keeps(facts) && facts.fetch_list().is_some()
+}
+
+/// A name that a renewal needs and that isn't free: files stand below it, or it's that of a begun
+/// file, and a tag manifest names it.
+fn name_in_the_way(alloc: Global, facts: &Facts) -> Result<Option<Text>, AllocError>
+    ensures { IfOk result (λ found. IfBagRead facts.now (λ bag.
+        MatchOption found (spec.AreFree bag × ¬ (spec.IsNamedAsTag bag renewed.begun_file))
+        (spec.IsInTheWay bag))) }
+{
+    let begun = Text::from_str(alloc, BEGUN_FILE)?;
+    if is_named(facts, &begun) {
+        return Ok(Some(begun));
+    }
+    let names = reserved_names(alloc)?;
+    Ok(first_with_below(facts.files(), names))
+}
+
+/// Whether some tag manifest names a path.
+fn is_named(facts: &Facts, path: &Text) -> bool
+    ensures named { IfBagRead facts.now (λ bag.
+        IsTrue result → spec.IsNamedAsTag bag path.now) }
+    ensures unnamed { IfBagRead facts.now (λ bag.
+        spec.IsNamedAsTag bag path.now → IsTrue result) }
+{
+    Alg::ALL.iter().any(|alg| is_named_by(facts, *alg, path))
+}
+
+/// Whether the tag manifest of an algorithm names a path.
+fn is_named_by(facts: &Facts, alg: Alg, path: &Text) -> bool
+    ensures { IfBagRead facts.now (λ bag. IsTrue result ↔ Names bag Tag alg path.now) }
+{
+    match facts.manifest(Kind::Tag, alg) {
+        Some(manifest) => manifest.names(path),
+        None => false,
+    }
+}
+
+/// The names of the tag files that a renewal puts or removes, and of one that is begun.
+fn reserved_names(alloc: Global) -> Result<Vec<Text>, AllocError>
+    ensures { IfOk result (λ names. names.items ≡ spec.reserved_names) }
+{
+    let mut names = Vec::new(alloc);
+    names.push(TagName::Declaration.path(alloc)?)?;
+    names.push(TagName::Info.path(alloc)?)?;
+    names.push(Text::from_str(alloc, BEGUN_FILE)?)?;
+    push_manifest_names(alloc, &mut names, Kind::Payload)?;
+    push_manifest_names(alloc, &mut names, Kind::Tag)?;
+    Ok(names)
+}
+
+/// Adds the names of the manifests of a kind.
+fn push_manifest_names(alloc: Global, names: &mut Vec<Text>, kind: Kind) -> Result<(), AllocError>
+    ensures { OnOk result (names.new.items ≡ names.old.items ++ spec.manifest_names kind) }
+{
+    for alg in Alg::ALL {
+        names.push(TagName::Manifest(kind, alg).path(alloc)?)?;
+    }
+    Ok(())
+}
+
+/// The first of these names below which a file stands.
+fn first_with_below(files: &[FileEntry], names: Vec<Text>) -> Option<Text>
+    ensures { result ≡ find (spec.has_below files.now) names.items }
+{
+    names
+        .into_iter()
+        .find(|name| has_below(files, name.as_str()))
+}
+
+/// Whether one of the files stands below a name.
+fn has_below(files: &[FileEntry], name: &str) -> bool
+    ensures { result ≡ spec.has_below files.now name.now }
+{
+    files
+        .iter()
+        .any(|entry| is_below(name, entry.path.as_str()))
+}
+
+fn is_below(name: &str, path: &str) -> bool
+    ensures { result ≡ spec.is_below name.now path.now }
+{
+    match rest_within(name, path) {
+        Some(rest) => !rest.is_empty(),
+        None => false,
+    }
+}
+
+/// The first path that no manifest of the renewed bag can name, in path order.
+fn unnameable_path(alloc: Global, facts: &Facts) -> Result<Option<Text>, AllocError>
+    ensures { IfOk result (λ found. (bag : Bag) → IsFactsOf bag facts.now
+        → found ≡ spec.first_unnameable bag) }
+{
+    match first_unnameable(facts.files(), keeps(facts)) {
+        Some(entry) => Ok(Some(entry.path.copy(alloc)?)),
+        None => Ok(None),
+    }
+}
+
+/// The first of the files that no manifest can name. Of a bag that keeps what needs no change, a
+/// path with a `%` is named as it was.
+fn first_unnameable(files: &[FileEntry], is_kept: bool) -> Option<&FileEntry>
+    ensures { option_copied result
+        ≡ find (λ entry. spec.is_unnameable is_kept entry.path) files.now }
+{
+    files
+        .iter()
+        .find(|entry| is_unnameable(is_kept, entry.path.as_str()))
+}
+
+fn is_unnameable(is_kept: bool, path: &str) -> bool
+    ensures { result ≡ spec.is_unnameable is_kept path.now }
+{
+    begins_with_mark(path) || (!is_kept && has_percent(path))
+}
+
+/// Whether a text begins with what a reader drops before a path.
+fn begins_with_mark(text: &str) -> bool
+    ensures { result ≡ begins_with_mark text.now }
+{
+    match text.as_bytes().first() {
+        Some(byte) => is_blank(*byte) || *byte == STAR,
+        None => false,
+    }
+}
+
+fn has_percent(path: &str) -> bool
+    ensures { result ≡ spec.has_percent path.now }
+{
+    path.as_bytes().iter().any(|byte| *byte == PERCENT)
+}

@@ -1,0 +1,90 @@
+//! Reading a bag that is to be renewed.
+ghost use Rattle.std.specs.Prelude.{IfErr, IfOk};
+ghost use Rattle.bag_tree.specs.Tree.{Keeps};
+ghost use Rattle.bag_renew.specs.Reading.{AllowsRenewal, IsRefusedByFacts};
+ghost use Rattle.bag_renew.specs.Reading.{HasReadBag, IsRefusalOf, IsRefusalOfStop};
+ghost use Rattle.bag_renew.specs.Reading.{MayRefuseReading};
+
+use crate::algorithms::{new_algs, reads_payload};
+use crate::obstacles::check_obstacles;
+use crate::stages::check_stages;
+use crate::summed::{SummedFile, check_files};
+use crate::{RenewFault, Renewal, Unchecked};
+use bag_facts::{Depth, Facts, Options};
+use bag_text::AlgSet;
+use bag_tree::{Stop, Tree, TreeFault};
+use std::alloc::Global;
+
+/// Everything is checked, but for names that clash.
+pub(crate) const FULL: Options = Options {
+    depth: Depth::Full,
+    clashes: false,
+};
+
+/// Reads a bag, which can be renewed, and the digests by the algorithms of its new manifests.
+///
+/// It is refused with the first of its faults of the stages that open no file; then for what stands
+/// in the way of a renewal; and then for the first file that has another digest than a manifest
+/// gives. The tag files are read first. Then each file is opened once, but the payload only where a
+/// payload manifest is written.
+pub(crate) fn read_bag<T: Tree>(
+    alloc: Global,
+    tree: &mut T,
+    renewal: &Renewal,
+) -> Result<(Facts, Vec<SummedFile>), RenewFault>
+    ensures keeps { Keeps (T.state tree.old) (T.state tree.new) }
+    ensures read { IfOk result (λ read.
+        HasReadBag renewal.now (T.state tree.old) (T.state tree.new) read.0 read.1.items) }
+    ensures refused { IfErr result
+        (MayRefuseReading renewal.now (T.state tree.old) (T.state tree.new)) }
+{
+    let facts = match Facts::read(alloc, tree, FULL) {
+        Ok(facts) => facts,
+        Err(stop) => return Err(stopped(stop)),
+    };
+    let algs = match check_facts(alloc, &facts, renewal) {
+        Ok(algs) => algs,
+        Err(fault) => return Err(fault),
+    };
+    let with_payload = reads_payload(&facts, renewal);
+    match check_files(alloc, tree, &facts, algs, with_payload) {
+        Ok(summed) => Ok((facts, summed)),
+        Err(unchecked) => Err(refusal(unchecked)),
+    }
+}
+
+/// Whether what is known of a bag allows that it is renewed; and the algorithms of its new
+/// manifests.
+fn check_facts(alloc: Global, facts: &Facts, renewal: &Renewal) -> Result<AlgSet, RenewFault>
+    ensures algs { IfOk result (AllowsRenewal facts.now renewal.now) }
+    ensures refused { IfErr result (IsRefusedByFacts facts.now renewal.now) }
+{
+    if let Err(unchecked) = check_stages(alloc, facts) {
+        return Err(refusal(unchecked));
+    }
+    if let Err(fault) = check_obstacles(alloc, facts, renewal) {
+        return Err(fault);
+    }
+    Ok(new_algs(facts, renewal))
+}
+
+/// The refusal for which a file isn't known to have its digests.
+fn refusal(unchecked: Unchecked) -> RenewFault
+    ensures { IsRefusalOf unchecked result }
+{
+    match unchecked {
+        Unchecked::Faulty(fault) => RenewFault::Faulty(fault),
+        Unchecked::Stopped(stop) => stopped(stop),
+    }
+}
+
+/// The refusal that a stop is. Out of memory is one of its own, the tree's too.
+fn stopped(stop: Stop) -> RenewFault
+    ensures { IsRefusalOfStop stop result }
+{
+    if stop.cause == TreeFault::Memory {
+        RenewFault::Memory
+    } else {
+        RenewFault::ReadStopped(stop)
+    }
+}

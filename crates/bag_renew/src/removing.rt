@@ -1,0 +1,55 @@
+//! The changes that remove files.
+ghost use Rattle.std.specs.Prelude.{◌≡◌, ◌++◌, ◌∷◌, [], IfOk, OnOk, if◌then◌else◌};
+ghost use Rattle.bag_facts.specs.FactsOfBag.{IsFactsOf};
+ghost use Rattle.bag_tree.specs.Bag.{Bag, has_file};
+ghost use Rattle.bag_renew.specs.Changes as spec;
+ghost use Rattle.bag_renew.specs.Composing.{AreOfFiles, removals_of};
+ghost use Rattle.bag_renew.specs.declared.renewal.Renewal.{Renewal as Asked};
+
+use crate::Renewal;
+use crate::alg_choice::{members_of, members_of_both, push_where};
+use crate::obstacles::BEGUN_FILE;
+use crate::tag_files::is_listed;
+use bag_facts::Facts;
+use bag_read::{Kind, TagName};
+use bag_text::{Alg, Text};
+use bag_tree::FileChange;
+use std::alloc::{AllocError, Global};
+
+/// The first changes: the tag manifests are removed, and a file that an earlier renewal has begun.
+pub(crate) fn opened(alloc: Global, facts: &Facts) -> Result<Vec<FileChange>, AllocError>
+    ensures changes { IfOk result (λ made. (bag : Bag) (renewal : Asked) → IsFactsOf bag facts.now
+        → made.items ≡ spec.opening bag renewal ++ spec.clearing bag renewal) }
+    ensures files { IfOk result (λ made. AreOfFiles made.items) }
+{
+    let there = members_of(alloc, facts.algs(Kind::Tag))?;
+    let mut changes = removals(alloc, Kind::Tag, &there)?;
+    let begun = FileChange::Remove(Text::from_str(alloc, BEGUN_FILE)?);
+    push_where(&mut changes, begun, is_listed(facts, BEGUN_FILE))?;
+    Ok(changes)
+}
+
+/// The payload manifests of algorithms that are dropped are removed.
+pub(crate) fn dropped(
+    alloc: Global,
+    facts: &Facts,
+    renewal: &Renewal,
+) -> Result<Vec<FileChange>, AllocError>
+    ensures changes { IfOk result (λ made. (bag : Bag) → IsFactsOf bag facts.now
+        → made.items ≡ spec.dropping bag renewal.now) }
+    ensures files { IfOk result (λ made. AreOfFiles made.items) }
+{
+    let gone = members_of_both(alloc, facts.algs(Kind::Payload), renewal.dropped)?;
+    removals(alloc, Kind::Payload, &gone)
+}
+
+/// The manifests of these algorithms are removed.
+fn removals(alloc: Global, kind: Kind, algs: &[Alg]) -> Result<Vec<FileChange>, AllocError>
+    ensures { IfOk result (λ made. made.items ≡ removals_of kind algs.now) }
+{
+    let mut changes = Vec::with_capacity(alloc, algs.len())?;
+    for alg in algs {
+        changes.push(FileChange::Remove(TagName::Manifest(kind, *alg).path(alloc)?))?;
+    }
+    Ok(changes)
+}

@@ -1,0 +1,112 @@
+//! Renewing a bag in place.
+ghost use Rattle.std.specs.Prelude.{◌≡◌, ◌≤◌, ◌<◌, ◌-◌, All, IfErr, IfOk, OnOk, Some, length, slice_get, true};
+ghost use Rattle.bag_tree.specs.ChangeFiles.{HasChanged, IsOfFile, LastsChanged, OutlastsChanges};
+ghost use Rattle.bag_tree.specs.Tree.{Keeps};
+ghost use Rattle.bag_tree.specs.declared.file_change.FileChange.{FileChange as Change};
+ghost use Rattle.bag_renew.specs.Reading.{MayRefuseReading};
+ghost use Rattle.bag_renew.specs.Renew.{HasPlanned, HasStoppedAt, IsRenewal, told_as};
+ghost use Rattle.bag_renew.specs.Renewed.{begun_file};
+ghost use Rattle.bag_renew.specs.Request.{is_bad_request as is_bad};
+
+use crate::composing::changes_of;
+use crate::elements::is_bad_request;
+use crate::info::info_file;
+use crate::obstacles::BEGUN_FILE;
+use crate::reading::read_bag;
+use crate::{RenewFault, Renewal};
+use bag_text::Items;
+use bag_tree::{FileChange, RefusedChange, ReplaceTree, Tree, change_files};
+use std::alloc::{AllocError, Global};
+
+/// Renews a bag in place: one tag file after the other is put or removed, each whole and durable
+/// before the next (RFC 8493, 2.1.1, 2.1.3, 2.2.1 and 2.2.2).
+///
+/// All is read first, and the bag has no fault of the stages that open no payload file, or it is
+/// refused with the first. Where a payload manifest is written, each payload file is opened once,
+/// and the digests that manifests give for it are compared with those of the very bytes of which
+/// the new ones are computed. Where none is, no payload file is opened.
+///
+/// The tag manifests are removed first, and put last; a file of the name `.bagit-begun`, which a
+/// renewal that was cut off may leave, is removed. Each bag on the way has the payload, and after a
+/// refusal or a power cut the same renewal, asked again, goes on.
+pub fn renew<T: ReplaceTree>(
+    alloc: Global,
+    tree: &mut T,
+    renewal: &Renewal,
+) -> Result<(), RenewFault>
+    ensures { IsRenewal renewal.now (T.state tree.old) (T.state tree.new) result }
+{
+    let changes = read_and_plan(alloc, tree, renewal)?;
+    put_changes(tree, changes)
+}
+
+/// The changes in which a bag would be renewed, in their order. The bag stays as it is.
+pub fn plan_renewal<T: Tree>(
+    alloc: Global,
+    tree: &mut T,
+    renewal: &Renewal,
+) -> Result<Items<FileChange>, RenewFault>
+    ensures keeps { Keeps (T.state tree.old) (T.state tree.new) }
+    ensures untouched { is_bad renewal.now.elements ≡ true → tree.new ≡ tree.old }
+    ensures planned { IfOk result (HasPlanned renewal.now (T.state tree.old) (T.state tree.new)) }
+    ensures refused { IfErr result
+        (MayRefuseReading renewal.now (T.state tree.old) (T.state tree.new)) }
+{
+    Ok(Items::from_vec(read_and_plan(alloc, tree, renewal)?))
+}
+
+/// Reads all, and composes the changes.
+fn read_and_plan<T: Tree>(
+    alloc: Global,
+    tree: &mut T,
+    renewal: &Renewal,
+) -> Result<Vec<FileChange>, RenewFault>
+    ensures keeps { Keeps (T.state tree.old) (T.state tree.new) }
+    ensures untouched { is_bad renewal.now.elements ≡ true → tree.new ≡ tree.old }
+    ensures planned { IfOk result (λ changes.
+        HasPlanned renewal.now (T.state tree.old) (T.state tree.new) changes.items) }
+    ensures refused { IfErr result
+        (MayRefuseReading renewal.now (T.state tree.old) (T.state tree.new)) }
+{
+    if is_bad_request(&renewal.elements) {
+        return Err(RenewFault::BadValue);
+    }
+    let (facts, summed) = read_bag(alloc, tree, renewal)?;
+    let info = info_file(alloc, &facts, renewal)?;
+    match changes_of(alloc, &facts, renewal, summed, info) {
+        Ok(changes) => Ok(changes),
+        Err(AllocError) => Err(RenewFault::Memory),
+    }
+}
+
+/// Makes the changes, up to the first that is refused.
+fn put_changes<T: ReplaceTree>(tree: &mut T, changes: Vec<FileChange>) -> Result<(), RenewFault>
+    requires { All (IsOfFile begun_file) changes.items }
+    ensures changed { OnOk result
+        (HasChanged begun_file changes.items (T.state tree.old) (T.state tree.new)) }
+    ensures stopped { IfErr result
+        (HasStoppedAt changes.items (T.state tree.old) (T.state tree.new)) }
+    ensures any_moment { OutlastsChanges
+        begun_file changes.items (T.state tree.old) (T.state tree.new) }
+    ensures lasting { OnOk result
+        (LastsChanged begun_file changes.items (T.state tree.old) (T.state tree.new)) }
+{
+    match change_files(tree, BEGUN_FILE, &changes) {
+        Ok(()) => Ok(()),
+        Err(refused) => Err(refused_change(changes, refused)),
+    }
+}
+
+/// What a refused change is told as.
+fn refused_change(changes: Vec<FileChange>, refused: RefusedChange) -> RenewFault
+    requires first { 1 ≤ refused.place }
+    requires within { refused.place - 1 < length changes.items }
+    ensures { (change : Change) → slice_get changes.items (refused.place - 1) ≡ Some change
+        → result ≡ told_as change refused.cause }
+{
+    let mut changes = changes;
+    match changes.swap_remove(refused.place as usize - 1) {
+        FileChange::Put(name, _) => RenewFault::PutRefused(name, refused.cause),
+        FileChange::Remove(name) => RenewFault::RemoveRefused(name, refused.cause),
+    }
+}

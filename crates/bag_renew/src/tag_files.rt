@@ -1,0 +1,131 @@
+//! Which tag files are kept, and the texts of those that are put.
+ghost use Rattle.std.specs.Prelude.{◌≡◌, ◌++◌, bytes_eq, not, IfOk, map};
+ghost use Rattle.std.specs.List.{list_any};
+ghost use Rattle.bag_read.specs.ManifestName.{tag_path};
+ghost use Rattle.bag_read.specs.declared.kind.Kind.TheVariants as kind;
+ghost use Rattle.bag_read.specs.declared.tag_name.TagName.TheVariants as tag;
+ghost use Rattle.bag_facts.specs.FactsOfBag.{IsFactsOf};
+ghost use Rattle.bag_tags.specs.Declaration.{declaration_text};
+ghost use Rattle.bag_tree.specs.Bag.{Bag, has_file};
+ghost use Rattle.bag_renew.specs.Changes.{put};
+ghost use Rattle.bag_renew.specs.Composing as spec;
+ghost use Rattle.bag_renew.specs.NewManifests.{manifests_of};
+ghost use Rattle.bag_renew.specs.Renewed.{is_kept, with_path, writes_info};
+
+use crate::Renewal;
+use crate::alg_choice::{members_of_first, push_where};
+use crate::algorithms::{keeps, kept_algs, new_algs};
+use crate::further::manifests_by;
+use crate::summed::SummedFile;
+use bag_facts::Facts;
+use bag_read::{Kind, TagName};
+use bag_tags::write_declaration;
+use bag_text::{Alg, Items, Text};
+use bag_tree::FileEntry;
+use std::alloc::{AllocError, Global};
+
+pub(crate) const DECLARATION: &str = "bagit.txt";
+
+pub(crate) const INFO: &str = "bag-info.txt";
+
+/// The tag files whose names a renewal writes, and that are kept.
+pub(crate) fn kept_names(
+    alloc: Global,
+    facts: &Facts,
+    renewal: &Renewal,
+    keeps_info: bool,
+) -> Result<Vec<TagName>, AllocError>
+    ensures { IfOk result (λ names. (bag : Bag) → IsFactsOf bag facts.now
+        → keeps_info ≡ not (writes_info bag renewal.now)
+        → names.items ≡ spec.kept_names bag renewal.now) }
+{
+    let algs = kept_algs(facts, renewal).members(alloc)?;
+    let mut names = manifest_names(alloc, &algs)?;
+    push_where(&mut names, TagName::Info, keeps_info)?;
+    push_where(&mut names, TagName::Declaration, keeps_declaration(facts))?;
+    Ok(names)
+}
+
+/// The payload manifests of algorithms.
+fn manifest_names(alloc: Global, algs: &[Alg]) -> Result<Vec<TagName>, AllocError>
+    ensures { IfOk result (λ names. names.items ≡ map (tag.Manifest kind.Payload) algs.now) }
+{
+    algs.iter()
+        .map(|alg| TagName::Manifest(Kind::Payload, *alg))
+        .collect(alloc)
+}
+
+/// The texts of the files that are put before manifests are dropped, with their names: the metadata
+/// and the payload manifests that aren't kept, which name these files.
+pub(crate) fn first_files(
+    alloc: Global,
+    facts: &Facts,
+    renewal: &Renewal,
+    payload: &[SummedFile],
+    info: Option<Items<u8>>,
+) -> Result<Vec<(Text, Items<u8>)>, AllocError>
+    ensures texts { IfOk result (λ made. (bag : Bag) → IsFactsOf bag facts.now
+        → made.items ≡ with_path (tag_path tag.Info) info
+        ++ manifests_of (spec.written_algs bag renewal.now) payload.now) }
+    ensures files { IfOk result (λ made. spec.AreOfFiles (map put made.items)) }
+{
+    let algs = members_of_first(alloc, new_algs(facts, renewal), kept_algs(facts, renewal))?;
+    let mut files = info_file(alloc, info)?;
+    let mut manifests = manifests_by(alloc, &algs, payload)?;
+    files.append(&mut manifests)?;
+    Ok(files)
+}
+
+/// The text of `bag-info.txt` with its name, where it is put.
+fn info_file(alloc: Global, info: Option<Items<u8>>) -> Result<Vec<(Text, Items<u8>)>, AllocError>
+    ensures { IfOk result (λ made. made.items ≡ with_path (tag_path tag.Info) info) }
+{
+    let mut files = Vec::new(alloc);
+    if let Some(text) = info {
+        files.push((TagName::Info.path(alloc)?, text))?;
+    }
+    Ok(files)
+}
+
+/// The text of the declaration with its name, where it isn't kept.
+pub(crate) fn last_files(alloc: Global, facts: &Facts) -> Result<Vec<(Text, Items<u8>)>, AllocError>
+    ensures texts { IfOk result (λ made. (bag : Bag) → IsFactsOf bag facts.now
+        → made.items ≡ spec.last_files bag) }
+    ensures files { IfOk result (λ made. spec.AreOfFiles (map put made.items)) }
+{
+    let mut files = Vec::new(alloc);
+    let file = (TagName::Declaration.path(alloc)?, declaration(alloc)?);
+    push_where(&mut files, file, !keeps_declaration(facts))?;
+    Ok(files)
+}
+
+/// The text of the declaration (RFC 8493, 2.1.1).
+fn declaration(alloc: Global) -> Result<Items<u8>, AllocError>
+    ensures { IfOk result (λ text. text ≡ declaration_text) }
+{
+    match write_declaration(alloc) {
+        Ok(bytes) => Ok(Items::from_vec(bytes)),
+        Err(_) => Err(AllocError),
+    }
+}
+
+/// Whether the declaration is there and is kept.
+fn keeps_declaration(facts: &Facts) -> bool
+    ensures { (bag : Bag) → IsFactsOf bag facts.now
+        → result ≡ is_kept bag (tag_path tag.Declaration) }
+{
+    keeps(facts) && is_listed(facts, DECLARATION)
+}
+
+/// Whether a file is listed.
+pub(crate) fn is_listed(facts: &Facts, path: &str) -> bool
+    ensures { (bag : Bag) → IsFactsOf bag facts.now → result ≡ has_file bag path.now }
+{
+    has_path(facts.files(), path)
+}
+
+fn has_path(files: &[FileEntry], path: &str) -> bool
+    ensures { result ≡ list_any (λ file. bytes_eq file.path path.now) files.now }
+{
+    files.iter().any(|file| file.path.as_str() == path)
+}
