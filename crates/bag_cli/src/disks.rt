@@ -8,7 +8,7 @@ ghost use Rattle.bag_cli.specs.declared.read_fault.ReadFault.TheVariants.{Unread
 
 use crate::read_fault::ReadFault;
 use crate::system_file::{open_file, read_within};
-use bag_disk::{SystemDisk, WritableDisk};
+use bag_disk::{ReplaceDisk, SystemDisk};
 use std::alloc::{AllocError, Global};
 use std::os::fd::AsFd;
 use std::rt::Files;
@@ -16,7 +16,7 @@ use std::rt::Files;
 /// What gives a disk for each base folder, and the bytes of files.
 pub trait Disks {
     /// What it gives.
-    type Disk: WritableDisk + Drop;
+    type Disk: ReplaceDisk + Drop;
 
     /// What stands on the disk below each base folder.
     ghost below: { Self → List ℕ → DiskState };

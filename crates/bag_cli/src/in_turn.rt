@@ -9,7 +9,7 @@ use bag_text::Text;
 use bag_tree::Out;
 
 /// What is done with one folder after the other, on disks of the type `D`.
-pub(crate) trait Task<D: Disks> {
+pub trait Task<D: Disks> {
     /// What was done with the folder of this name, where that was the last: with the output before
     /// and after it, and the visits.
     ghost ends: { Self → Last };
@@ -32,7 +32,7 @@ pub(crate) trait Task<D: Disks> {
 
 /// Does a task with folders, one after the other, up to the first of which not all was written.
 /// Gives the greatest status.
-pub(crate) fn do_in_turn<T, D, O, E>(
+pub fn do_in_turn<T, D, O, E>(
     task: &T,
     directories: &[Text],
     visits: &mut Visits<D>,

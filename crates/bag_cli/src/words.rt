@@ -53,7 +53,7 @@ fn usage_of(alloc: Global, error: &io::Error) -> Usage
 }
 
 /// The words, without the program's name.
-pub(crate) fn asked_words<W: Words>(alloc: Global, started: &W) -> Result<Vec<String>, Usage>
+pub fn asked_words<W: Words>(alloc: Global, started: &W) -> Result<Vec<String>, Usage>
     ensures { MayHaveAsked (W.answers started.now) result }
 {
     Ok(without_name(alloc, started.words()?)?)
@@ -67,7 +67,7 @@ fn without_name(alloc: Global, words: Args) -> Result<Vec<String>, AllocError>
 }
 
 /// The texts of words that are owned.
-pub(crate) fn texts_of(alloc: Global, words: &[String]) -> Result<Vec<&str>, AllocError>
+pub fn texts_of(alloc: Global, words: &[String]) -> Result<Vec<&str>, AllocError>
     ensures { IfOk result (λ all. texts_of_words all.items ≡ map string_bytes words.now) }
 {
     words.iter().map(|word| word.as_str()).collect(alloc)

@@ -1,10 +1,10 @@
 -- How the answers of the parts make the answer of the whole.
-use Rattle.bag_renew_cli.proofs.Common.{arith, ◌≡◌, ◌≢◌, ◌⊎◌, inl, inr, refl, not, Bool, List, [], codes}
-use Rattle.bag_renew_cli.proofs.Common.{Option, Some, None, Result, Ok, Err, is_some, option_or, if◌then◌else◌}
+use Rattle.bag_renew_cli.proofs.Common.{arith, ◌≡◌, ◌≢◌, inl, inr, refl, not, Bool, List, []}
+use Rattle.bag_renew_cli.proofs.Common.{Option, Some, None, Result, Err, is_some, option_or, if◌then◌else◌}
 use Rattle.bag_renew_cli.proofs.Common.{HasKind, Row, Text, kind_of, OutOfMemory, command, clap_on_literals}
 use Rattle.bag_renew_cli.proofs.Common.{built, fault_one, HasOne, true, refusals, matches_of_words}
 use Rattle.clap.specs.declared.error.Error.{Error}
-use Rattle.bag_renew_cli.specs.Given.{algs_given, are_elements, has_others, has_several, printed, prints}
+use Rattle.bag_renew_cli.specs.Given.{has_others, has_several, printed, prints}
 use Rattle.bag_renew_cli.specs.Plan.{Declines, IsNotRefused, IsPlanned, Plans, misuse, print_misuse}
 use Rattle.bag_renew_cli.specs.Plan.{elements_misuse, lists_misuse, element_misuse, list_misuse}
 use Rattle.bag_renew_cli.specs.declared.plan.RenewPlan.{RenewPlan}
@@ -14,7 +14,7 @@ use Rattle.bag_renew_cli.specs.declared.request_option.ListOption.{ListOption}
 use Rattle.bag_renew_cli.specs.declared.request_option.ListOption.TheVariants as list
 use Rattle.bag_renew_cli.specs.declared.usage.RenewUsage.{RenewUsage}
 use Rattle.bag_renew_cli.specs.declared.usage.RenewUsage.TheVariants.{Refused, Memory, PrintWithOthers, PrintSeveral}
-use Rattle.bag_renew_cli.specs.declared.usage.RenewUsage.TheVariants.{NotAnAlgorithm, NotAnElement, NotAlgorithms}
+use Rattle.bag_renew_cli.specs.declared.usage.RenewUsage.TheVariants.{NotAnAlgorithm}
 
 is_leaf_alone : ((built command).subs ≡ []) × ((built command).top.is_leaf ≡ true)
 unfolding command clap_on_literals

@@ -1,5 +1,5 @@
 -- The names that this crate's proofs cite, passed on from one place. Declares nothing.
-pub use Rattle.std.proofs.Common.{append_assoc, decimal}
+pub use Rattle.std.proofs.Common.{append-nil, append_assoc, decimal, ◌≤◌}
 pub use Rattle.std.proofs.Common.{Bool, Err, List, None, Ok, Option, Result, Some, [], ap, ap₂, arith}
 pub use Rattle.std.proofs.Common.{bytes_eq, codes, drop, false, filter, fold, get_or, if◌then◌else◌, inl, inr, is_some}
 pub use Rattle.std.proofs.Common.{length, map, not, option_map, refl, rules, subst, sym, take, tests, true}

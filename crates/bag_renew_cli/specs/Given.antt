@@ -1,5 +1,5 @@
 -- What is given on a renewal's command line, by the matches of the words.
-use Rattle.std.specs.Prelude.{Bool, ◌&&◌, ◌||◌, not, List, [], Option, Some, None, codes}
+use Rattle.std.specs.Prelude.{Bool, ◌||◌, List, [], Option, Some, None, codes}
 use Rattle.std.specs.Prelude.{option_and_then, is_some, length, map, nat_lt}
 use Rattle.std.specs.List.{list_all}
 use Rattle.clap.specs.Words.{Row, Text}

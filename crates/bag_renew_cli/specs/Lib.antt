@@ -4,6 +4,11 @@ pub mod Given
 pub mod Listed
 pub mod Options
 pub mod Plan
+pub mod PlannedLines
+pub mod Printing
+pub mod Program
 pub mod RenewalLine
+pub mod Renewals
+pub mod Renewing
 pub mod Words
 pub mod WordsRefusal

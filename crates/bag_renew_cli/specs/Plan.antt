@@ -1,5 +1,5 @@
 -- The plan of a renewal's words.
-use Rattle.std.specs.Prelude.{ℕ, ◌≡◌, ◌≢◌, ◌⊎◌, ⊤, Bool, false, not, List, [], ◌∷◌, ◌&&◌, codes, if◌then◌else◌}
+use Rattle.std.specs.Prelude.{ℕ, ◌≡◌, ◌≢◌, ◌⊎◌, ⊤, Bool, false, not, List, [], ◌∷◌, codes, if◌then◌else◌}
 use Rattle.std.specs.Prelude.{Option, Some, None, Result, Ok, Err, is_some}
 use Rattle.std.specs.Option.{option_or}
 use Rattle.clap.specs.Words.{Kinds, Row, Text}
@@ -12,8 +12,11 @@ use Rattle.bag_renew_cli.specs.Given.{has_others, has_several, is_dry, printed, 
 use Rattle.bag_renew_cli.specs.Options.{element_name, list_name}
 use Rattle.bag_renew_cli.specs.Words.{refusals, matches_of_words}
 use Rattle.bag_renew_cli.specs.declared.plan.RenewAction.{RenewAction}
-use Rattle.bag_renew_cli.specs.declared.plan.RenewAction.TheVariants.{Help, Renew, DryRun, Print}
-use Rattle.bag_renew_cli.specs.declared.plan.RenewRequest.{RenewRequest}
+use Rattle.bag_renew_cli.specs.declared.plan.RenewAction.TheVariants.{Help, Bags}
+use Rattle.bag_renew_cli.specs.declared.plan.BagAction.{BagAction}
+use Rattle.bag_renew_cli.specs.declared.plan.BagAction.TheVariants.{Renew, DryRun, Print}
+use Rattle.bag_renew.specs.Asked.{nothing}
+use Rattle.bag_renew.specs.declared.renewal.Renewal.{Renewal}
 use Rattle.bag_renew_cli.specs.declared.plan.RenewPlan.{RenewPlan}
 use Rattle.bag_renew_cli.specs.declared.request_option.ElementOption.{ElementOption}
 use Rattle.bag_renew_cli.specs.declared.request_option.ElementOption.TheVariants as element
@@ -54,25 +57,25 @@ lists_misuse rows = option_or (list_misuse rows list.Add) (list_misuse rows list
 abbrev pub misuse : List Row → Option RenewUsage
 misuse rows = option_or (option_or (print_misuse rows) (elements_misuse rows)) (lists_misuse rows)
 
--- what is done
-abbrev pub action_of : Option Alg → Bool → RenewAction
+-- what is done with each bag
+abbrev pub action_of : Option Alg → Bool → BagAction
 action_of (Some alg) is_dry = Print alg
 action_of None is_dry = if is_dry then DryRun else Renew
 
 -- what is asked of a bag
-pub record IsRequestOf (rows : List Row) (request : RenewRequest) : Type 0 where
-  pub added_is : algs_given rows (codes "add") ≡ Some request.added
-  pub dropped_is : algs_given rows (codes "drop") ≡ Some request.dropped
-  pub unset_is : request.unset ≡ values rows (codes "unset")
-  pub set_is : request.set ≡ elements rows (codes "set")
-  pub append_is : request.append ≡ elements rows (codes "append")
-  pub version_is : request.to_1_0 ≡ is_given rows (codes "to-1.0")
+pub record IsRenewalOf (rows : List Row) (renewal : Renewal) : Type 0 where
+  pub added_is : algs_given rows (codes "add") ≡ Some renewal.added
+  pub dropped_is : algs_given rows (codes "drop") ≡ Some renewal.dropped
+  pub set_is : renewal.elements.set ≡ elements rows (codes "set")
+  pub append_is : renewal.elements.appended ≡ elements rows (codes "append")
+  pub unset_is : renewal.elements.unset ≡ values rows (codes "unset")
+  pub version_is : renewal.to_1_0 ≡ is_given rows (codes "to-1.0")
 
 -- what is asked for
 pub record IsPlanOf (rows : List Row) (plan : RenewPlan) : Type 0 where
-  pub action_is : plan.action ≡ action_of (printed rows) (is_dry rows)
+  pub action_is : plan.action ≡ Bags (action_of (printed rows) (is_dry rows))
   pub directories_are : plan.directories ≡ directories rows
-  pub request_is : IsRequestOf rows plan.request
+  pub renewal_is : IsRenewalOf rows plan.renewal
   pub quiet_is : plan.quiet ≡ is_given rows (codes "quiet")
 
 -- the algorithms that an option lists, or why there are none
@@ -81,9 +84,9 @@ GivesAlgs rows option (Ok set) = algs_given rows (list_name option) ≡ Some set
 GivesAlgs rows option (Err usage) = list_misuse rows option ≡ Some usage
 
 -- what is asked of a bag, or why nothing is
-abbrev pub GivesRequest : List Row → Result RenewRequest RenewUsage → Type 0
-GivesRequest rows (Ok request) = (lists_misuse rows ≡ None) × IsRequestOf rows request
-GivesRequest rows (Err usage) = (usage ≡ Memory) ⊎ (lists_misuse rows ≡ Some usage)
+abbrev pub GivesRenewal : List Row → Result Renewal RenewUsage → Type 0
+GivesRenewal rows (Ok renewal) = (lists_misuse rows ≡ None) × IsRenewalOf rows renewal
+GivesRenewal rows (Err usage) = (usage ≡ Memory) ⊎ (lists_misuse rows ≡ Some usage)
 
 -- the plan of what is given, or the first thing that is wrong with it
 abbrev pub Plans : List Row → Result RenewPlan RenewUsage → Type 0
@@ -95,14 +98,7 @@ abbrev pub plan_without_words : RenewAction → RenewPlan
 plan_without_words action = record {
   action = action;
   directories = [];
-  request = record {
-    added = [];
-    dropped = [];
-    unset = [];
-    set = [];
-    append = [];
-    to_1_0 = false;
-  };
+  renewal = nothing;
   quiet = false;
 }
 

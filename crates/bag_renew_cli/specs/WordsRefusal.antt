@@ -17,6 +17,14 @@ Says before after text =
     Appends before.taken after.taken text
     ⊎ (IsCut before.taken after.taken text × (after.has_refused ≡ true))
 
+-- the line where the output refused
+abbrev pub output_refused : List ℕ
+output_refused = codes "bagit-renew: output refused\n"
+
+-- the line where memory ran out
+abbrev pub out_of_memory : List ℕ
+out_of_memory = codes "bagit-renew: out of memory\n"
+
 -- a text with a line end at its end: its own, or else one after it
 abbrev pub with_line_end : List ℕ → List ℕ
 with_line_end text = if ends_with ◌==◌ text (codes "\n") then text else text ++ codes "\n"
@@ -32,4 +40,4 @@ usage_line (NotAnElement option) =
 usage_line (NotAlgorithms option) =
     codes "bagit-renew: "
     ++ (written (list_name option) ++ codes " takes algorithms, as sha256,sha512\n")
-usage_line Memory = codes "bagit-renew: out of memory\n"
+usage_line Memory = out_of_memory

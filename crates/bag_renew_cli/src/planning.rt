@@ -8,9 +8,10 @@ ghost use Rattle.bag_renew_cli.specs.Plan as spec;
 ghost use Rattle.bag_renew_cli.specs.Words.{clap_takes, matches_of_words, refusals};
 
 use crate::command::command;
-use crate::{ElementOption, ListOption, RenewAction, RenewPlan, RenewRequest, RenewUsage, given};
+use crate::{BagAction, ElementOption, ListOption, RenewAction, RenewPlan, RenewUsage, given};
 use bag_arguments::declining::{Declined, answer_of};
 use bag_arguments::matched::{is_given, value, values};
+use bag_renew::{ElementChanges, Renewal};
 use bag_text::{Alg, AlgSet, Items};
 use clap::error::ErrorKind;
 use clap::{ArgMatches, Error};
@@ -57,14 +58,7 @@ fn plan_without_words(alloc: Global, action: RenewAction) -> RenewPlan
     RenewPlan {
         action,
         directories: Items::new(alloc),
-        request: RenewRequest {
-            added: AlgSet::empty(),
-            dropped: AlgSet::empty(),
-            unset: Items::new(alloc),
-            set: Items::new(alloc),
-            append: Items::new(alloc),
-            to_1_0: false,
-        },
+        renewal: Renewal::nothing(alloc),
         quiet: false,
     }
 }
@@ -75,27 +69,27 @@ fn plan_of_matches(alloc: Global, matches: &ArgMatches<'_>) -> Result<RenewPlan,
 {
     refuse_print(matches)?;
     refuse_elements(matches)?;
-    let request = request(alloc, matches)?;
+    let renewal = renewal(alloc, matches)?;
     Ok(RenewPlan {
-        action: action(matches),
+        action: RenewAction::Bags(action(matches)),
         directories: values(alloc, matches, "directory")?,
-        request,
+        renewal,
         quiet: is_given(matches, "quiet"),
     })
 }
 
-/// What is done.
-fn action(matches: &ArgMatches<'_>) -> RenewAction
+/// What is done with each bag.
+fn action(matches: &ArgMatches<'_>) -> BagAction
     ensures { result ≡ spec.action_of (asked.printed (rows_in matches.now))
         (asked.is_dry (rows_in matches.now)) }
 {
     match given::printed(matches) {
-        Some(alg) => RenewAction::Print(alg),
+        Some(alg) => BagAction::Print(alg),
         None => {
             if is_given(matches, "dry-run") {
-                RenewAction::DryRun
+                BagAction::DryRun
             } else {
-                RenewAction::Renew
+                BagAction::Renew
             }
         }
     }
@@ -136,17 +130,19 @@ fn refuse_elements(matches: &ArgMatches<'_>) -> Result<(), RenewUsage>
 }
 
 /// What is asked of a bag, or the first option whose value is no list of algorithms.
-fn request(alloc: Global, matches: &ArgMatches<'_>) -> Result<RenewRequest, RenewUsage>
-    ensures { spec.GivesRequest (rows_in matches.now) result }
+fn renewal(alloc: Global, matches: &ArgMatches<'_>) -> Result<Renewal, RenewUsage>
+    ensures { spec.GivesRenewal (rows_in matches.now) result }
 {
     let added = algs(matches, ListOption::Add)?;
     let dropped = algs(matches, ListOption::Drop)?;
-    Ok(RenewRequest {
+    Ok(Renewal {
         added,
         dropped,
-        unset: values(alloc, matches, "unset")?,
-        set: given::elements(alloc, matches, "set")?,
-        append: given::elements(alloc, matches, "append")?,
+        elements: ElementChanges {
+            set: given::elements(alloc, matches, "set")?,
+            appended: given::elements(alloc, matches, "append")?,
+            unset: values(alloc, matches, "unset")?,
+        },
         to_1_0: is_given(matches, "to-1.0"),
     })
 }

@@ -3,12 +3,12 @@ ghost use Rattle.std.specs.Prelude.{◌≡◌};
 ghost use Rattle.bag_renew_cli.specs.RenewalLine as spec;
 ghost use Rattle.bag_walk.specs.Pieces.{Writes};
 
-use crate::RenewFault;
 use crate::fault_line::put_fault;
 use crate::said::{
     CANT_BE_NAMED, FAULT, FETCH, IN_THE_WAY, NOT_RENEWED, PUT, READ, REMOVE, RENEWED, VERSION,
 };
 use bag_facts::Fault;
+use bag_renew::RenewFault;
 use bag_text::said::{BAD_VALUE, NO_ALGORITHM, OUT_OF_MEMORY};
 use bag_tree::{Out, Refused, TreeFault};
 use bag_walk::put_line;
@@ -47,7 +47,11 @@ pub fn renewal_status(renewed: &Result<(), RenewFault>) -> u8
     }
 }
 
-fn put_not_renewed<W: Out>(name: &str, fault: &RenewFault, out: &mut W) -> Result<(), Refused>
+pub(crate) fn put_not_renewed<W: Out>(
+    name: &str,
+    fault: &RenewFault,
+    out: &mut W,
+) -> Result<(), Refused>
     ensures { Writes (W.state out.old) (W.state out.new)
         (spec.not_renewed_line name.now (spec.reason fault.now)) result }
 {

@@ -43,3 +43,8 @@ pub const READ: &str = "read";
 pub const PUT: &str = "put";
 
 pub const REMOVE: &str = "remove";
+
+/// Between the name of a bag and that of a file that would be put or removed.
+pub const WOULD_PUT: &str = " would put ";
+
+pub const WOULD_REMOVE: &str = " would remove ";

@@ -2,15 +2,13 @@
 ghost use Rattle.std.specs.Prelude.{◌≡◌};
 ghost use Rattle.bag_renew_cli.specs.Plan.{usage_status};
 ghost use Rattle.bag_renew_cli.specs.WordsRefusal.{Says, usage_line, with_line_end};
-ghost use Rattle.bag_walk.specs.Pieces.{joined_pieces};
 
 use crate::RenewUsage;
 use crate::said::{
     NOT_ALGORITHMS, NOT_AN_ALGORITHM, NOT_AN_ELEMENT, PRINT_SEVERAL, PRINT_WITH_OTHERS, PROGRAM,
 };
-use bag_text::said::OUT_OF_MEMORY;
+use crate::saying::{say_memory, say_on};
 use bag_tree::Out;
-use bag_walk::put_pieces;
 
 /// Says on `err` why the words are refused, in a line or, of clap, some lines, and gives the exit
 /// status. It takes no memory, and where `err` refuses, that is reported no further.
@@ -39,7 +37,7 @@ fn say_usage<E: Out>(usage: &RenewUsage, err: &mut E)
             err,
             &[PROGRAM, "--", option.name(), NOT_ALGORITHMS, "\n"],
         ),
-        RenewUsage::Memory => say_on(err, &[PROGRAM, OUT_OF_MEMORY, "\n"]),
+        RenewUsage::Memory => say_memory(err),
     }
 }
 
@@ -52,11 +50,4 @@ fn say_ended<E: Out>(text: &str, err: &mut E)
     } else {
         say_on(err, &[text, "\n"]);
     }
-}
-
-/// Says the pieces of a text.
-fn say_on<E: Out>(err: &mut E, pieces: &[&str])
-    ensures { Says (E.state err.old) (E.state err.new) (joined_pieces pieces.now) }
-{
-    let _ = put_pieces(err, pieces);
 }

@@ -1,6 +1,6 @@
 //! The examples of docs/LIBRARY.md, proved: a check by a profile that goes on after an earlier
 //! report, a check that passes over files that can't be read, a report in segments and one in parts,
-//! a making with each refusal, and a tree and an output of one's own.
+//! a making with each refusal, a renewal, and a tree and an output of one's own.
 #![tactic(auto)]
 
 mod check;
@@ -10,6 +10,7 @@ mod own_out;
 mod own_tree;
 mod parts;
 mod passing;
+mod renewing;
 mod segments;
 
 pub use check::check_by_profile;
@@ -19,4 +20,5 @@ pub use own_out::LinesOut;
 pub use own_tree::CountingTree;
 pub use parts::check_part;
 pub use passing::check_what_can_be_read;
+pub use renewing::add_sha512;
 pub use segments::check_in_segments;

@@ -1,0 +1,49 @@
+use Rattle.bag_renew_cli.proofs.Common.{inl, inr, [], refl, sym, ap, ◌∙◌, append-nil, Err, Ok}
+use Rattle.bag_cli.specs.Folders.{visits_of}
+use Rattle.bag_arguments.specs.Plan.{usage_status}
+use Rattle.bag_renew_cli.proofs.whole_program.run_renewal.Goals as goal
+
+pub returns-in-Err : goal.returns-in-Err
+returns-in-Err g c = (
+  [],
+  sym (append-nil (visits_of c.args.visits.now)),
+  elim c.in-Err.ensures [
+    | inl answered ↦ inr (
+      Err c.in-Err.usage,
+      answered,
+      (elim c.usage_without_words.ensures [
+        | inl same ↦ inl (c.refuse_words.ensures.status ∙ same, refl, refl)
+        | inr memory ↦ inr (c.refuse_words.ensures.status ∙ memory, refl, refl)
+      ]),
+    )
+    | inr memory ↦ elim c.usage_without_words.ensures [
+      | inl same ↦ inl (c.refuse_words.ensures.status ∙ same ∙ ap usage_status memory, refl, refl)
+      | inr three ↦ inl (c.refuse_words.ensures.status ∙ three, refl, refl)
+    ]
+  ],
+)
+
+pub returns-in-Ok-texts_of : goal.returns-in-Ok-texts_of
+returns-in-Ok-texts_of g c =
+    let asked = c.in-Ok.ensures in
+    let done = c.renewal_program.ensures in (
+      done.0,
+      done.1,
+      inr (
+        Ok asked.0,
+        asked.1,
+        inr (rw (
+          c.deref-in-Ok-texts_of.ensures.value,
+          c.in-Ok-texts_of.ensures,
+          c.deref.ensures.value,
+          asked.2,
+        ) at done.2),
+      ),
+    )
+
+pub returns : goal.returns
+returns g c = (
+  [],
+  sym (append-nil (visits_of c.args.visits.now)),
+  inl (c.refuse_words-in-Err-texts_of.ensures.status, refl, refl),
+)

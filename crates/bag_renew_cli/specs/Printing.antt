@@ -1,0 +1,59 @@
+-- Writing the new manifest of a bag without a fault.
+use Rattle.std.specs.Prelude.{ℕ, ◌≡◌, ◌⊎◌, ◌∷◌, List, [], true, IsTrue, Result, MatchResult}
+use Rattle.std.specs.Prelude.{flat_map}
+use Rattle.std.specs.Io.KnownBytes.{Appends}
+use Rattle.bag_text.specs.declared.alg.Alg.{Alg}
+use Rattle.bag_stages.specs.Payload.{payload}
+use Rattle.bag_tree.specs.Out.{OutState}
+use Rattle.bag_tree.specs.Tree.{Keeps, TreeState}
+use Rattle.bag_tree.specs.declared.out.Refused.{Refused}
+use Rattle.bag_walk.specs.Write.{IsCut}
+use Rattle.bag_renew.specs.NewManifests.{AreOfSameBytes, IsRefusedFor}
+use Rattle.bag_renew.specs.Renewed.{File, manifest}
+use Rattle.bag_renew.specs.Stops.{MayStopUnchecked}
+use Rattle.bag_renew.specs.Valid.{HasNoFault}
+use Rattle.bag_renew.specs.declared.checked.Unchecked.{Unchecked}
+use Rattle.bag_renew.specs.declared.checked.Unchecked.TheVariants.{Faulty, Stopped}
+use Rattle.bag_renew.specs.declared.fault.RenewFault.{RenewFault}
+use Rattle.bag_renew.specs.declared.fault.RenewFault.TheVariants as why
+
+abbrev pub text_of : File → List ℕ
+text_of one = one.1
+
+-- a fault is told as it is
+abbrev pub refused_as : Unchecked → RenewFault → Type 0
+refused_as (Faulty fault) refused = refused ≡ why.Faulty fault
+refused_as (Stopped stop) (why.Faulty fault) = ⊥
+refused_as (Stopped stop) refused = Unit {0}
+
+-- 1 for a fault, and else 3
+abbrev pub is_status_of : Unchecked → ℕ → Type 0
+is_status_of (Faulty fault) status = status ≡ 1
+is_status_of (Stopped stop) status = status ≡ 3
+
+-- The bag has no fault, and the output took its manifest of this algorithm, or refused it.
+pub record IsPrinted (alg : Alg) (old new : TreeState) (before after : OutState)
+    (reported : Result ℕ Refused) : Type 0 where
+  pub made : List File
+  pub same_bytes : AreOfSameBytes (alg ∷ []) made
+  pub valid : IsTrue old.honest → HasNoFault old.bag
+  pub text : IsTrue old.honest → flat_map text_of made ≡ manifest alg (payload old.bag)
+  pub reports : MatchResult reported
+      (λ n. (n ≡ 0) × Appends before.taken after.taken (flat_map text_of made))
+      (λ _. IsCut before.taken after.taken (flat_map text_of made) × (after.has_refused ≡ true))
+
+-- The bag was refused, and nothing was written.
+pub record IsNotPrinted (old new : TreeState) (before after : OutState)
+    (reported : Result ℕ Refused) : Type 0 where
+  pub unchecked : Unchecked
+  pub stopped : MayStopUnchecked old new unchecked
+  pub refused : IsTrue old.honest → IsRefusedFor old.bag unchecked
+  pub unwritten : after ≡ before
+  pub reports : MatchResult reported (is_status_of unchecked) (λ _. ⊥)
+
+-- The bag stays as it is, and its new manifest is written where it has no fault.
+pub record IsPrinting (alg : Alg) (old new : TreeState) (before after : OutState)
+    (reported : Result ℕ Refused) : Type 0 where
+  pub keeps : Keeps old new
+  pub printed : IsPrinted alg old new before after reported
+      ⊎ IsNotPrinted old new before after reported

@@ -1,0 +1,73 @@
+//! The whole program.
+ghost use Rattle.bag_arguments.specs.Words.{texts_of_words};
+ghost use Rattle.bag_cli.specs.Folders.{disks_of};
+ghost use Rattle.bag_cli.specs.InTurn.{Does};
+ghost use Rattle.bag_renew_cli.specs.Program.{IsProgram, IsWholeProgram, is_usage_of};
+
+use crate::performing::perform;
+use crate::{RenewUsage, refuse_words, renewal_of};
+use bag_arguments::Usage;
+use bag_cli::{Disks, Folders, Visits, Words, asked_words, texts_of};
+use bag_text::{Text, said};
+use bag_tree::Out;
+use std::alloc::{AllocError, Global};
+
+/// Does what the words ask for, without the program's name, and gives the exit status.
+///
+/// The status of refused words is 2, and of words for which memory ran out 3, and then nothing is
+/// written to `out`; what `perform` says is that of all others.
+pub fn renewal_program<D: Disks, O: Out, E: Out>(
+    alloc: Global,
+    folders: &Folders<'_, D>,
+    words: &[&str],
+    visits: &mut Visits<D>,
+    out: &mut O,
+    err: &mut E,
+) -> u8
+    ensures { Does O.Out visits.old visits.new out.old out.new result
+        (IsProgram (D.below (disks_of folders.now)) (texts_of_words words.now)) }
+{
+    match renewal_of(alloc, words) {
+        Ok(plan) => perform(alloc, folders, &plan, visits, out, err),
+        Err(refused) => refuse_words(&refused, err),
+    }
+}
+
+/// Does what the words ask for that the program was started with, in folders that are lent, and
+/// gives the exit status.
+///
+/// A word that isn't UTF-8 is refused.
+pub fn run_renewal<R: Words + AllocGlobal, D: Disks, O: Out, E: Out>(
+    rt: &R,
+    folders: &Folders<'_, D>,
+    visits: &mut Visits<D>,
+    out: &mut O,
+    err: &mut E,
+) -> u8
+    ensures { Does O.Out visits.old visits.new out.old out.new result
+        (IsWholeProgram (R.answers rt.now) (D.below (disks_of folders.now))) }
+{
+    let alloc = rt.alloc();
+    let words = match asked_words(alloc, rt) {
+        Ok(words) => words,
+        Err(usage) => return refuse_words(&usage_without_words(alloc, usage), err),
+    };
+    match texts_of(alloc, &words) {
+        Ok(texts) => renewal_program(alloc, folders, &texts, visits, out, err),
+        Err(AllocError) => refuse_words(&RenewUsage::Memory, err),
+    }
+}
+
+/// Why there are no words: one of them isn't UTF-8, or memory ran out.
+fn usage_without_words(alloc: Global, usage: Usage) -> RenewUsage
+    ensures { is_usage_of usage result }
+{
+    match usage {
+        Usage::Refused(text) => RenewUsage::Refused(text),
+        Usage::Memory => RenewUsage::Memory,
+        _ => match Text::from_str(alloc, said::WORD_NOT_UTF8) {
+            Ok(text) => RenewUsage::Refused(text),
+            Err(AllocError) => RenewUsage::Memory,
+        },
+    }
+}

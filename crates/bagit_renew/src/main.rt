@@ -1,0 +1,15 @@
+//! `bagit-renew`: renews BagIt bags in place (RFC 8493); `--help` says more.
+#![tactic(auto)]
+
+use bag_cli::{Folders, WriterOut};
+use bag_renew_cli::run_renewal;
+use std::io;
+use std::process::ExitCode;
+
+fn main(rt: HostRuntime) -> ExitCode {
+    let (folders, mut visits) = Folders::of(&rt);
+    let mut out = WriterOut::new(io::writer(&rt));
+    let mut err = WriterOut::new(rt.stderr());
+    let status = run_renewal(&rt, &folders, &mut visits, &mut out, &mut err);
+    ExitCode::from(status)
+}
