@@ -26,6 +26,22 @@ take_program() {
     [[ -x $program ]] || give_up "there is no program $program"
 }
 
+# Takes the program that renews bags, `renew`: the one of this path, or where none is given what stands in its crate's `out`. Where that
+# isn't built, the script is skipped.
+take_renew() {
+    local built
+    renew=${1:-}
+    for built in "$root"/crates/bagit_renew/out/bagit{-,_}renew; do
+        if [[ ! $renew && -f $built && -x $built ]]; then renew=$built; fi
+    done
+    if [[ ! $renew ]]; then
+        echo 'skipped: bagit-renew is not built'
+        exit 77
+    fi
+    renew=$(realpath "$renew")
+    [[ -x $renew ]] || give_up "there is no program $renew"
+}
+
 # Goes into a new folder, `work`, which is removed at the end.
 enter() {
     work=$(mktemp -d "/tmp/bagit-$1.XXXXXX")

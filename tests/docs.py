@@ -5,11 +5,13 @@ numbers of the kit; and the files of cases with those that are run. Sees that ea
 look for, are found within three pages from README.md by following links; that a page says first for whom it is, and
 that its lines aren't too long.
 
-usage: tests/docs.py ROOT
+usage: tests/docs.py ROOT [--write]
 
-Prints each name that is stale, and at last how many were compared; the status is 1 where one is stale, or where a kind
-of name was found nowhere. Definitions and clauses are cited as `CRATE/specs/PAGE.antt`: `A`, `B`, modules as `CRATE`'s
-`A`, and lengths as `CRATE/src/FILE.rt` (N lines). Without `rt` the numbers of the kit aren't compared.
+--write first makes the lists of docs/CALLS.md anew. Prints each name that is stale, and at last how many were
+compared; the status is 1 where one is stale, or where a kind of name was found nowhere. Definitions and clauses are
+cited as `CRATE/specs/PAGE.antt`: `A`, `B`, or by a link from [`A`, `B`] to that file; what is quoted of a file
+stands, indented, below a link to it and a colon; modules are cited as `CRATE`'s `A`, and lengths as
+`CRATE/src/FILE.rt` (N lines). Without `rt` the numbers of the kit aren't compared.
 """
 import re
 import shutil
@@ -19,28 +21,35 @@ from functools import lru_cache
 from pathlib import Path
 
 KINDS = ["link", "heading", "file", "definition or clause", "module", "name", "file of a way", "case file"]
-KINDS += ["public function", "law", "public call", "clause of a call", "crate", "fault code", "option", "page", "answer"]
-KINDS += ["length", "line", "first paragraph", "file of cases"]
+KINDS += ["public function", "law", "public call", "clause of a call", "list of calls", "crate", "fault code", "option"]
+KINDS += ["page", "answer", "length", "count", "line", "first paragraph", "file of cases", "quotation"]
+KINDS += ["length of the adaptors"]
 KIT_KINDS = ["number of the kit"]
 FOLDERS = r"docs|tests|bench|packaging|tools|crates|\.ci|\w+(?=/(?:src|specs|proofs|must-fail)/)"
 FILE = re.compile(rf"(?<![\w/.~-])((?:{FOLDERS})/[\w./*-]*|[A-Z]+\.md|crates\.txt)")
 NAMES = r"`[^`\n]+`(?:(?:,| and|, and)\s+`[^`\n]+`)*"
 CITATION = re.compile(rf"`([\w/]+\.(?:rt|antt))`:\s+({NAMES})")
+LINKED = re.compile(r"\[(`[^\]]+`)\]\(\.\./crates/([^)#\s]+)\)")
+QUOTED = re.compile(r"\]\(\.\./crates/([^)#\s]+)\)\):\n\n((?:    .*\n)+)")
+ADAPTORS = ["bag_disk/src/system_disk.rt", "bag_disk/src/base_folder.rt", "bag_disk/src/system_fault.rt"]
+ADAPTORS += ["bag_cli/src/system_file.rt"]
 MODULES = re.compile(rf"`(\w+)`'s ({NAMES})")
 ANSWERS = {  # what a reader looks for: the page, and what stands there
     "how to undo a making that failed": ("docs/NOT_MADE.md", r"^# If making a bag failed.*^      rmdir \.bagit-new$"),
     "how to change a bag": ("docs/NOT_MADE.md", r"^### Changing a bag$.*^```sh$"),
+    "how to add an algorithm to a bag": ("docs/RENEWING.md", r"^# Renewing a bag$.*^    bagit-renew --add sha512 deposit\b"),
+    "what to do after a renewal was cut off": ("docs/RENEWING.md", r"^## After a cut$.*\*\*give the same command again\*\*"),
     "how to receive a bag": ("docs/RECEIVING.md", r"^## Archive files$.*^    .*bagit --validate"),
     "how to check with a profile, by the program": ("README.md", r"^    \$ bagit --validate .*--profile profile\.json letters$"),
     "which keys of a profile are checked": ("docs/PROFILES.md", r"^    bagit --validate --profile .*^## The keys$"),
     "how to check with a profile, from a program": ("docs/LIBRARY.md", r"^## A check$.*\bProfile::read\(.*\bSome\(&profile\)"),
-    "what stands under 'exactly those faults'": ("docs/THEOREM.md", r"(?i)\bexactly th[eo]se faults\b.*specs/Report\.antt`"),
+    "what stands under 'exactly those faults'": ("docs/THEOREM.md", r"(?i)\bexactly th[eo]se faults\b.*specs/Report\.antt\)"),
     "where a new fault code goes": ("docs/MAP.md", r"^\*\*A fault code\*\*$\s+1\. "),
     "how to prove one function": ("CONTRIBUTING.md", r"^## One function$.*^    rt check --only "),
 }
 MOST_LINKS = 2  # of a way to an answer, so that it takes three pages
 MOST_COLUMNS = 120
-WITH_NAMES = ("THEOREM.md", "PROVED.md", "NOT_PROVED.md", "DEFINITIONS.md", "MAP.md")
+WITH_NAMES = ("THEOREM.md", "PROVED.md", "CALLS.md", "NOT_PROVED.md", "WRONG_BODIES.md", "DEFINITIONS.md", "MAP.md")
 
 root = Path(sys.argv[1]).resolve()
 crates = root / "crates"
@@ -111,7 +120,7 @@ def headings_of(text):
 
 
 def compare_citations(page, text):
-    for path, names in CITATION.findall(text):
+    for path, names in CITATION.findall(text) + [(path, names) for names, path in LINKED.findall(text)]:
         for name in quoted(names):
             there = declares(text_of(crates / path), name, path.endswith(".rt"))
             compare("definition or clause", page, f"{path}: {name}", there)
@@ -119,6 +128,12 @@ def compare_citations(page, text):
         for name in quoted(names) if (crates / crate).exists() else ():
             if "/" not in name and not (crates / name).exists():
                 compare("module", page, f"{crate}: {name}", has_module(crate, name))
+
+
+def compare_quotations(page, text):
+    for path, block in QUOTED.findall(text):
+        found = " ".join(block.split()) in " ".join(text_of(crates / path).split())
+        compare("quotation", page, f"of {path}: {block.strip()}", found)
 
 
 def compare_names(page, text, words):
@@ -129,18 +144,31 @@ def compare_names(page, text, words):
 
 
 def compare_ways(page, text):
-    """The files and functions in a table of docs/MAP.md: each row is of some crates, or of those of the row above it."""
-    row_crates = []
-    for first, second in re.findall(r"^\| (.*?)\| (.*?) \|", part_of(text, "The way of a manifest", "Where things stand"), re.M):
-        row_crates = quoted(first) or row_crates
+    """The files and functions in the lists of docs/MAP.md, each line with its crates."""
+    for first, second in re.findall(r"^- (.*?): (.*)", part_of(text, "The way of a manifest", "Where things are"), re.M):
+        row_crates = quoted(first)
         for name in (name for name in quoted(second) if name.isidentifier()):
             compare("file of a way", page, name, any(has_module(crate, name) for crate in row_crates))
 
 
 def compare_cases(page, text):
-    for cells in re.findall(r"^\| (`.*?) \|", part_of(text, "Cases", "Tests"), re.M):
-        for name in quoted(cells):
+    for names in re.findall(r"^- (`[^:]*): ", part_of(text, "Cases", "Tests"), re.M):
+        for name in quoted(names):
             compare("case file", page, name, any((crates / "cases" / "data").glob(f"{name}.cases")))
+
+
+def compare_counts(page, text):
+    """What docs/TESTED.md begins with: no more than there are, and not far fewer."""
+    cases = "\n".join(text_of(path) for path in (crates / "cases" / "data").glob("*.cases"))
+    tests = sum(text_of(path).count("#[test]") for path in crates.glob("*/src/*.rt"))
+    counts = {"cases": len(re.findall("^case ", cases, re.M)), "rows": len(re.findall("^- .* => ", cases, re.M))}
+    counts |= {"files": len([*(crates / "cases" / "data").glob("*.cases")]), "tests in Rattle": tests}
+    counts["scripts"] = sum(bool(path.stat().st_mode & 0o100) for path in (root / "tests").glob("*.sh"))
+    counts["wrong bodies"] = len([*crates.glob("*/must-fail/*")])
+    opening = " ".join(text.partition("\n## ")[0].split())
+    for kind, found in counts.items():
+        said = [int(number) for number in re.findall(rf"(\d+) {kind}\b", opening)]
+        compare("count", page, f"of {kind}: there are {found}", len(said) == 1 and said[0] <= found <= 1.2 * said[0])
 
 
 def crates_proved_again():
@@ -152,19 +180,15 @@ def crates_proved_again():
 
 
 def compare_crates(page, text):
-    """Each crate has a row, with how many crates are proved again if it changes, and each row is of crates."""
-    table = text[: text.index("\n## The way of a check")]
-    again, rows = crates_proved_again(), set()
-    for cells, counts in re.findall(r"^\| (`[^|]*) \|.*\| ([\d, ]+) \|$", table, re.M):
-        names, counted = quoted(cells), [int(count) for count in counts.split(", ")]
-        if len(counted) == 1:
-            counted *= len(names)
-        is_right = counted == [again.get(name) for name in names]
-        compare("crate", page, f"{cells}: {counts} crates proved again", is_right)
-        rows.update(names)
-    for name in rows | {path.parent.name for path in crates.glob("*/src")}:
-        is_there = name in rows and (crates / name).exists()
-        compare("crate", page, f"{name} without a row, or a row without it", is_there)
+    """The drawing has each crate, with how many crates are proved again if it changes."""
+    drawing = text[: text.index("\n## The way of a check")]
+    again = crates_proved_again()
+    drawn = [(name, int(number)) for name, number in re.findall(r"(\w+) \[(\d+)\]", drawing)]
+    for name, number in drawn:
+        compare("crate", page, f"{name} [{number}]", again.get(name) == number)
+    for path in crates.glob("*/src"):
+        name = path.parent.name
+        compare("crate", page, f"{name} isn't drawn once", [drawn_name for drawn_name, _ in drawn].count(name) == 1)
 
 
 def fault_codes():
@@ -190,7 +214,7 @@ def compare_codes(page, text):
 
 
 def options_in(text):
-    return set(re.findall(r"(?<![\w-])--[a-z][a-z0-9-]*|(?<![\w-])-h\b", text.replace("\\-", "-")))
+    return set(re.findall(r"(?<![\w-])--[a-z](?:[.]?[a-z0-9-])*|(?<![\w-])-h\b", text.replace("\\-", "-")))
 
 
 def program_options():
@@ -202,6 +226,13 @@ def program_options():
     return {f"--{name}" for name in names} | {"-h", "--help"}
 
 
+def renewing_options():
+    """The same of the program that renews bags."""
+    source = text_of(crates / "bag_renew_cli" / "src" / "command.rt")
+    names = re.findall(r'\b(?:flag|option|several)\(\s*alloc,\s*"([a-z0-9.-]+)"', source)
+    return {f"--{name}" for name in names} | {"-h", "--help"}
+
+
 def companion_options(name):
     """The options of a program that is installed beside bagit, as its --help lists them."""
     return options_in("\n".join(re.findall(r"^  (-.*?)(?:  |$)", output_of(root / "packaging" / name, "--help"), re.M)))
@@ -210,15 +241,16 @@ def companion_options(name):
 def compare_options():
     """The options of README and of each manual page are those of the sources; a companion's are those of its --help."""
     companions = {path.name: companion_options(path.name) for path in sorted((root / "packaging").glob("bagit-*"))}
-    for name, options in {"bagit": program_options(), **companions}.items():
+    for name, options in {"bagit": program_options(), "bagit-renew": renewing_options(), **companions}.items():
         page = root / "docs" / f"{name}.1"
         listed = options_in(text_of(page).partition("\n.SH OPTIONS")[2].split("\n.SH ")[0])
         for option in options | listed:
             compare("option", page, option, option in options & listed)
     readme = part_of(text_of(root / "README.md"), "Options", "Exit statuses")
     large_bags = part_of(text_of(root / "docs" / "LARGE_BAGS.md"), "A check that survives", "Many bags")
-    of_large = companions["bagit-check-large"] - {"--help", "-h"}
-    for name, text, options in ("README.md", readme, program_options()), ("docs/LARGE_BAGS.md", large_bags, of_large):
+    of_large, of_renewing = (options - {"--help", "-h"} for options in (companions["bagit-check-large"], renewing_options()))
+    of_pages = ("README.md", readme, program_options()), ("docs/LARGE_BAGS.md", large_bags, of_large)
+    for name, text, options in *of_pages, ("docs/RENEWING.md", text_of(root / "docs/RENEWING.md"), of_renewing):
         for option in options:
             compare("option", root / name, f"{option} isn't named", option in options_in(text))
     for option in options_in("\n".join(re.findall(r"^\| (.*?) \|", readme, re.M))):
@@ -247,12 +279,23 @@ def compare_answers(pages):
         compare("answer", page, question, is_near and re.search(form, text_of(page), re.M | re.S))
 
 
+def answer_of(lines):
+    """What a function answers, by the lines from its first on: its head ends at a clause or its body."""
+    head = lines[0]
+    for line in lines[1:]:
+        if head.endswith(("{", ";")) or re.match(r" *(?:ensures|requires|where|ghost|\{)", line):
+            break
+        head += line
+    return head.partition("->")[2].rstrip(" {;,")
+
+
 def public_functions():
-    """The public functions of the libraries, each with its crate and its type: none of a free function, and `laws` of a law."""
+    """The public functions of the libraries: crate, type (none of a free function, `laws` of a law), name and answer."""
     for path in sorted(crates.glob("bag_*/src/*.rt")):
         crate, lib, owner = path.parts[-3], text_of(path.parent / "lib.rt"), ""
         exported = set(re.findall(r"\w+", " ".join(re.findall(r"^pub use (?!bag_)\w+::([^;]*);", lib, re.M))))
-        for line in text_of(path).splitlines():
+        lines = text_of(path).splitlines()
+        for number, line in enumerate(lines):
             if block := re.match(r"impl(?:<.*?>)? (\w.* for )?(\w+)|(pub )?trait (\w+)", line):
                 owner = "" if block[1] else block[2] or block[4]
                 is_trait = bool(block[3])
@@ -260,37 +303,72 @@ def public_functions():
                 owner = ""
             found = re.match(r"( *)(pub )?(?:const )?fn (\w+)", line)
             if found and path.stem == "laws":
-                yield crate, "laws", found[3]
+                yield crate, "laws", found[3], ""
             elif found and found[1] and owner in exported and (found[2] or is_trait):
-                yield crate, owner, found[3]
+                yield crate, owner, found[3], answer_of(lines[number:])
             elif found and not found[1] and found[2] and found[3] in exported:
-                yield crate, "", found[3]
+                yield crate, "", found[3], answer_of(lines[number:])
 
 
-def compare_functions(page, text):
-    """The tables of calls: in the first one is named as `TYPE::NAME` or `NAME`, in the others beside its type or crate."""
-    functions = set(public_functions())
-    known, rows = {(owner, name) for _, owner, name in functions}, set()
+def calls_with_rows(text):
+    """The calls of the table of docs/CALLS.md that says why each may fail, as type and name."""
+    cells = re.findall(r"^\| (`.*?) \|", part_of(text, "Why a call may fail", "Calls that fail for memory"), re.M)
+    return {("", *name.split("::"))[-2:] for cell in cells for name in quoted(cell)}
+
+
+def lists_of_calls(text):
+    """The calls without a row, by their types: those that fail for memory alone, and those that never do."""
+    lists = {"memory": {}, "never": {}}
+    with_rows = calls_with_rows(text)
+    for crate, owner, name, answer in public_functions():
+        kind = "memory" if re.search(r"Result<.*\bAllocError>\)?$", answer) else "never"
+        if owner != "laws" and (owner, name) not in with_rows and (kind == "memory" or "Result<" not in answer):
+            lists[kind].setdefault(crate, []).append(f"{owner}::{name}".removeprefix("::"))
+    for kind, calls in lists.items():
+        rows = (f"| `{crate}` | {', '.join(f'`{name}`' for name in names)} |" for crate, names in calls.items())
+        yield f"calls {kind}", "\n".join(["| Of | Calls |", "|---|---|", *rows])
+
+
+def write_lists(page):
+    text = text_of(page)
+    for mark, made in lists_of_calls(text):
+        begin, _, rest = text.partition(f"<!-- {mark} -->\n")
+        text = f"{begin}<!-- {mark} -->\n\n{made}\n\n{rest[rest.index('<!-- end -->'):]}"
+    page.write_text(text)
+
+
+def compare_calls(page, text):
+    """Each public function has a row that says why it may fail, or its type says it and it is in a list."""
+    functions = list(public_functions())
+    known, listed = {(owner, name) for _, owner, name, _ in functions}, set()
     files = [text_of(path) for path in sorted(crates.glob("bag_*/src/*.rt"))]
-    for line in re.findall(r"^\| `.*\|$", part_of(text, "Safe and total", "Wrong bodies"), re.M):
+    for line in re.findall(r"^\| `.*\|$", part_of(text, "Why a call may fail", "Calls that fail for memory"), re.M):
         cells = [cell.strip() for cell in line.strip("|").split("|")]
-        if len(cells) == 2:
-            calls = {name: {(owner if owner[:1].isupper() else "", name) for owner in quoted(cells[0])} for name in quoted(cells[1])}
-        else:
-            calls = {name: {("", *name.split("::"))[-2:]} for name in quoted(cells[0])}
-        for name, keys in calls.items():
-            compare("public call", page, name, keys & known)
-            rows |= keys & known
-        items = [f"fn {name.split('::')[-1]}" for name in calls]
+        for name in quoted(cells[0]):
+            compare("public call", page, name, ("", *name.split("::"))[-2:] in known)
+        items = [f"fn {name.split('::')[-1]}" for name in quoted(cells[0])]
         own = [file for file in files if any(item in file for item in items)]
-        for clause in quoted(cells[3]) if len(cells) == 4 else ():
+        for clause in quoted("".join(cells[3:])):
             is_there = clause[:1].isupper() or any(f"ensures {clause} {{" in file for file in own)
             compare("clause of a call", page, f"{cells[0]}: {clause}", is_there)
-    for crate, owner, name in sorted(functions):
+    for mark, made in lists_of_calls(text):
+        is_there = f"<!-- {mark} -->\n\n{made}\n\n<!-- end -->" in text
+        compare("list of calls", page, f"{mark!r} is another: tests/docs.py . --write makes it", is_there)
+        for crate, names in re.findall(r"^\| `(\w+)` \| (`.*?) \|$", made, re.M):
+            listed.update((crate, name) for name in quoted(names))
+    with_rows = calls_with_rows(text)
+    for crate, owner, name, _ in sorted(functions):
+        call = f"{owner}::{name}".removeprefix("::")
+        is_there = (owner, name) in with_rows or (crate, call) in listed
+        if owner != "laws":
+            compare("public function", page, f"of {crate} without a row: {call}", is_there)
+
+
+def compare_laws(page, text):
+    text += text_of(page.parent / "CALLS.md")
+    for crate, owner, name, _ in public_functions():
         if owner == "laws":
             compare("law", page, f"of {crate} that no sentence names: {name}", f"`{name}`" in text)
-        else:
-            compare("public function", page, f"of {crate} without a row: {owner}::{name}".replace(" ::", " "), (owner, name) in rows)
 
 
 def compare_form(page, text):
@@ -308,6 +386,13 @@ def compare_lengths(page, text):
     for name, length in re.findall(r"`([\w/]+\.rt)`\s+\((\d+)\s+lines\)", text):
         found = len(text_of(crates / name).splitlines())
         compare("length", page, f"of {name} is {length} lines, and should be {found}", int(length) == found)
+
+
+def compare_adaptors(page, text):
+    """How many lines the four adaptors over the system's calls have."""
+    right = sum(len(text_of(crates / name).splitlines()) for name in ADAPTORS)
+    for lines in re.findall(r"(\d+)\s+lines\s+in\s+four\s+files", text):
+        compare("length of the adaptors", page, f"is {lines} lines, and should be {right}", int(lines) == right)
 
 
 def compare_kit(pages):
@@ -334,6 +419,9 @@ def compare_case_files():
 
 
 def main():
+    if "--write" in sys.argv[2:]:
+        write_lists(root / "docs" / "CALLS.md")
+        text_of.cache_clear()
     sources = [path for form in ("*/src/*.rt", "*/specs/*.antt") for path in crates.glob(form)] + [root / "crates.txt"]
     words = {word for path in sources for word in re.findall(r"\w+", text_of(path))}
     pages = sorted(path for folder in (".", "docs", "bench") for path in (root / folder).glob("*.md"))
@@ -343,10 +431,13 @@ def main():
         compare_citations(page, text)
         compare_form(page, text)
         compare_lengths(page, text)
+        compare_quotations(page, text)
+        compare_adaptors(page, text)
         if page.name in WITH_NAMES:
             compare_names(page, text, words)
     parts = [("MAP", compare_crates), ("MAP", compare_ways), ("FAULTS", compare_codes), ("TESTED", compare_cases)]
-    for name, compare_page in [*parts, ("PROVED", compare_functions)]:
+    parts += [("TESTED", compare_counts), ("PROVED", compare_laws), ("CALLS", compare_calls)]
+    for name, compare_page in parts:
         page = root / "docs" / f"{name}.md"
         compare_page(page, text_of(page))
     compare_options()

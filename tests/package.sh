@@ -3,17 +3,21 @@
 # renders its manual pages if `man` is there, and completes arguments by bash, and by fish if that is there. The options
 # of each program are the same set in --help, in its manual page and for each shell.
 #
-# usage: tests/package.sh [PROGRAM]
+# usage: tests/package.sh [PROGRAM [RENEWING]]
 #
-# PROGRAM is crates/bagit/out/bagit by default. It needs dpkg-deb, strip and Python.
+# PROGRAM is crates/bagit/out/bagit by default, and RENEWING crates/bagit_renew/out/bagit_renew. It needs dpkg-deb, strip
+# and Python.
 set -euo pipefail
 source "$(dirname "$0")/common.sh"
+take_program bagit_renew "${2:-}"
+renewing=$program
 take_program bagit "${1:-}"
 for tool in dpkg-deb strip python3; do needs "$tool"; done
 enter package
 
-package=$("$root/packaging/build" --program "$program" first)
-"$root/packaging/build" --program "$program" second >printed
+build() { "$root/packaging/build" --program "$program" --renewing "$renewing" "$1"; }
+package=$(build first)
+build second >printed
 cmp "$package" "second/${package##*/}" || give_up 'built twice, the package differs'
 [[ ${package##*/} == "bagit_$(<"$root/VERSION")_amd64.deb" ]] || give_up "it is called ${package##*/}"
 dpkg-deb --extract "$package" tree
@@ -21,17 +25,18 @@ dpkg-deb --info "$package" control | grep -qx "Version: $(<"$root/VERSION")" || 
 dpkg-deb --control "$package" control
 (cd tree && md5sum --check --quiet ../control/md5sums)
 
-# The programs: bagit, and each script beside it.
+# The programs: bagit, bagit-renew, and each script beside them.
 export PATH=$work/tree/usr/bin:$PATH
 programs=$(ls tree/usr/bin)
-diff <(cd "$root/packaging" && printf '%s\n' bagit bagit-*) - <<<"$programs" || give_up 'it has other programs'
+diff <(cd "$root/packaging" && printf '%s\n' bagit bagit-renew bagit-* | sort) <(sort <<<"$programs") || give_up 'it has other programs'
 ! grep -rl @VERSION@ tree || give_up 'a version is missing'
 
-# The program, and the one that checks large bags by it.
+# The program, the one that renews what it has made, and the one that checks large bags by it.
 [[ $(bagit) == 'sample has a good declaration' ]] || give_up 'the program does not check its sample'
 mkdir deposit
 echo a >deposit/a
 bagit deposit >printed
+[[ $(bagit-renew --add md5 deposit) == 'deposit renewed' && -s deposit/manifest-md5.txt ]] || give_up 'bagit-renew does not renew'
 bagit-check-large deposit report >printed
 diff report - <<<'deposit is valid'
 bagit-check-large --jobs 2 deposit in_parts >printed
@@ -96,15 +101,15 @@ manual man7/bagit-faults | sed -n 's/^\.B \([1-8][0-9][0-9] [a-z0-9-]*\)$/\1/p' 
 bash=$share/bash-completion/completions zsh=$share/zsh/vendor-completions fish=$share/fish/vendor_completions.d
 all_options=0
 for name in $programs; do
-    "$name" --help | sed -nE 's/^ {2,}(-[a-z], )?(--[a-z0-9-]+) ?.*/\1\2/p' | sed 's/, /\n/' | sort >in_help
+    "$name" --help | sed -nE 's/^ {2,}(-[a-z], )?(--[a-z0-9.-]+) ?.*/\1\2/p' | sed 's/, /\n/' | sort >in_help
     (($(wc -l <in_help) > 5)) || give_up "$name --help has no options"
-    manual "man1/$name" | sed -n '/^\.SH OPTIONS/,/^\.SH/p' | grep -oE -- '(^|[^a-z0-9-])(--[a-z][a-z0-9-]*|-h)\b' |
-        grep -oE -- '--?[a-z0-9-]+' | sort -u | diff in_help - || give_up "$name(1) has other options than --help"
+    manual "man1/$name" | sed -n '/^\.SH OPTIONS/,/^\.SH/p' | grep -oE -- '(^|[^a-z0-9-])(--[a-z]([.]?[a-z0-9-])*|-h)\b' |
+        grep -oE -- '--?[a-z0-9.-]+' | sort -u | diff in_help - || give_up "$name(1) has other options than --help"
     sed -n "s/.*compgen -W '\(.*\)' -- .*/\1/p" "$bash/$name" | tr ' ' '\n' | sort | diff in_help - ||
         give_up "bash completes other options of $name"
-    sed -n "s/^ *'\(-[a-z0-9-]*\)=\{0,1\}\[.*/\1/p" "$zsh/_$name" | sort | diff in_help - ||
+    sed -n "s/^ *'[*]\{0,1\}\(-[a-z0-9.-]*\)=\{0,1\}\[.*/\1/p" "$zsh/_$name" | sort | diff in_help - ||
         give_up "zsh completes other options of $name"
-    sed -nE 'h; s/.* -l ([a-z0-9-]+).*/--\1/p; g; s/.* -s ([a-z]) .*/-\1/p' "$fish/$name.fish" | sort |
+    sed -nE 'h; s/.* -l ([a-z0-9.-]+).*/--\1/p; g; s/.* -s ([a-z]) .*/-\1/p' "$fish/$name.fish" | sort |
         diff in_help - || give_up "fish completes other options of $name"
     all_options=$((all_options + $(wc -l <in_help)))
 done
@@ -132,6 +137,9 @@ completes '' bagit --contact-name = p
 completes 'photographs plans' bagit -- p
 completes '' bagit -- --v
 completes 'photographs plans' bagit -- --validate p
+completes '--to-1.0' bagit-renew --t
+completes 'photographs plans' bagit-renew --to-1.0 p
+completes '' bagit-renew --set p
 completes 'photographs plans profile.json' bagit-report p
 completes '--files' bagit-report --fi
 completes '' bagit-report --files 6

@@ -5,8 +5,8 @@ usage: power_cut.py BEFORE AFTER CALLS PROGRAM
 BEFORE is the folder as it was, all of it on the disk; AFTER is the bag that it became; CALLS is what `strace -y` wrote of
 the making, where the folder is `d`; PROGRAM checks what is left. There are two disks:
 
-- A strict one keeps what was synced, and of all else any part in any combination. A name is kept where each folder that
-  it is in or was in was synced after the change, and bytes where their file was. Once it or one above it was made or
+- A strict one keeps what was synced, and of all else any part in any combination. A name is kept, or its removal, where
+  each folder that it is in or was in was synced after the change, and bytes where their file was. Once it or one above it was made or
   renamed a path means another file or folder, so that a sync of it keeps nothing older. Each renaming is done whole or
   not at all, and replaces what has the new name; what is moved into a folder that isn't there is lost. Bytes go to what
   has the path of their file, and those that aren't kept may be any: here they are zeros, or end after any line or in the
@@ -30,7 +30,7 @@ from functools import reduce
 FOLDER, NEW_FOLDER, PAYLOAD = "d", "d/.bagit-new", "d/data"
 INFO, MANIFEST = "d/bag-info.txt", "d/manifest-sha256.txt"
 LOOKS = "access close execve fchmod fchown fcntl fstat getdents64 lstat newfstatat read readlink readlinkat stat statx".split()
-NAMES = ("mkdir", "create", "rename")
+NAMES = ("mkdir", "create", "rename", "remove")
 MADE = ("made",)
 MOST_STATES = 2000
 
@@ -61,6 +61,8 @@ def event_of(line):
         return (name, opened[2], texts[0][: int(count)])
     if name in ("mkdir", "rename"):
         return (name, *(text.decode() for text in texts))
+    if name in ("unlink", "unlinkat") and "AT_REMOVEDIR" not in words:
+        return ("remove", texts[0].decode())
     if name == "openat" and "O_CREAT|O_EXCL" in words:
         return ("create", texts[0].decode())
     if name == "openat" and "O_RDONLY" in words:
@@ -68,15 +70,15 @@ def event_of(line):
     sys.exit(f"a call that isn't known: {line}")
 
 
-def trail_of(lines):
-    """The changes and syncs in their order, and where `made` was written."""
+def trail_of(lines, promise=b" made\n"):
+    """The changes and syncs in their order, and where `made` was written, or what else promises that all is done."""
     trail, output = [], b""
     for event in filter(None, map(event_of, lines)):
         if event[0] != "output":
             trail.append(event)
             continue
         output += event[1]
-        if output.endswith(b" made\n"):
+        if output.endswith(promise):
             trail.append(MADE)
     return trail
 
@@ -97,7 +99,9 @@ def done(event, tree):
     """The tree after an event."""
     kind, *words = event
     left = dict(tree)
-    if kind in NAMES:
+    if kind == "remove":
+        left.pop(words[0], None)
+    elif kind in NAMES:
         old, new = words[0], words[-1]
         named = {new: None if kind == "mkdir" else b""}
         if kind == "rename":

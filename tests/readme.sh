@@ -1,21 +1,24 @@
 #!/usr/bin/env bash
 # Follows the pages for users as they are written: README's sessions, with what they say that is printed, and its
-# commands; the ways back of docs/NOT_MADE.md, over folders as a making leaves them; the scripts of docs/LARGE_BAGS.md
-# over 40 bags of which five are bad; the commands of docs/FAULTS.md, which mend no damage away and run no name; the
-# keys of docs/PROFILES.md; what docs/LIBRARY.md quotes.
+# commands; the ways back of docs/NOT_MADE.md, over folders as a making leaves them; the commands of docs/RENEWING.md,
+# of good bags and damaged ones; the scripts of docs/LARGE_BAGS.md over 40 bags of which five are bad; the commands of
+# docs/FAULTS.md, which mend no damage away and run no name; the keys of docs/PROFILES.md; what docs/LIBRARY.md quotes.
 #
-# usage: tests/readme.sh [PROGRAM]
+# usage: tests/readme.sh [PROGRAM [RENEWING]]
 #
-# PROGRAM is crates/bagit/out/bagit by default. It needs Python, and rt for README's first look; GNU parallel is tried
+# PROGRAM is crates/bagit/out/bagit by default, and RENEWING crates/bagit_renew/out/bagit_renew. It needs Python, and rt for README's first look; GNU parallel is tried
 # where it is there. The last line says how much was followed.
 set -euo pipefail
 source "$(dirname "$0")/common.sh"
+take_program bagit_renew "${2:-}"
+renewing=$program
 take_program bagit "${1:-}"
 needs python3
 needs rt
 enter pages
 mkdir bin
 ln -s "$program" bin/bagit
+ln -s "$renewing" bin/bagit-renew
 ln -s "$root"/packaging/bagit-* bin/
 export PATH=$work/bin:$PATH
 followed=0
@@ -512,6 +515,45 @@ for damage in 'flip copy/to' true; do
 done
 [[ ! -L copy/data/to && $(<copy/data/to) == named ]] || give_up 'docs/RECEIVING.md: links are not followed'
 rm -rf photographs* whole letters scans drafts* archive there deposit* unpacked again holey served copy meanwhile
+
+# RENEWING: what it does by a renewal, of a good bag and of one with a damaged byte, which no block passes over.
+new_deposit() {
+    rm -rf deposit* renewed not-renewed bags
+    mkdir -p deposit bags/{a,b}
+    echo 'Dear Ann,' | tee deposit/first.txt bags/a/f >bags/b/f
+    bagit --quiet --md5 deposit bags/*
+}
+renewing_block() { follow docs/RENEWING.md "$1" "$2" >printed 2>&1; }
+first='Renewing a bag' drops='Check before you drop an algorithm' keeps='Keeping the old bag'
+new_deposit
+renewing_block "$first" 1 || wrong 'docs/RENEWING.md: its first commands fail'
+diff printed <(printf '%s renewed\n' deposit deposit renewed)
+bagit --validate --quiet deposit renewed
+grep -qx 'External-Identifier: A 2026/17' deposit/bag-info.txt || give_up 'docs/RENEWING.md: the element is not set'
+new_deposit
+bagit-renew --dry-run --add sha512 --set A=b deposit | diff - <(block docs/RENEWING.md 'What is changed, and in which order' 1)
+renewing_block "$drops" 1 || wrong 'docs/RENEWING.md: an algorithm is not dropped'
+[[ -e deposit/manifest-sha256.txt && ! -e deposit/manifest-md5.txt ]] || give_up 'docs/RENEWING.md: another algorithm is dropped'
+for number in 1 2; do
+    new_deposit
+    renewing_block "$keeps" "$number" || wrong "docs/RENEWING.md: keeping, block $number fails"
+done
+(cd deposit && sha512sum data/first.txt) | diff - deposit.sha512
+renewing_block 'Many bags' 1 && [[ $(<printed) == 'greatest status: 0' && ! -s not-renewed ]] || wrong 'docs/RENEWING.md: many bags'
+followed=$((followed + 6))
+for damaged in "$first 1" "$drops 1" "$keeps 1" "$keeps 2" 'Many bags 1'; do
+    new_deposit
+    flip deposit/data/first.txt
+    flip bags/a/data/f
+    renewing_block "${damaged% *}" "${damaged##* }" || true
+    cat printed not-renewed deposit.sha512 2>/dev/null >said || true
+    grep -qE '(deposit|renewed|bags/a) not renewed: fault 701 ' said || wrong "docs/RENEWING.md: '$damaged' passes over damage"
+    [[ ! -s deposit.sha512 || $(<deposit.sha512) == *'not renewed'* ]] || wrong "docs/RENEWING.md: '$damaged' gives damage a digest"
+    ! grep -qs . {deposit,renewed,bags/a}/manifest-sha*.txt || wrong "docs/RENEWING.md: '$damaged' gives damage a digest"
+    [[ -s deposit/manifest-md5.txt ]] || wrong "docs/RENEWING.md: '$damaged' drops what tells damage"
+    followed=$((followed + 1))
+done
+rm -rf deposit* renewed not-renewed bags said
 
 # LARGE_BAGS: forty bags, of which five are bad, by one command and by a job array, whose Slurm is played here.
 for companion in "$root"/packaging/bagit-*; do ln -sf "$companion" bin/; done

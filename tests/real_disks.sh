@@ -1,6 +1,6 @@
 #!/usr/bin/env bash
-# Cuts the power of real Linux file systems while a folder is made a bag, mounts what each cut may leave, and looks for
-# what is lost. It is run by hand, with `bash`, since the gate runs the scripts that are executable: it takes minutes or
+# Cuts the power of real Linux file systems while a folder is made a bag, or a bag is renewed, mounts what each cut may
+# leave, and looks for what is lost. It is run by hand, with `bash`, since the gate runs the scripts that are executable: it takes minutes or
 # hours, and virtual machines of user-mode Linux, without root. `--help` says what it shows and what it doesn't.
 #
 # usage: bash tests/real_disks.sh [PROGRAM] [--quick] [OPTIONS]

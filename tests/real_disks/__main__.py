@@ -1,7 +1,7 @@
-"""Cuts the power of real Linux file systems while a folder is made a bag, and says what is lost.
+"""Cuts the power of real Linux file systems while a folder is made a bag, or a bag renewed, and says what is lost.
 
-Each trial is a small virtual machine. In it the folder is made a bag on a disk that notes each write and flush that
-the kernel's file system asks for. At each moment a power cut may leave more than one disk, since the disk has a cache
+Each trial is a small virtual machine. In it this is done on a disk that notes each write and flush that the kernel's
+file system asks for. At each moment a power cut may leave more than one disk, since the disk has a cache
 that is lost: what was flushed is on it, and of all other writes none, all, all but one, only one, some, some blocks,
 or the last one torn. As many of these states are taken as --states says, each different. The kernel mounts each, and
 this is a loss:
@@ -11,6 +11,13 @@ this is a loss:
   bag lost       after the line `made` the folder isn't the whole bag, or isn't valid
   falsely valid  the program says that a bag is valid which lacks a file of the folder
   no way back    before `made`, what docs/NOT_MADE.md says doesn't bring the folder back
+
+With --work renewing a bag is renewed by bagit-renew, and these are losses, and the first and the third of those above
+(after the line `renewed`):
+
+  files lost     a payload file isn't what it was
+  no valid bag   it isn't one by bagit, or by tests/renew.py
+  not renewed    the same command doesn't make the renewed bag of it
 
 It doesn't show: other kernels than the one it names, large folders, disks that tear a block of 4 KiB, several disks
 together, network shares. File systems with a * lose files or bags: they are shown, and don't count. `without syncs` is
@@ -33,8 +40,12 @@ FAILED, SKIPPED = 2, 77
 PROGRAM = Path(__file__).resolve().parents[2] / "crates/bagit/out/bagit"
 QUICK = ["ext4", "xfs", "btrfs", "f2fs"]
 VARIANTS = {"no-syncs": "without syncs", "lying-disk": "on a disk that lies"}
-LOSSES = ("not mounted", "files lost", "bag lost", "falsely valid", "no way back")
-COLUMNS = ("writes", "flushes", "states", "folders", *LOSSES, "states that lose", "seconds")
+RENEWING = Path(__file__).resolve().parents[2] / "crates/bagit_renew/out/bagit_renew"
+LOSSES = {
+    "making": ("not mounted", "files lost", "bag lost", "falsely valid", "no way back"),
+    "renewing": ("not mounted", "files lost", "bag lost", "no valid bag", "not renewed"),
+}
+COUNTS = ("writes", "flushes", "states", "folders")
 
 
 def file_systems(text):
@@ -49,6 +60,8 @@ def options():
     parser = argparse.ArgumentParser("tests/real_disks.sh", description=__doc__, formatter_class=form)
     add = parser.add_argument
     add("program", metavar="PROGRAM", nargs="?", default=str(PROGRAM), help="by default crates/bagit/out/bagit")
+    add("--work", choices=LOSSES, default="making", help="what is done: a folder is made a bag, or a bag is renewed")
+    add("--renewing", metavar="FILE", default=str(RENEWING), help="by default crates/bagit_renew/out/bagit_renew")
     add("--quick", action="store_true", help=f"{', '.join(QUICK)} in 200 states each: some minutes")
     add("--file-systems", type=file_systems, metavar="NAME,..", help=f"of these: {' '.join(FILE_SYSTEMS)}")
     add("--variant", choices=VARIANTS, help="no-syncs: no sync does anything; lying-disk: no flush keeps anything")
@@ -62,6 +75,7 @@ def jobs_of(chosen):
     """The trials that were asked for, and without a variant also one that must lose something."""
     names = chosen.file_systems or (QUICK if chosen.quick else list(FILE_SYSTEMS))
     job = {"program": str(Path(chosen.program).resolve()), "seed": chosen.seed, "settle": 1 if chosen.quick else 7}
+    job.update(work=chosen.work, renewing=str(Path(chosen.renewing).resolve()))
     job.update(variant=chosen.variant, states=chosen.states or (200 if chosen.quick else 1500), must_lose=False)
     jobs = [{**job, "file system": name} for name in names]
     if not chosen.variant:
@@ -88,10 +102,11 @@ def name_of(job):
 
 
 def print_table(jobs, answers):
-    rows = [["", *COLUMNS]]
+    columns = (*COUNTS, *LOSSES[jobs[0]["work"]], "states that lose", "seconds")
+    rows = [["", *columns]]
     for job, answer in zip(jobs, answers):
         cells = {**answer, **answer.get("losses", {})}
-        rows.append([name_of(job), *(str(cells.get(column, 0)) for column in COLUMNS)])
+        rows.append([name_of(job), *(str(cells.get(column, 0)) for column in columns)])
     widths = [max(map(len, column)) for column in zip(*rows)]
     for name, *cells in rows:
         print(name.ljust(widths[0]), *(cell.rjust(width) for cell, width in zip(cells, widths[1:])), sep="  ")
@@ -118,9 +133,10 @@ def status_of(jobs, answers):
 def main():
     chosen = options()
     jobs = jobs_of(chosen)
-    if not access(chosen.program, X_OK):
-        print(f"there is no program {chosen.program}", file=sys.stderr)
-        return FAILED
+    for program in [chosen.program, *[chosen.renewing] * (chosen.work == "renewing")]:
+        if not access(program, X_OK):
+            print(f"there is no program {program}", file=sys.stderr)
+            return FAILED
     missing = missing_packages({job["file system"] for job in jobs})
     if missing:
         print("skipped: packages are missing; as root: apt-get install", *missing)

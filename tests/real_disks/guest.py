@@ -20,12 +20,14 @@ from cuts import all_of, cut_at, different_cuts, left, none
 from disk import DEVICE, NEVER, Disk, held_by
 from file_systems import FILE_SYSTEMS
 from making import Making, look
+from renewing import Renewing
 
 IMAGE, BASE, MOUNTED = "/run/image", "/run/base", "/run/mounted"
 SYNCS = "fsync,fdatasync,syncfs,sync"
 NO_SYNCS = f"strace -f -o /run/calls -e trace={SYNCS} -e inject={SYNCS}:retval=0".split()
 POWER_OFF = 0x4321FEDC
 EXAMPLES = 2
+WORKS = {"making": Making, "renewing": Renewing}
 libc = ctypes.CDLL(None, use_errno=True)
 
 
@@ -56,7 +58,7 @@ class Trial:
 
     def __init__(self, job):
         self.job, self.file_system = job, FILE_SYSTEMS[job["file system"]]
-        self.work = Making(job["program"], Path(MOUNTED, "folder"))
+        self.work = WORKS[job["work"]](job, Path(MOUNTED, "folder"))
         self.known = {}  # the losses of each folder that was seen, before and after the promise
         run(["modprobe", "-d", job["modules"], "-a", "nbd", *self.file_system.modules.split()])
         with open(IMAGE, "wb") as image:

@@ -44,16 +44,20 @@ def look(top):
 
 def digest(path):
     try:
-        return hashlib.sha256(path.read_bytes()).hexdigest()
+        return digest_of(path.read_bytes())
     except OSError as error:
         return error.strerror
+
+
+def digest_of(content):
+    return hashlib.sha256(content).hexdigest()
 
 
 class Making:
     """Another work has the same calls: `begin`, `words`, `promises`, `end` and `losses`."""
 
-    def __init__(self, program, folder):
-        self.program, self.folder = program, folder
+    def __init__(self, job, folder):
+        self.program, self.folder = job["program"], folder
         self.before = self.after = {}
 
     def begin(self):

@@ -1,0 +1,247 @@
+"""Renews bags, each call of the program refused in turn or killed, and looks at what is left. tests/refused_renewals.sh
+calls it, and says what is wanted.
+
+usage: refused_renewals.py BAGIT BAGIT_RENEW
+"""
+import os
+import re
+import shutil
+import subprocess
+import sys
+import threading
+from concurrent.futures import ThreadPoolExecutor
+from pathlib import Path
+from typing import NamedTuple
+
+import renew
+from renew import BEGUN, Options
+from renewals import Look, Programs, Wrong, demand, look
+
+ERRORS = ("EIO", "EACCES", "ENOSPC", "EINTR", "ENOMEM")
+SECONDS = 60
+LEFT_ALONE = ("execve", "exit", "exit_group")
+CAUSES = "device|special|name|not-found|changed|too-many|exists|memory"
+NOT_RENEWED = re.compile(rf"d not renewed: (?:(read|put|remove) (\S+) (?:{CAUSES})|out of memory)\n")
+COMPLAINT = re.compile(r"bagit-renew: (out of memory|output refused)\n")
+PAYLOAD = {"data/first.txt": b"one", "data/letters/50%.txt": b"two", "data/empty": b"", "data/large": b"x" * 200_000}
+
+
+class Case(NamedTuple):
+    """A bag that is renewed."""
+
+    name: str
+    top: str  # the bag as it is before
+    options: Options
+    opens_payload: bool
+
+    def wanted(self):
+        return renew.renewed(self.top, self.options)
+
+
+def make_bag(top, version, algorithms, tag_algorithms):
+    """A valid bag; what isn't said of it is the same for all."""
+    payload = {path.encode(): content for path, content in PAYLOAD.items() if version == "1.0" or "%" not in path}
+    files = {b"metadata/dc.xml": b"<dc/>", b"bag-info.txt": b"Contact-Name: Ann\nBag-Size: 1 KB\n on\n two lines\n"}
+    files[b"bagit.txt"] = f"BagIt-Version: {version}\nTag-File-Character-Encoding: UTF-8\n".encode()
+    for algorithm in algorithms:
+        files[renew.manifest_path(algorithm)] = renew.manifest_of(algorithm, payload)
+    tags = {renew.tag_manifest_path(algorithm): renew.manifest_of(algorithm, files) for algorithm in tag_algorithms}
+    renew.write({**payload, **files, **tags}, top)
+    demand(renew.is_valid(top), renew.why_invalid(top))
+
+
+def cases():
+    make_bag("md5", "1.0", ["md5"], ["md5"])
+    make_bag("two", "1.0", ["md5", "sha256"], ["md5", "sha1"])
+    make_bag("old", "0.97", ["md5"], ["md5"])
+    (Path("two") / BEGUN.decode()).write_bytes(b"begun")
+    element = (("Contact-Name", "Bob"), ("External-Identifier", "A 2026/17"))
+    yield Case("SHA-512 beside MD5", "md5", Options(add=("sha512",)), True)
+    yield Case("elements, and without MD5", "two", Options(drop=("md5",), unset=("bag-size",), set=element), False)
+    to_1_0 = Options(add=("sha256",), drop=("md5",), set=element, to_1_0=True)
+    yield Case("0.97 with MD5 to 1.0 with SHA-256", "old", to_1_0, True)
+
+
+# ---- calls
+
+
+class Ended(NamedTuple):
+    status: int
+    said: str
+    complaint: str
+    calls: list
+
+
+def run(programs, case, folder, injection=""):
+    """Renews `d` in the folder, under strace."""
+    inject = ["-e", f"inject={injection}"] if injection else []
+    words = ["strace", "-f", "-y", "-s", "300", "-o", "calls", *inject, programs.renewing, *case.options.words(), "d"]
+    try:
+        ended = subprocess.run(words, cwd=folder, capture_output=True, check=False, timeout=SECONDS)
+    except subprocess.TimeoutExpired as error:
+        raise Wrong("it hangs") from error
+    calls = (folder / "calls").read_text(errors="replace").splitlines()
+    status = 137 if ended.returncode == -9 else ended.returncode
+    return Ended(status, ended.stdout.decode(), ended.stderr.decode(), calls)
+
+
+def numbered(calls):
+    """The calls of the program, each with how many of its name came before it, after those of the loader."""
+    counts, found, is_cached, begun = {}, [], False, None
+    for line in calls:
+        match = re.match(r"(?:\d+ +)?([a-z0-9_]+)\(", line)
+        if not match:
+            continue
+        name = match[1]
+        counts[name] = counts.get(name, 0) + 1
+        found.append((name, counts[name]))
+        is_cached |= "ld.so.cache" in line
+        if is_cached and begun is None and name == "munmap":
+            begun = len(found)
+    return [call for call in found[begun or 0 :] if call[0] not in LEFT_ALONE]
+
+
+def injections(calls):
+    """(`brk` answers where memory ends, and no error; the C library asks `mmap` then.)"""
+    for name, number in numbered(calls):
+        for how in ["retval=0"] if name == "brk" else [f"error={error}" for error in ERRORS]:
+            yield f"{name}:{how}:when={number}"
+        yield f"{name}:signal=KILL:when={number}"
+
+
+def check_openings(case, calls):
+    """Each payload file is opened once, or none."""
+    opened = [match[1] for match in (re.search(r'openat\(.*?"([^"]*)".*O_RDONLY', line) for line in calls) if match]
+    for path in renew.payload_of(renew.held(case.top)):
+        times = sum(("/" + name).endswith("/" + os.path.basename(path.decode())) for name in opened)
+        demand(times == case.opens_payload, f"{path} is opened {times} times")
+
+
+# ---- what is left
+
+
+class Judge:
+    """Says what is wrong with what is left; of what was seen before, only once."""
+
+    def __init__(self, programs, case):
+        self.programs, self.case, self.wanted = programs, case, case.wanted()
+        self.first, self.known, self.lock = renew.held(case.top), {}, threading.Lock()
+
+    def check(self, before, after, ended, injection):
+        self.check_files(before, after)
+        self.check_answer(after.files, ended, ":signal=KILL" in injection)
+
+    def check_files(self, before, after):
+        kept = {path for path in self.wanted.untouched(before.files)}
+        for path in kept:
+            demand(path in after.files and after.file(path) == before.file(path), f"{path} was touched")
+        for path, content in after.files.items():
+            may_be = (before.files.get(path), self.wanted.files.get(path))
+            demand(path == BEGUN or content in may_be, f"{path} is {content[:100]}")
+        for path in before.files:
+            may_go = path not in self.wanted.files or renew.is_tag_manifest(path)
+            demand(path in after.files or may_go, f"{path} is lost")
+
+    def check_answer(self, files, ended, is_killed):
+        whole = "d renewed\n"
+        if ended.status == 137 and is_killed:
+            demand(whole.startswith(ended.said), f"it said {ended.said!r}")
+        elif ended.status == 0:
+            demand(ended.said == whole and not ended.complaint, f"status 0, and {ended.said!r}, {ended.complaint!r}")
+        else:
+            demand(ended.status == 3, f"status {ended.status}, and {ended.said!r}, {ended.complaint!r}")
+            self.check_refusal(files, ended)
+        if ended.said == whole:
+            demand(files == self.wanted.files, "it said that the bag is renewed, and it isn't")
+
+    def check_refusal(self, files, ended):
+        line = NOT_RENEWED.fullmatch(ended.said)
+        if not line:
+            demand(COMPLAINT.fullmatch(ended.complaint), f"status 3, and {ended.said!r}, {ended.complaint!r}")
+            return
+        demand(not ended.complaint, ended.complaint)
+        if line[1] == "put":
+            demand(line[2].encode() in self.wanted.put, f"it said {ended.said!r}")
+        elif line[1] == "remove":
+            demand(line[2].encode() in self.first, f"it said {ended.said!r}")
+        else:
+            demand(files == self.first, f"it said {ended.said!r}, and the bag was changed")
+
+    def check_bag(self, folder, files):
+        """A valid bag is left, and the same command makes the renewed one."""
+        key = frozenset(files.items())
+        with self.lock:
+            known = self.known.setdefault(key, [])
+        if not known:
+            known.append(self.reason_against(folder))
+        demand(not known[0], known[0])
+
+    def reason_against(self, folder):
+        top = str(folder / "d")
+        why = renew.why_invalid(top) or self.programs.faults(top)
+        if why:
+            return f"no valid bag is left: {why}"
+        ended = self.programs.run(*self.case.options.words(), top)
+        files = renew.held(top)
+        if ended[0] != 0 or files != self.wanted.files or self.programs.faults(top):
+            return f"asked again it ends with {ended}, and leaves {sorted(files)}"
+        return None
+
+
+def try_injection(programs, judge, folder, injection):
+    """Renews a new copy of the bag, and looks. What is wrong, or None."""
+    top = folder / "d"
+    shutil.rmtree(top, ignore_errors=True)
+    shutil.copytree(judge.case.top, top)
+    try:
+        before = look(top)
+        ended = run(programs, judge.case, folder, injection)
+        is_refused = any("(INJECTED)" in line or "killed by SIGKILL" in line for line in ended.calls)
+        demand(is_refused, "no call was refused")
+        after: Look = look(top)
+        judge.check(before, after, ended, injection)
+        judge.check_bag(folder, after.files)
+    except Wrong as wrong:
+        return f"{judge.case.name}, {injection}: {wrong}"
+    return None
+
+
+def try_case(programs, case, pool):
+    """How many calls were refused, and what is wrong."""
+    judge, folder = Judge(programs, case), Path(case.top + "-work").absolute()
+    folder.mkdir()
+    shutil.copytree(case.top, folder / "d")
+    ended = run(programs, case, folder)
+    demand(ended[:3] == (0, "d renewed\n", ""), f"{case.name}: without a refusal it ends with {ended[:3]}")
+    demand(renew.held(folder / "d") == judge.wanted.files, f"{case.name}: it isn't the renewed bag")
+    check_openings(case, ended.calls)
+    local = threading.local()
+
+    def one(injection):
+        if not hasattr(local, "folder"):
+            local.folder = folder / f"worker-{threading.get_ident()}"
+            local.folder.mkdir()
+        return try_injection(programs, judge, local.folder, injection)
+
+    found = list(pool.map(one, injections(ended.calls)))
+    demand(len(found) > 100, f"{case.name}: only {len(found)} calls were refused")
+    demand(len(judge.known) > 5, f"{case.name}: only {len(judge.known)} folders were left")
+    return len(found), len(judge.known), [wrong for wrong in found if wrong]
+
+
+def main(bagit, renewing):
+    programs, refused, folders, wrongs = Programs(bagit, renewing), 0, 0, []
+    with ThreadPoolExecutor(min(4, os.cpu_count() or 1)) as pool:
+        for case in cases():
+            counts = try_case(programs, case, pool)
+            refused, folders, wrongs = refused + counts[0], folders + counts[1], wrongs + counts[2]
+    print(*wrongs[:20], sep="\n", end="\n" if wrongs else "")
+    print(f"{refused} calls refused or killed, {folders} folders left, {len(wrongs)} wrong")
+    sys.exit(bool(wrongs))
+
+
+if __name__ == "__main__":
+    try:
+        main(*sys.argv[1:])
+    except Wrong as error:
+        sys.exit(str(error))
