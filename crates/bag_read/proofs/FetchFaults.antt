@@ -3,9 +3,10 @@ use Rattle.bag_read.proofs.Common.{List, Ok, [], arith, false, refl, sym, true, 
 use Rattle.bag_read.proofs.Common.{nothing_listed, one_listed, same_members, lines_of_file, IsListOf, IsNoText, IsText}
 use Rattle.bag_read.proofs.Common.{Code, NotUtf8, Rules, FetchFault, IsFetch, IsFetchFault, fetch_entry_in, AreFaults}
 use Rattle.bag_read.proofs.Common.{entries_read, faults_read, line_fault_cmp, not_utf8, FetchEntry, LineFault}
-use Rattle.bag_read.proofs.Common.{fetch_line}
+use Rattle.bag_read.proofs.Common.{fetch_line, entry, length_of, url_of}
+use Rattle.bag_read.specs.Fetch.{HasUnreadFetchLine}
 use Rattle.bag_read.proofs.FaultOrder.{is_fault}
-use Rattle.bag_read.proofs.FetchLine.{reason_code}
+use Rattle.bag_read.proofs.FetchLine.{of_unread, unread_line}
 use Rattle.bag_read.proofs.LinesRead.{IsRead, IsUnread, entries_listed, faults_listed}
 use Rattle.bag_read.proofs.Reason.{bind_err}
 use Rattle.bag_read.proofs.Utf8.{no_line}
@@ -36,12 +37,18 @@ module _ (rules : Rules) where
     all = lines_of_file bytes
 
     fault_read : (f : LineFault) → IsUnread (fetch_entry_in rules) all f → IsFetchFault rules bytes f
-    fault_read f (line, at, (some, is)) = grind (arith, bind_err, reason_code)
+    fault_read f (line, at, (some, is)) =
+        let reason = bind_err (fetch_line rules line) (entry f.line (url_of line) (length_of line)) (f.code, f.detail) is
+        in of_unread rules f.code bytes f (line, at, (some, reason))
+
+    is_unread : (code : Code) (f : LineFault) → f.code ≡ code → HasUnreadFetchLine rules code bytes f
+        → IsUnread (fetch_entry_in rules) all f
+    is_unread code f e (line, at, (some, reason)) = grind arith
 
     from_code : (code : Code) (f : LineFault) → f.code ≡ code → FetchFault rules code bytes f
         → IsUnread (fetch_entry_in rules) all f
     from_code NotUtf8 f e h = let clash : true ≡ false = sym is_utf8 ∙ h.2 in cc
-    from_code code f e (line, at, (some, reason)) = grind arith
+    from_code code f e h = is_unread code f e (unread_line rules code bytes f (λ same. cc) h)
 
     -- the faults of a file that is UTF-8
     pub faults_of_text : AreFaults (IsFetchFault rules bytes) (faults_read (fetch_entry_in rules) all)

@@ -1,23 +1,23 @@
 -- One line of a manifest.
-use Rattle.bag_read.proofs.Common.{Err, List, Ok, arith, refl, subst, ℕ, ◌≡◌, is_path, is_payload_path, unescaped}
+use Rattle.bag_read.proofs.Common.{Err, List, Ok, Result, arith, subst, ℕ, ◌>>=◌, ◌≡◌, is_path, is_payload_path}
+use Rattle.bag_read.proofs.Common.{unescaped}
 use Rattle.bag_read.proofs.Common.{after_blanks, before_blank, Alg, Code, DigestLength, ManifestEscape, ManifestLine}
 use Rattle.bag_read.proofs.Common.{ManifestOutsidePayload, ManifestUnsafePath, TagmanifestNamesPayload}
 use Rattle.bag_read.proofs.Common.{TagmanifestNamesTagmanifest, Rules, checked_digest, digest_of, line_by_spelling}
 use Rattle.bag_read.proofs.Common.{named_path, placed, spelled_path, without_marks, is_manifest_name, Reason}
 use Rattle.bag_read.proofs.Common.{decoded_or, Kind, Payload, Tag, manifest_line}
+use Rattle.bag_read.specs.Reason.{IsReadOf}
+use Rattle.bag_read.specs.declared.line_fault.Why.{Why}
 use Rattle.bag_read.proofs.Reason.{IsReasonOf, then_reason, chosen, decoded_reason}
 
-pub line_of_bad_digest : (rules : Rules) (kind : Kind) (alg : Alg) (line : List ℕ) (reason : Reason)
-    → checked_digest alg (before_blank line) (after_blanks line) ≡ Err reason
-    → manifest_line rules kind alg line ≡ Err reason
+-- what was read of a line, by its digest and what follows it
+pub line_by_parts : (rules : Rules) (kind : Kind) (alg : Alg) (line digits rest : List ℕ) → digits ≡ before_blank line
+    → rest ≡ after_blanks line → (read : Result (List ℕ × List ℕ) Why)
+    → IsReadOf (checked_digest alg digits rest >>= λ digest.
+    line_by_spelling rules kind digest (without_marks rest)) read
+    → IsReadOf (manifest_line rules kind alg line) read
 unfolding manifest_line
-line_of_bad_digest rules kind alg line reason e = rw e refl
-
-pub line_of_good_digest : (rules : Rules) (kind : Kind) (alg : Alg) (line digest : List ℕ)
-    → checked_digest alg (before_blank line) (after_blanks line) ≡ Ok digest
-    → line_by_spelling rules kind digest (without_marks (after_blanks line)) ≡ manifest_line rules kind alg line
-unfolding manifest_line
-line_of_good_digest rules kind alg line digest e = rw e refl
+line_by_parts rules kind alg line digits rest first back read h = rw (first, back) at h
 
 -- the codes of the reasons why a line doesn't read
 abbrev pub IsReasonCode : Code → Type 0

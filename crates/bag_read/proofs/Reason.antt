@@ -2,6 +2,8 @@
 use Rattle.bag_read.proofs.Common.{Bool, Err, List, None, Ok, Option, Result, Some, cond, false, inl, inr, refl, subst}
 use Rattle.bag_read.proofs.Common.{sym, true, ℕ, ◌∙◌, ◌∷◌, ◌≡◌, both_ways, IfOk, ◌↔◌, spellings, is_path, Spells}
 use Rattle.bag_read.proofs.Common.{unescaped, Code, Rules, IsFirst, Reason, decoded_or, ◌>>=◌, arith}
+use Rattle.bag_read.specs.Reason.{IsReadOf}
+use Rattle.bag_read.specs.declared.line_fault.Why.{Why}
 
 pub ok_same : {A : Type 0} (x y : A) → ◌≡◌ {A = Result A Reason} (Ok x) (Ok y) → x ≡ y
 ok_same x y e = cc
@@ -104,3 +106,8 @@ module _ (IsCode : Code → Type 0) where
   pub decoded_reason : (bad_escape : Code) (o : Option (List ℕ)) (spelling : List ℕ) → IsCode bad_escape
       → IsReasonOf (decoded_or bad_escape o spelling)
   decoded_reason bad_escape o spelling is = grind arith
+
+-- a step that goes on with what was read
+pub read_on : {A B : Type 0} (says : Result A Reason) (x : A) (next : A → Result B Reason) (read : Result B Why)
+    → IsReadOf says (Ok x) → IsReadOf (next x) read → IsReadOf (says >>= next) read
+read_on says x next read h then = rw h then

@@ -4,7 +4,9 @@ use Rattle.bag_read.proofs.Common.{nat_lt, refl, rules, sym, true, ℕ, ◌+◌,
 use Rattle.bag_read.proofs.Common.{cases_lt, eqb-false, eqb-true, nat_tests, get_or-map, length-map}
 use Rattle.bag_read.proofs.Common.{get_or_from_slice_get, slice_get-get_or, slice_get_within, bytes_eq-Decides}
 use Rattle.bag_read.proofs.Common.{IsTotalOrder, IsDistinct, slice_get, is_eq, is_lt, nat_cmp, on, Contains, IsTrue}
-use Rattle.bag_read.proofs.Common.{◌↔◌, Less, IsLine, IsListOf, text_cmp, Alg, Rules, entries_read, ReadsManifest}
+use Rattle.std.specs.List.{IsAllAdjacentAnswer}
+use Rattle.bag_read.proofs.Common.{Ordering, ◌↔◌, Less, IsLine, IsListOf, text_cmp, Alg, Rules, entries_read}
+use Rattle.bag_read.proofs.Common.{ReadsManifest}
 use Rattle.bag_read.proofs.Common.{named_before, PathsAscend, AreDifferent, IsRepeatedLine, NamesBelow, RepeatsBelow}
 use Rattle.bag_read.proofs.Common.{FindsRepeats, fingerprint, mark_of, Kind, ManifestEntry}
 use Rattle.std.specs.List.Sorted.{IsPermutation, IsSortedBy, IsStrictlyIncreasing}
@@ -38,8 +40,27 @@ different_by_marks entries found sorted are perm up = λ i j d low high same.
 text_total : IsTotalOrder text_cmp
 text_total = search (comparing, rules)
 
-abbrev path_lt : ManifestEntry → ManifestEntry → Bool
+abbrev pub path_lt : ManifestEntry → ManifestEntry → Bool
 path_lt x y = is_lt (text_cmp x.path y.path)
+
+less : (o : Ordering) → true ≡ is_lt o → o ≡ Less
+less Less e = refl
+less _ e = cc
+
+-- paths of which each neighbour stands before the next ascend
+pub paths_by_neighbours : (entries : List ManifestEntry) (r : Bool)
+    → IsAllAdjacentAnswer (λ x y b. b ≡ path_lt x y) entries r → IsTrue r → PathsAscend entries
+paths_by_neighbours entries true h t = λ k d within.
+    less (text_cmp (get_or entries k d).path (get_or entries (k + 1) d).path) (h k d within)
+paths_by_neighbours entries false h t = cc
+
+-- and so do numbers
+pub numbers_by_neighbours : (numbers : List ℕ) (r : Bool)
+    → IsAllAdjacentAnswer (λ x y b. b ≡ nat_lt x y) numbers r → IsTrue r → IsStrictlyIncreasing numbers
+numbers_by_neighbours numbers true h t = λ k within.
+    let low : true ≡ nat_lt (get_or numbers k 0) (get_or numbers (k + 1) 0) = h k 0 within in
+    grind (arith, nat_tests, low)
+numbers_by_neighbours numbers false h t = cc
 
 -- paths that ascend are all different
 pub different_by_order : (entries : List ManifestEntry) → PathsAscend entries → AreDifferent entries

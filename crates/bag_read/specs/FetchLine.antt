@@ -1,5 +1,6 @@
 -- What a line of fetch.txt is made of (RFC 8493, 2.2.3), and the laws that its definition keeps.
 use Rattle.std.specs.Prelude.{ℕ, ◌≡◌, ◌⊎◌, ◌↔◌, false, List, codes, IsTrue}
+use Rattle.bag_text.specs.Bytes.{Line, Path}
 use Rattle.bag_text.specs.Path.{is_payload_path}
 use Rattle.bag_text.specs.Spells.{Spells}
 use Rattle.bag_text.specs.Text.{is_blank_line}
@@ -13,7 +14,8 @@ abbrev pub IsLength : List ℕ → Type 0
 IsLength t = (t ≡ codes "-") ⊎ AreDigits t
 
 -- the line is a URL, blanks, a length, blanks, and a spelling of the path of a payload file
-pub record IsFetchLine (rules : Rules) (line url size path : List ℕ) : Type 0 where
+pub record IsFetchLine (rules : Rules) (line : Line) (url size : List ℕ)
+    (path : Path) : Type 0 where
   pub after_url : List ℕ
   pub written : List ℕ
   pub spelling : List ℕ
@@ -26,16 +28,16 @@ pub record IsFetchLine (rules : Rules) (line url size path : List ℕ) : Type 0 
 
 -- the law: a line reads just as it is made of these
 abbrev pub FetchLinesReadAsTheirParts : Type 0
-FetchLinesReadAsTheirParts = (rules : Rules) (line url size path : List ℕ)
+FetchLinesReadAsTheirParts = (rules : Rules) (line : Line) (url size : List ℕ) (path : Path)
     → ReadsFetch rules line url size path ↔ IsFetchLine rules line url size path
 
-abbrev pub OnlyReadsFetch : Rules → List ℕ → Type 0
+abbrev pub OnlyReadsFetch : Rules → Line → Type 0
 OnlyReadsFetch rules line =
     (url size path : List ℕ) × IsFetchLine rules line url size path
     × ((u s p : List ℕ) → IsFetchLine rules line u s p → (u ≡ url) × (s ≡ size) × (p ≡ path))
     × ((reason : Reason) → ¬ (HasFetchReason rules line reason))
 
-abbrev pub HasOnlyFetchReason : Rules → List ℕ → Type 0
+abbrev pub HasOnlyFetchReason : Rules → Line → Type 0
 HasOnlyFetchReason rules line =
     (reason : Reason) × HasFetchReason rules line reason
     × ((other : Reason) → HasFetchReason rules line other → other ≡ reason)
@@ -43,5 +45,5 @@ HasOnlyFetchReason rules line =
 
 -- the law: a line that isn't blank reads in one way, or has one reason why it doesn't
 abbrev pub FetchLinesReadOrHaveOneReason : Type 0
-FetchLinesReadOrHaveOneReason = (rules : Rules) (line : List ℕ) → is_blank_line line ≡ false
+FetchLinesReadOrHaveOneReason = (rules : Rules) (line : Line) → is_blank_line line ≡ false
     → OnlyReadsFetch rules line ⊎ HasOnlyFetchReason rules line

@@ -3,6 +3,7 @@
 use Rattle.std.specs.Prelude.{ℕ, ◌++◌, ◌||◌, Bool, true, false, List, [], ◌∷◌, Option, Some, None}
 use Rattle.std.specs.Prelude.{if◌then◌else◌}
 use Rattle.std.specs.Option.{option_to_list}
+use Rattle.bag_text.specs.Bytes.{Line}
 use Rattle.bag_text.specs.Text.{trim, is_blank_line, begins_with_blank}
 use Rattle.bag_text.specs.Lines.{line_feed}
 use Rattle.bag_text.specs.declared.code.Code.TheVariants.{InfoLine}
@@ -16,7 +17,7 @@ use Rattle.bag_read.specs.declared.info_reader.Above.TheVariants.{Nothing, Refus
 use Rattle.bag_read.specs.declared.info_reader.Reader.{Reader}
 
 abbrev pub Numbered : Type 0
-Numbered = List (ℕ × List ℕ)
+Numbered = List (ℕ × Line)
 
 -- a value and one more part
 abbrev pub with_part : List ℕ → List ℕ → List ℕ
@@ -36,7 +37,7 @@ element_if n None more = None
 element_if n (Some x) more =
     Some (record { line = n; label = x.0; value = value_on (trim x.1) more })
 
-abbrev pub element_at : Rules → ℕ → List ℕ → Numbered → Option Element
+abbrev pub element_at : Rules → ℕ → Line → Numbered → Option Element
 element_at rules n line more =
     if begins_element line then element_if n (split rules line) more else None
 
@@ -52,7 +53,7 @@ fault_unless n None = Some (wrong n)
 fault_unless n (Some x) = None
 
 -- what is wrong with a line, by whether an earlier line should have begun an element
-abbrev pub fault_at : Rules → Bool → ℕ → List ℕ → Option LineFault
+abbrev pub fault_at : Rules → Bool → ℕ → Line → Option LineFault
 fault_at rules begun n line =
     if is_blank_line line then None
     else if begins_with_blank line then (if begun then None else Some (wrong n))
@@ -98,18 +99,18 @@ begun r n (Some x) =
       above = Begun (record { line = n; label = x.0; value = trim x.1 });
     }
 
-abbrev pub continued_from : Reader → ℕ → List ℕ → Above → Reader
+abbrev pub continued_from : Reader → ℕ → Line → Above → Reader
 continued_from r n line Nothing = record r { faults = r.faults ++ wrong n ∷ [] }
 continued_from r n line Refused = r
 continued_from r n line (Begun e) =
     record r { above = Begun (record e { value = with_part e.value line }) }
 
 -- the reader after a continuation
-abbrev pub continued : Reader → ℕ → List ℕ → Reader
+abbrev pub continued : Reader → ℕ → Line → Reader
 continued r n line = continued_from r n line r.above
 
 -- the reader after a line
-abbrev pub after_line : Rules → Reader → ℕ → List ℕ → Reader
+abbrev pub after_line : Rules → Reader → ℕ → Line → Reader
 after_line rules r n line =
     if is_blank_line line then r
     else if begins_with_blank line then continued r n line

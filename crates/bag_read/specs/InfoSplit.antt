@@ -3,6 +3,7 @@
 use Rattle.std.specs.Prelude.{ℕ, ◌≡◌, ◌≢◌, ◌⊎◌, ◌↔◌, true, not, List, [], ◌∷◌, ◌++◌, Some, codes, ⊤}
 use Rattle.std.specs.Prelude.{IsTrue, None}
 use Rattle.std.specs.List.{list_all}
+use Rattle.bag_text.specs.Bytes.{Line}
 use Rattle.bag_text.specs.Text.{is_blank, trim, is_blank_line}
 use Rattle.bag_text.specs.Trim.{EndsWithNoBlank}
 use Rattle.bag_text.specs.declared.rules.Rules.{Rules}
@@ -25,7 +26,7 @@ MayFollow V097 part = ⊤
 
 -- the line is a label, its first colon, and what may follow; the label isn't empty and doesn't end
 -- with a blank
-pub record SplitsAs (rules : Rules) (line label part : List ℕ) : Type 0 where
+pub record SplitsAs (rules : Rules) (line : Line) (label part : List ℕ) : Type 0 where
   pub before : List ℕ
   pub line_is : line ≡ before ++ codes ":" ++ part
   pub no_colon : IsTrue (list_all (λ c. not (is_colon c)) before)
@@ -36,10 +37,10 @@ pub record SplitsAs (rules : Rules) (line label part : List ℕ) : Type 0 where
 
 -- the law: a line splits just as it is made of these
 abbrev pub LinesSplitAsTheirParts : Type 0
-LinesSplitAsTheirParts = (rules : Rules) (line label part : List ℕ)
+LinesSplitAsTheirParts = (rules : Rules) (line : Line) (label part : List ℕ)
     → (split rules line ≡ Some (label, part)) ↔ SplitsAs rules line label part
 
-abbrev pub HasKind : Rules → List ℕ → LineKind → Type 0
+abbrev pub HasKind : Rules → Line → LineKind → Type 0
 HasKind rules line Blank = is_blank_line line ≡ true
 HasKind rules line Continuation = is_continuation line ≡ true
 HasKind rules line (First label part) =

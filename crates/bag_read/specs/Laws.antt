@@ -3,7 +3,6 @@ use Rattle.std.specs.Prelude.{ℕ, ◌≡◌, ◌≤◌, ◌↔◌, ◌++◌, Li
 use Rattle.std.specs.Str.Parse.{digits_value}
 use Rattle.bag_read.specs.LineParts.{AreDigits}
 use Rattle.bag_read.specs.declared.oxum.Oxum.{Oxum}
-use Rattle.bag_text.specs.Alg.{name}
 use Rattle.bag_text.specs.Path.{is_base_name}
 use Rattle.bag_read.specs.ManifestName.{tag_path}
 use Rattle.bag_read.specs.declared.tag_name.TagName.{TagName}

@@ -5,6 +5,7 @@ use Rattle.std.specs.List.{enumerate_from}
 use Rattle.std.specs.Result.{result_ok}
 use Rattle.std.specs.declared.cmp.Ordering.{Ordering}
 use Rattle.std.specs.Ordering.{nat_cmp, on, then_cmp}
+use Rattle.bag_text.specs.Bytes.{Line}
 use Rattle.bag_text.specs.Text.{text_cmp, is_blank_line}
 use Rattle.bag_text.specs.Code.{number}
 use Rattle.bag_text.specs.declared.code.Code.{Code}
@@ -35,16 +36,16 @@ fault_in n (Ok entry) = None
 fault_in n (Err reason) = Some (line_fault n reason.0 reason.1)
 
 -- what is read of a numbered line that isn't blank, and its fault, by what lines say
-abbrev pub entry_of : {E : Type 0} → (ℕ → List ℕ → Result E Reason) → ℕ × List ℕ → Option E
+abbrev pub entry_of : {E : Type 0} → (ℕ → Line → Result E Reason) → ℕ × Line → Option E
 entry_of reads x = if is_blank_line x.1 then None else result_ok (reads x.0 x.1)
 
-abbrev pub fault_of : {E : Type 0} → (ℕ → List ℕ → Result E Reason) → ℕ × List ℕ → Option LineFault
+abbrev pub fault_of : {E : Type 0} → (ℕ → Line → Result E Reason) → ℕ × Line → Option LineFault
 fault_of reads x = if is_blank_line x.1 then None else fault_in x.0 (reads x.0 x.1)
 
 -- what is read of lines, and their faults
-abbrev pub entries_read : {E : Type 0} → (ℕ → List ℕ → Result E Reason) → List (List ℕ) → List E
+abbrev pub entries_read : {E : Type 0} → (ℕ → Line → Result E Reason) → List Line → List E
 entries_read reads all = filter_map (entry_of reads) (enumerate_from 1 all)
 
-abbrev pub faults_read : {E : Type 0} → (ℕ → List ℕ → Result E Reason) → List (List ℕ)
+abbrev pub faults_read : {E : Type 0} → (ℕ → Line → Result E Reason) → List Line
     → List LineFault
 faults_read reads all = filter_map (fault_of reads) (enumerate_from 1 all)

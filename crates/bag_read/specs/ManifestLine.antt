@@ -4,6 +4,7 @@ use Rattle.std.specs.Prelude.{ℕ, ◌≡◌, ◌≢◌, ◌⊎◌, ◌↔◌, f
 use Rattle.std.specs.Char.{is_ascii_hexdigit}
 use Rattle.std.specs.List.{list_all}
 use Rattle.std.specs.Str.{str_to_ascii_lowercase}
+use Rattle.bag_text.specs.Bytes.{Digest, Line, Path}
 use Rattle.bag_text.specs.Alg.{hex_len}
 use Rattle.bag_text.specs.Path.{is_path, is_payload_path}
 use Rattle.bag_text.specs.Spells.{Spells}
@@ -24,7 +25,7 @@ IsSpelling rest spelling =
     × IsWithout (codes "./") unmarked spelling
 
 -- a payload manifest may name payload files, and a tag manifest other files, but no tag manifest
-abbrev pub MayName : Kind → List ℕ → Type 0
+abbrev pub MayName : Kind → Path → Type 0
 MayName Payload path = IsTrue (is_payload_path path)
 MayName Tag path =
     (is_payload_path path ≡ false)
@@ -33,7 +34,7 @@ MayName Tag path =
 -- the line is a digest of the algorithm, blanks, and a spelling of a path that a manifest of this
 -- kind may name
 pub record IsManifestLine (rules : Rules) (kind : Kind) (alg : Alg)
-    (line digest path : List ℕ) : Type 0 where
+    (line : Line) (digest : Digest) (path : Path) : Type 0 where
   pub hex : List ℕ
   pub rest : List ℕ
   pub spelling : List ℕ
@@ -49,16 +50,16 @@ pub record IsManifestLine (rules : Rules) (kind : Kind) (alg : Alg)
 -- the law: a line reads just as it is made of these
 abbrev pub ManifestLinesReadAsTheirParts : Type 0
 ManifestLinesReadAsTheirParts =
-    (rules : Rules) (kind : Kind) (alg : Alg) (line digest path : List ℕ)
+    (rules : Rules) (kind : Kind) (alg : Alg) (line : Line) (digest : Digest) (path : Path)
     → ReadsManifest rules kind alg line digest path ↔ IsManifestLine rules kind alg line digest path
 
-abbrev pub OnlyReadsManifest : Rules → Kind → Alg → List ℕ → Type 0
+abbrev pub OnlyReadsManifest : Rules → Kind → Alg → Line → Type 0
 OnlyReadsManifest rules kind alg line =
     (digest path : List ℕ) × IsManifestLine rules kind alg line digest path
     × ((d p : List ℕ) → IsManifestLine rules kind alg line d p → (d ≡ digest) × (p ≡ path))
     × ((reason : Reason) → ¬ (HasManifestReason rules kind alg line reason))
 
-abbrev pub HasOnlyManifestReason : Rules → Kind → Alg → List ℕ → Type 0
+abbrev pub HasOnlyManifestReason : Rules → Kind → Alg → Line → Type 0
 HasOnlyManifestReason rules kind alg line =
     (reason : Reason) × HasManifestReason rules kind alg line reason
     × ((other : Reason) → HasManifestReason rules kind alg line other → other ≡ reason)
@@ -66,6 +67,6 @@ HasOnlyManifestReason rules kind alg line =
 
 -- the law: a line that isn't blank reads in one way, or has one reason why it doesn't
 abbrev pub ManifestLinesReadOrHaveOneReason : Type 0
-ManifestLinesReadOrHaveOneReason = (rules : Rules) (kind : Kind) (alg : Alg) (line : List ℕ)
+ManifestLinesReadOrHaveOneReason = (rules : Rules) (kind : Kind) (alg : Alg) (line : Line)
     → is_blank_line line ≡ false
     → OnlyReadsManifest rules kind alg line ⊎ HasOnlyManifestReason rules kind alg line

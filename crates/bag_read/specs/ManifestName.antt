@@ -3,6 +3,7 @@ use Rattle.std.specs.Prelude.{ℕ, ◌-◌, ◌&&◌, ◌||◌, Bool, not, List,
 use Rattle.std.specs.Prelude.{codes}
 use Rattle.std.specs.List.{list_all}
 use Rattle.std.specs.Char.{is_ascii_digit, is_ascii_lowercase}
+use Rattle.bag_text.specs.Bytes.{Name, Path}
 use Rattle.bag_text.specs.Text.{without_prefix}
 use Rattle.bag_read.specs.declared.kind.Kind.{Kind}
 use Rattle.bag_read.specs.declared.kind.Kind.TheVariants.{Payload, Tag}
@@ -15,7 +16,7 @@ prefix Payload = codes "manifest-"
 prefix Tag = codes "tagmanifest-"
 
 -- the file in the base folder that is the manifest of an algorithm's name
-abbrev pub manifest_name : Kind → List ℕ → List ℕ
+abbrev pub manifest_name : Kind → List ℕ → Name
 manifest_name kind alg = prefix kind ++ alg ++ codes ".txt"
 
 -- one or more of a to z and 0 to 9
@@ -23,14 +24,14 @@ abbrev pub is_alg_text : List ℕ → Bool
 is_alg_text t = not (bytes_eq t []) && list_all (λ c. is_ascii_lowercase c || is_ascii_digit c) t
 
 -- the name of a manifest of this kind, of any algorithm
-abbrev pub is_manifest_name : Kind → List ℕ → Bool
+abbrev pub is_manifest_name : Kind → Path → Bool
 is_manifest_name kind path =
     let rest = without_prefix (prefix kind) path in
     let alg = take (length rest - 4) rest in
     is_alg_text alg && bytes_eq path (manifest_name kind alg)
 
 -- where a tag file stands
-abbrev pub tag_path : TagName → List ℕ
+abbrev pub tag_path : TagName → Path
 tag_path Declaration = codes "bagit.txt"
 tag_path Info = codes "bag-info.txt"
 tag_path Fetch = codes "fetch.txt"

@@ -1,8 +1,9 @@
--- The manifest_reasons why a line of a manifest doesn't read, each by itself (RFC 8493, 2.1.3 and
--- 2.2.1), and the law of the first.
+-- The reasons why a line of a manifest doesn't read, each by itself (RFC 8493, 2.1.3 and 2.2.1),
+-- and the law of the first.
 use Rattle.std.specs.Prelude.{ℕ, ◌≡◌, ◌≢◌, ◌⊎◌, false, List, [], ◌∷◌, length, IsTrue}
 use Rattle.std.specs.Char.{is_ascii_hexdigit}
 use Rattle.std.specs.List.{list_all}
+use Rattle.bag_text.specs.Bytes.{Line}
 use Rattle.bag_text.specs.Alg.{hex_len}
 use Rattle.bag_text.specs.Path.{is_path, is_payload_path}
 use Rattle.bag_text.specs.Spells.{Spells}
@@ -23,17 +24,17 @@ use Rattle.bag_read.specs.declared.kind.Kind.{Kind}
 use Rattle.bag_read.specs.declared.kind.Kind.TheVariants.{Payload, Tag}
 
 -- after the digest and the blanks the path is spelled so
-abbrev pub IsManifestSpelled : List ℕ → List ℕ → Type 0
+abbrev pub IsManifestSpelled : Line → List ℕ → Type 0
 IsManifestSpelled line spelling =
     (hex rest : List ℕ) × IsFronted line hex rest × IsSpelling rest spelling
 
 -- and this text is what is spelled
-abbrev pub IsManifestWritten : Rules → List ℕ → List ℕ → Type 0
+abbrev pub IsManifestWritten : Rules → Line → List ℕ → Type 0
 IsManifestWritten rules line text =
     (spelling : List ℕ) × IsManifestSpelled line spelling × Spells rules spelling text
 
 -- a reason, with its detail, by cases on the code
-abbrev pub ManifestReasonHolds : Code → Rules → Kind → Alg → List ℕ → List ℕ → Type 0
+abbrev pub ManifestReasonHolds : Code → Rules → Kind → Alg → Line → List ℕ → Type 0
 -- the front is empty or isn't hex, or nothing follows it
 ManifestReasonHolds ManifestLine rules kind alg line detail =
     (detail ≡ []) × ((hex rest : List ℕ) × IsFronted line hex rest
@@ -59,7 +60,7 @@ ManifestReasonHolds TagmanifestNamesTagmanifest rules Tag alg line detail =
     × ((text : List ℕ) × IsTrue (is_alg_text text) × (detail ≡ manifest_name Tag text))
 ManifestReasonHolds other rules kind alg line detail = ⊥
 
--- in the order in which they count
+-- in the order in which they count: of several that hold the first is reported
 abbrev pub manifest_reasons : List Code
 manifest_reasons =
     ManifestLine ∷ DigestLength ∷ ManifestEscape ∷ ManifestUnsafePath ∷ ManifestOutsidePayload
@@ -69,7 +70,7 @@ manifest_reasons =
 -- the law: the reason of a line holds, and none of those before it does
 abbrev pub FirstManifestReasonIsReported : Type 0
 FirstManifestReasonIsReported =
-    (rules : Rules) (kind : Kind) (alg : Alg) (line : List ℕ) (reason : Reason)
+    (rules : Rules) (kind : Kind) (alg : Alg) (line : Line) (reason : Reason)
     → HasManifestReason rules kind alg line reason
     → IsFirst (λ code detail. ManifestReasonHolds code rules kind alg line detail) manifest_reasons
     reason

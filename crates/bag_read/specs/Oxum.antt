@@ -1,6 +1,6 @@
 -- The value of Payload-Oxum (RFC 8493, 2.2.2).
-use Rattle.std.specs.Prelude.{ℕ, ◌^◌, ◌==◌, ◌&&◌, Bool, List, Option, Some, None, if◌then◌else◌}
-use Rattle.std.specs.Prelude.{nat_lt}
+use Rattle.std.specs.Prelude.{ℕ, ◌^◌, ◌==◌, ◌&&◌, ◌++◌, Bool, List, Option, Some, None, if◌then◌else◌}
+use Rattle.std.specs.Prelude.{codes, decimal, nat_lt}
 use Rattle.std.specs.Str.{byte}
 use Rattle.std.specs.Str.Parse.{digits_value}
 use Rattle.std.specs.List.{before_first, after_first}
@@ -22,3 +22,7 @@ oxum_of value =
     if is_number octets && is_number streams
     then Some (record { octets = digits_value 10 octets; streams = digits_value 10 streams })
     else None
+
+-- two numbers as `OCTETS.STREAMS`
+abbrev pub oxum_text : Oxum → List ℕ
+oxum_text oxum = decimal oxum.octets ++ codes "." ++ decimal oxum.streams

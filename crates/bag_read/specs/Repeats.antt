@@ -3,6 +3,7 @@ use Rattle.std.specs.Prelude.{ℕ, ◌≡◌, ◌≢◌, ◌+◌, ◌<◌, ◌�
 use Rattle.std.specs.Prelude.{slice_index_or, IsTrue, Contains}
 use Rattle.std.specs.Hash.FoldHasher.{initial, write, finish}
 use Rattle.std.specs.declared.cmp.Ordering.TheVariants.{Less}
+use Rattle.bag_text.specs.Bytes.{Line, Path}
 use Rattle.bag_text.specs.Lines.{IsLine}
 use Rattle.bag_text.specs.Text.{text_cmp}
 use Rattle.bag_text.specs.declared.rules.Rules.{Rules}
@@ -35,7 +36,7 @@ PathsAscend entries =
     → text_cmp (slice_index_or entries k d).path (slice_index_or entries (k + 1) d).path ≡ Less
 
 -- an entry at a place below this one names the path
-abbrev pub NamesBelow : List ManifestEntry → ℕ → List ℕ → Type 0
+abbrev pub NamesBelow : List ManifestEntry → ℕ → Path → Type 0
 NamesBelow entries k path =
     (i : ℕ) × (e : ManifestEntry) × (i < k) × (slice_get entries i ≡ Some e) × (e.path ≡ path)
 
@@ -50,16 +51,16 @@ abbrev pub IsRepeatedLine : List ManifestEntry → ℕ → Type 0
 IsRepeatedLine entries n = RepeatsBelow entries (length entries) n
 
 -- the test says of each line that reads whether an earlier line names its path
-abbrev pub FindsRepeats : Rules → Kind → Alg → List (List ℕ) → (ℕ → List ℕ → Bool) → Type 0
+abbrev pub FindsRepeats : Rules → Kind → Alg → List Line → (ℕ → Path → Bool) → Type 0
 FindsRepeats rules kind alg all names_again =
     (n : ℕ) (line digest path : List ℕ) → IsLine all n line
     → ReadsManifest rules kind alg line digest path
     → IsTrue (names_again n path) ↔ Contains (named_before rules kind alg all n) path
 
 -- what is read of lines by such a test
-pub record IsReadOnce (rules : Rules) (kind : Kind) (alg : Alg) (all : List (List ℕ))
+pub record IsReadOnce (rules : Rules) (kind : Kind) (alg : Alg) (all : List Line)
     (items : List ManifestEntry) (faults : List LineFault) : Type 0 where
-  pub names_again : ℕ → List ℕ → Bool
+  pub names_again : ℕ → Path → Bool
   pub tells : FindsRepeats rules kind alg all names_again
   pub items_are : items ≡ entries_read (manifest_entry_in names_again rules kind alg) all
   pub faults_are : faults ≡ faults_read (manifest_entry_in names_again rules kind alg) all

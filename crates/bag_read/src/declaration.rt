@@ -25,8 +25,8 @@ pub struct Declaration {
 }
 
 /// Reads the bytes of `bagit.txt` (RFC 8493, 2.1.1). Each of the two lines is judged by itself, and
-/// the rest is read after a byte order mark too; in bytes that aren't UTF-8 nothing is read. An
-/// error only when out of memory.
+/// the rest is read after a byte order mark too; in bytes that aren't UTF-8 nothing is read. Fails
+/// only where memory runs out.
 pub fn read_declaration(alloc: Global, bytes: &[u8]) -> Result<Declaration, AllocError>
     ensures version { IfOk result (λ d. d.version ≡ spec.declared_version bytes.now) }
     ensures encoding { IfOk result (λ d. d.encoding ≡ spec.declared_encoding bytes.now) }

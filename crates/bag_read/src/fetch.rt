@@ -7,6 +7,7 @@ ghost use Rattle.bag_read.specs.LineFault.{AreFaults};
 ghost use Rattle.bag_read.specs.Fetch as spec;
 ghost use Rattle.bag_read.specs.ReadEntries as of_line;
 ghost use Rattle.bag_read.specs.Fetch.{IsFetch, IsFetchFault};
+ghost use Rattle.bag_read.specs.Reason.{IsReadOf};
 
 use crate::line_fault::{
     LineForm, Parsed, Why, decode_path, is_digits, read_lines, refuse, unread, without_prefix,
@@ -33,8 +34,8 @@ pub struct FetchEntry {
 
 /// Reads the bytes of `fetch.txt` (RFC 8493, 2.2.3). Each line that isn't blank is an entry or has
 /// one fault; a path may stand in more than one line, and the syntax of a URL isn't looked at.
-/// Bytes that aren't UTF-8 have no entry and the one fault `NotUtf8`. One pass. An error only when
-/// out of memory.
+/// Bytes that aren't UTF-8 have no entry and the one fault `NotUtf8`. One pass. Fails only where
+/// memory runs out.
 pub fn read_fetch(
     alloc: Global,
     rules: Rules,
@@ -63,34 +64,23 @@ impl LineForm for FetchForm {
 
     ghost reads = { λ form line content. of_line.fetch_entry_in form.rules line content };
 
-    fn read(
-        &self,
-        alloc: Global,
-        number: u64,
-        line: &str,
-    ) -> Result<Result<FetchEntry, Why>, AllocError> {
-        read_line(alloc, self.rules, number, line)
+    fn read(&self, alloc: Global, number: u64, line: &str) -> Result<FetchEntry, Why> {
+        let (url, after) = split_at_blanks(line);
+        let (length, written) = split_at_blanks(after);
+        if lacks_part(url, length, written) {
+            return refuse(alloc, Code::FetchLine, "");
+        }
+        let path = self.path(alloc, without_prefix(written, "./"))?;
+        Ok(entry(alloc, number, url, length, path)?)
     }
 }
 
-/// Reads a line that isn't blank: its URL, its length and its path, or the first reason why it
-/// doesn't read.
-fn read_line(
-    alloc: Global,
-    rules: Rules,
-    number: u64,
-    line: &str,
-) -> Result<Result<FetchEntry, Why>, AllocError>
-    ensures { IfOk result (λ read. read ≡ of_line.fetch_entry_in rules number line.now) }
-{
-    let (url, after) = split_at_blanks(line);
-    let (length, written) = split_at_blanks(after);
-    if lacks_part(url, length, written) {
-        return refuse(alloc, Code::FetchLine, "");
-    }
-    match read_path(alloc, rules, without_prefix(written, "./"))? {
-        Ok(path) => Ok(Ok(entry(alloc, number, url, length, path)?)),
-        Err(why) => Ok(Err(why)),
+impl FetchForm {
+    /// The path of a line by how it is spelled.
+    fn path(&self, alloc: Global, spelling: &str) -> Result<Text, Why>
+        ensures { IsReadOf (spec.path_spelled self.now.rules spelling.now) result }
+    {
+        in_payload(decode_path(alloc, self.rules, spelling, Code::FetchEscape)?)
     }
 }
 
@@ -109,26 +99,16 @@ fn is_length(text: &str) -> bool
     text == UNKNOWN || is_digits(text)
 }
 
-/// The path of a line by how it is spelled.
-fn read_path(alloc: Global, rules: Rules, spelling: &str) -> Result<Result<Text, Why>, AllocError>
-    ensures { IfOk result (λ path. path ≡ spec.path_spelled rules spelling.now) }
-{
-    match decode_path(alloc, rules, spelling, Code::FetchEscape)? {
-        Ok(path) => Ok(in_payload(path)),
-        Err(why) => Ok(Err(why)),
-    }
-}
-
 /// A path to which a file may be fetched, or why it may not.
 fn in_payload(path: Text) -> Result<Text, Why>
-    ensures { result ≡ spec.fetched_path path }
+    ensures { IsReadOf (spec.fetched_path path) result }
 {
     if is_payload(path.as_str()) {
         Ok(path)
     } else if check_path(path.as_str()).is_ok() {
-        Err((Code::FetchOutsidePayload, path))
+        Err(Why::Fault(Code::FetchOutsidePayload, path))
     } else {
-        Err((Code::FetchUnsafePath, path))
+        Err(Why::Fault(Code::FetchUnsafePath, path))
     }
 }
 

@@ -28,8 +28,8 @@ pub struct Element {
 /// Reads the bytes of `bag-info.txt` (RFC 8493, 2.2.2). A line that isn't blank and begins with a
 /// space or a tab goes on with the value of the element above it; after a line that is wrong it is
 /// passed over. Each other line that isn't blank is an element or the fault `InfoLine`. Bytes that
-/// aren't UTF-8 have no element and the one fault `NotUtf8`. Reads in one pass. An error only when
-/// out of memory.
+/// aren't UTF-8 have no element and the one fault `NotUtf8`. Reads in one pass. Fails only where
+/// memory runs out.
 pub fn read_info(alloc: Global, rules: Rules, bytes: &[u8]) -> Result<Parsed<Element>, AllocError>
     ensures items { IfOk result (λ parsed.
         IsListOf (on (λ e. e.line) nat_cmp) (IsElement rules (cut.lines_of_file bytes.now))

@@ -6,7 +6,7 @@ ghost use Rattle.std.specs.Char.{is_ascii_digit};
 ghost use Rattle.std.specs.List.{list_all};
 ghost use Rattle.std.specs.Option.{option_copied};
 ghost use Rattle.bag_read.specs.LineFault.{entries_read, faults_read, not_utf8};
-ghost use Rattle.bag_read.specs.Reason.{Reason, decoded_or};
+ghost use Rattle.bag_read.specs.Reason.{IsReadOf, Reason, decoded_or};
 ghost use Rattle.bag_text.specs.Spelling.{unescaped};
 ghost use Rattle.bag_text.specs.Lines as cut;
 ghost use Rattle.bag_text.specs.Text as spec;
@@ -34,8 +34,25 @@ pub struct Parsed<T> {
     pub faults: Items<LineFault>,
 }
 
-/// Why a line doesn't read: a code, and a fault's detail.
-pub(crate) type Why = (Code, Text);
+/// Why a line isn't read.
+#[derive(Debug, Drop)]
+pub(crate) enum Why {
+    /// It is wrong: a code, and a fault's detail.
+    Fault(Code, Text),
+    /// Memory ran out.
+    Memory,
+}
+
+impl From<AllocError> for Why {
+    ghost use Rattle.std.specs.Prelude.{◌≡◌};
+    ghost use Rattle.bag_read.specs.declared.line_fault.Why.TheVariants.{Memory};
+
+    ghost from_gives = { λ _ why. why ≡ Memory };
+
+    fn from(_error: AllocError) -> Why {
+        Why::Memory
+    }
+}
 
 /// How the lines of a tag file read, each by itself.
 pub(crate) trait LineForm {
@@ -46,13 +63,8 @@ pub(crate) trait LineForm {
     ghost reads: { Self → ℕ → List ℕ → Result Self.Entry Reason };
 
     /// Reads a line that isn't blank.
-    fn read(
-        &self,
-        alloc: Global,
-        number: u64,
-        line: &str,
-    ) -> Result<Result<Self::Entry, Why>, AllocError>
-        ensures { IfOk result (λ read. read ≡ reads self.now number line.now) };
+    fn read(&self, alloc: Global, number: u64, line: &str) -> Result<Self::Entry, Why>
+        ensures { IsReadOf (reads self.now number line.now) result };
 }
 
 /// Reads each line of a text that isn't blank, in one pass. Room is taken at once for `room` lines
@@ -72,9 +84,10 @@ pub(crate) fn read_lines<F: LineForm>(
     let mut faults = Items::new(alloc);
     for (line, content) in lines(text) {
         if !is_blank_line(content) {
-            match form.read(alloc, line, content)? {
+            match form.read(alloc, line, content) {
                 Ok(entry) => items.push(entry)?,
-                Err((code, detail)) => faults.push(LineFault { line, code, detail })?,
+                Err(Why::Fault(code, detail)) => faults.push(LineFault { line, code, detail })?,
+                Err(Why::Memory) => return Err(AllocError),
             }
         }
     }
@@ -104,18 +117,14 @@ fn line_end_count(block: &[u8]) -> u8 {
 }
 
 /// That a line doesn't read, with a detail that is copied.
-pub(crate) fn refuse<T>(
-    alloc: Global,
-    code: Code,
-    detail: &str,
-) -> Result<Result<T, Why>, AllocError>
-    ensures { IfOk result (λ read. read ≡ Err (code, detail.now)) }
+pub(crate) fn refuse<T>(alloc: Global, code: Code, detail: &str) -> Result<T, Why>
+    ensures { IsReadOf (Err (code, detail.now)) result }
 {
-    Ok(Err((code, Text::from_str(alloc, detail)?)))
+    Err(Why::Fault(code, Text::from_str(alloc, detail)?))
 }
 
 /// What is read of bytes that aren't UTF-8: no item, and the one fault `NotUtf8`, of the whole
-/// file. An error only when out of memory.
+/// file. Fails only where memory runs out.
 pub(crate) fn unread<T>(alloc: Global) -> Result<Parsed<T>, AllocError>
     ensures items { IfOk result (λ parsed. parsed.items ≡ []) }
     ensures faults { IfOk result (λ parsed. parsed.faults ≡ not_utf8 ∷ []) }
@@ -163,14 +172,13 @@ pub(crate) fn decode_path(
     rules: Rules,
     spelling: &str,
     bad_escape: Code,
-) -> Result<Result<Text, Why>, AllocError>
-    ensures { IfOk result (λ path.
-        path ≡ decoded_or bad_escape (unescaped rules spelling.now) spelling.now) }
+) -> Result<Text, Why>
+    ensures { IsReadOf (decoded_or bad_escape (unescaped rules spelling.now) spelling.now) result }
 {
     match unescape_path(alloc, rules, spelling) {
-        Ok(path) => Ok(Ok(Text::from_string(path))),
+        Ok(path) => Ok(Text::from_string(path)),
         Err(PathFault::BadEscape) => refuse(alloc, bad_escape, spelling),
-        Err(PathFault::Memory) => Err(AllocError),
+        Err(PathFault::Memory) => Err(Why::Memory),
     }
 }
 
@@ -181,12 +189,11 @@ pub(crate) fn decode_known(
     rules: Rules,
     spelling: &str,
     bad_escape: Code,
-) -> Result<Result<Text, Why>, AllocError>
-    ensures { IfOk result (λ path.
-        path ≡ decoded_or bad_escape (unescaped rules spelling.now) spelling.now) }
+) -> Result<Text, Why>
+    ensures { IsReadOf (decoded_or bad_escape (unescaped rules spelling.now) spelling.now) result }
 {
     if is_written_as_itself(rules, spelling) {
-        Ok(Ok(known.text(alloc, spelling)?))
+        Ok(known.text(alloc, spelling)?)
     } else {
         decode_path(alloc, rules, spelling, bad_escape)
     }

@@ -1,5 +1,5 @@
 //! Manifests (RFC 8493, 2.1.3 and 2.2.1).
-ghost use Rattle.std.specs.Prelude.{◌≡◌, Ok, Err, IfOk, MatchOption, MatchResult};
+ghost use Rattle.std.specs.Prelude.{◌≡◌, Ok, Err, IfOk, MatchOption};
 ghost use Rattle.std.specs.BTreeSet.{contains};
 ghost use Rattle.std.specs.Char.{is_ascii_hexdigit};
 ghost use Rattle.std.specs.List.{list_all};
@@ -10,6 +10,7 @@ ghost use Rattle.bag_read.specs.LineFault.{AreFaults};
 ghost use Rattle.bag_read.specs.Manifest as spec;
 ghost use Rattle.bag_read.specs.ReadEntries as of_line;
 ghost use Rattle.bag_read.specs.Manifest.{IsEntry, IsManifestFault};
+ghost use Rattle.bag_read.specs.Reason.{IsReadOf};
 ghost use Rattle.bag_read.specs.Repeats.{IsReadOnce};
 
 use crate::line_fault::{
@@ -18,7 +19,9 @@ use crate::line_fault::{
 use crate::manifest_name::is_manifest_name;
 use crate::repeats::{are_different, repeated_lines};
 use crate::{Digest, Kind};
-use bag_text::{Alg, Code, Pool, Rules, Text, check_path, is_payload, split_at_blanks, text_of};
+use bag_text::{
+    Alg, Code, HasPath, Pool, Rules, Text, check_path, is_payload, split_at_blanks, text_of,
+};
 use std::alloc::{AllocError, Global};
 use std::collections::BTreeSet;
 
@@ -32,10 +35,18 @@ pub struct ManifestEntry {
     pub path: Text,
 }
 
+impl HasPath for ManifestEntry {
+    ghost path_of = { λ entry. entry.path };
+
+    fn path(&self) -> &Text {
+        &self.path
+    }
+}
+
 /// Reads the bytes of a manifest of an algorithm (RFC 8493, 2.1.3 and 2.2.1). Each line that isn't
 /// blank is an entry or has one fault; a path that is named again is a fault of the later line, and
 /// its first entry counts. Bytes that aren't UTF-8 name nothing and have the one fault `NotUtf8`.
-/// Takes time n log n in the number of lines. An error only when out of memory.
+/// Takes time n log n in the number of lines. Fails only where memory runs out.
 pub fn read_manifest(
     alloc: Global,
     rules: Rules,
@@ -121,13 +132,56 @@ struct ManifestForm<'a> {
 }
 
 impl<'a> ManifestForm<'a> {
+    /// Reads a line that isn't blank: its digest and its path, or the first reason why it doesn't
+    /// read.
+    fn line(&self, alloc: Global, line: &str) -> Result<(Digest, Text), Why>
+        ensures { IsReadOf (spec.manifest_line self.now.rules self.now.kind self.now.alg line.now)
+            result }
+    {
+        let (digits, rest) = split_at_blanks(line);
+        let digest = self.digest(alloc, digits, rest)?;
+        self.named(alloc, digest, without_marks(rest))
+    }
+
+    /// The digest, where it is hex of the algorithm's length and something follows it.
+    fn digest(&self, alloc: Global, digits: &str, rest: &str) -> Result<Digest, Why>
+        ensures { IsReadOf (spec.checked_digest self.now.alg digits.now rest.now) result }
+    {
+        if digits.is_empty() || !is_hex(digits.as_bytes()) || rest.is_empty() {
+            return refuse(alloc, Code::ManifestLine, "");
+        }
+        if digits.len() != self.alg.hex_len() {
+            return refuse(alloc, Code::DigestLength, digits);
+        }
+        Ok(Digest::of_digits(alloc, self.alg, digits.as_bytes())?)
+    }
+
+    /// A line of which the digest is good, by how its path is spelled.
+    fn named(&self, alloc: Global, digest: Digest, spelling: &str) -> Result<(Digest, Text), Why>
+        ensures { IsReadOf (spec.line_by_spelling self.now.rules self.now.kind digest spelling.now)
+            result }
+    {
+        let path = decode_known(
+            alloc,
+            self.known,
+            self.rules,
+            spelling,
+            Code::ManifestEscape,
+        )?;
+        match misplaced(self.kind, path.as_str()) {
+            None => Ok((digest, path)),
+            Some(code) => Err(Why::Fault(code, path)),
+        }
+    }
+
     /// The entry of a line that says this, where it is the first that names the path.
     fn entry(&self, line: u64, digest: Digest, path: Text) -> Result<ManifestEntry, Why>
-        ensures { result
-            ≡ of_line.entry_unless (contains nat_cmp self.now.repeated line) line (digest, path) }
+        ensures { IsReadOf
+            (of_line.entry_unless (contains nat_cmp self.now.repeated line) line (digest, path))
+            result }
     {
         if self.repeated.contains(&line) {
-            Err((Code::NamedAgain, path))
+            Err(Why::Fault(Code::NamedAgain, path))
         } else {
             Ok(ManifestEntry { line, digest, path })
         }
@@ -141,56 +195,10 @@ impl<'a> LineForm for ManifestForm<'a> {
         of_line.manifest_entry_in (λ n path. contains nat_cmp form.repeated n) form.rules form.kind
         form.alg line content };
 
-    fn read(
-        &self,
-        alloc: Global,
-        number: u64,
-        line: &str,
-    ) -> Result<Result<ManifestEntry, Why>, AllocError> {
-        match read_line(alloc, self.known, self.rules, self.kind, self.alg, line)? {
-            Ok((digest, path)) => Ok(self.entry(number, digest, path)),
-            Err(why) => Ok(Err(why)),
-        }
+    fn read(&self, alloc: Global, number: u64, line: &str) -> Result<ManifestEntry, Why> {
+        let (digest, path) = self.line(alloc, line)?;
+        self.entry(number, digest, path)
     }
-}
-
-/// Reads a line that isn't blank: its digest and its path, or the first reason why it doesn't read.
-fn read_line(
-    alloc: Global,
-    known: &Pool,
-    rules: Rules,
-    kind: Kind,
-    alg: Alg,
-    line: &str,
-) -> Result<Result<(Digest, Text), Why>, AllocError>
-    ensures { IfOk result (λ read. read ≡ spec.manifest_line rules kind alg line.now) }
-{
-    let (digest, rest) = split_at_blanks(line);
-    match check_digest(alloc, alg, digest, rest)? {
-        Ok(read) => read_path(alloc, known, rules, kind, read, without_marks(rest)),
-        Err((code, detail)) => refuse(alloc, code, detail),
-    }
-}
-
-/// The digest, where it is hex of the algorithm's length and something follows it; else the code
-/// and the detail of what is wrong.
-fn check_digest<'a>(
-    alloc: Global,
-    alg: Alg,
-    digest: &'a str,
-    rest: &str,
-) -> Result<Result<Digest, (Code, &'a str)>, AllocError>
-    ensures { IfOk result (λ checked. MatchResult checked
-        (λ read. spec.checked_digest alg digest.now rest.now ≡ Ok read)
-        (λ why. spec.checked_digest alg digest.now rest.now ≡ Err (why.0, why.1.now))) }
-{
-    if digest.is_empty() || !is_hex(digest.as_bytes()) || rest.is_empty() {
-        return Ok(Err((Code::ManifestLine, "")));
-    }
-    if digest.len() != alg.hex_len() {
-        return Ok(Err((Code::DigestLength, digest)));
-    }
-    Ok(Ok(Digest::of_digits(alloc, alg, digest.as_bytes())?))
 }
 
 /// Whether all bytes are hex digits. It takes no branch for a byte, as none could be predicted in a
@@ -217,33 +225,6 @@ fn without_marks(rest: &str) -> &str
     ensures { result.now ≡ spec.without_marks rest.now }
 {
     without_prefix(without_prefix(rest, "*"), "./")
-}
-
-/// A line of which the digest is good, by how its path is spelled.
-fn read_path(
-    alloc: Global,
-    known: &Pool,
-    rules: Rules,
-    kind: Kind,
-    digest: Digest,
-    spelling: &str,
-) -> Result<Result<(Digest, Text), Why>, AllocError>
-    ensures { IfOk result (λ read. read ≡ spec.line_by_spelling rules kind digest spelling.now) }
-{
-    match decode_known(alloc, known, rules, spelling, Code::ManifestEscape)? {
-        Ok(path) => Ok(name_path(kind, digest, path)),
-        Err(why) => Ok(Err(why)),
-    }
-}
-
-/// A line of which the digest is good, by the path that is written in it.
-fn name_path(kind: Kind, digest: Digest, path: Text) -> Result<(Digest, Text), Why>
-    ensures { result ≡ spec.line_by_path kind digest path }
-{
-    match misplaced(kind, path.as_str()) {
-        None => Ok((digest, path)),
-        Some(code) => Err((code, path)),
-    }
 }
 
 /// Why a manifest of this kind may not name this text, if it may not.

@@ -26,12 +26,7 @@ pub(crate) fn are_different(alloc: Global, entries: &[ManifestEntry]) -> Result<
 fn is_ascending(entries: &[ManifestEntry]) -> bool
     ensures { IsTrue result → PathsAscend entries.now }
 {
-    for k in 1..entries.len() {
-        if !entries[k - 1].path.cmp(&entries[k].path).is_lt() {
-            return false;
-        }
-    }
-    true
+    entries.is_sorted_by(|a, b| a.path.cmp(&b.path).is_lt())
 }
 
 /// Whether the paths have different fingerprints, so that none is named again. Sorted alone, these
@@ -69,12 +64,7 @@ fn fingerprint(path: &str) -> u64
 fn is_increasing(numbers: &[u64]) -> bool
     ensures { IsTrue result → IsStrictlyIncreasing numbers.now }
 {
-    for k in 1..numbers.len() {
-        if numbers[k - 1] >= numbers[k] {
-            return false;
-        }
-    }
-    true
+    numbers.is_sorted_by(|a, b| a < b)
 }
 
 /// The lines that name the path of an earlier entry. Takes time n log n in the number of entries.

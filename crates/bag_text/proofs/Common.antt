@@ -19,15 +19,20 @@ pub use Rattle.std.proofs.lemmas.List.Folds.{list_all-append, list_all_at, list_
 pub use Rattle.std.proofs.lemmas.List.Sums.{AllPass-from_list_all, common_prefix_len-le, list_all-from_AllPass}
 pub use Rattle.std.proofs.lemmas.List.Sums.{position_or_len_is, prefix_len-le-length, prefix_len_passes}
 pub use Rattle.std.proofs.lemmas.List.Sums.{prefix_len_stops, suffix_len-le-length}
+pub use Rattle.std.proofs.lemmas.List.Sorted.{IsPermutation-trans, answers_always, ranks_by}
 pub use Rattle.std.proofs.lemmas.Option.{none-some, same_Some}
 pub use Rattle.std.proofs.lemmas.Str.{IsCharBoundary-after_ascii, IsCharBoundary-before_ascii, IsCharBoundary-end}
 pub use Rattle.std.proofs.lemmas.Str.{IsCharBoundary-start, IsUtf8-from_is_utf8, NoCharPasses-byte, encode_ascii}
 pub use Rattle.std.proofs.lemmas.Str.{encodes-append, is_utf8-from_IsUtf8}
 pub use Rattle.std.proofs.lemmas.Str.Pattern.{split_parts}
 pub use Rattle.std.specs.Char.{to_ascii_lowercase}
-pub use Rattle.std.specs.List.{AllByRecursion, AllPass, common_prefix_len, enumerate_from, join_with_byte, list_all}
-pub use Rattle.std.specs.List.{list_any, onto_first, prefix_len, slice_index_or, starts_with, suffix_len}
+pub use Rattle.std.specs.Cmp.Lexicographic.{nat_list_cmp_total}
+pub use Rattle.std.specs.List.{AllByRecursion, AllPass, IsAllAdjacentAnswer, common_prefix_len, enumerate_from}
+pub use Rattle.std.specs.List.{join_with_byte, list_all, list_any, onto_first, prefix_len, slice_index_or}
+pub use Rattle.std.specs.List.{starts_with, suffix_len}
+pub use Rattle.std.specs.List.Sorted.{IsPermutation, IsSortedByKey}
 pub use Rattle.std.specs.Option.{option_map, option_to_list}
+pub use Rattle.std.specs.Ordering.{is_le, is_lt, ordering_reverse}
 pub use Rattle.std.specs.Prelude.{Contains, IfNone}
 pub use Rattle.std.specs.Str.{IsCharBoundary, IsUtf8, NoCharPasses, encode_utf8_all, is_utf8}
 pub use Rattle.memchr.specs.Find.{IsFirstByte, Nowhere, Passes, is_byte2}
@@ -49,6 +54,6 @@ pub use Rattle.bag_text.specs.Spells.{BeginsWithNone, SpellsLineEnds, SpellsStri
 pub use Rattle.bag_text.specs.Spelling.{both, escaped, itself, line_end}
 pub use Rattle.bag_text.specs.Escape.{escape, escape_one}
 pub use Rattle.bag_text.specs.Spelling.{percent, unescaped_strictly, with_line_ends}
-pub use Rattle.bag_text.specs.Text.{is_blank, without_leading_blanks, without_trailing_blanks}
-pub use Rattle.bag_text.specs.declared.path.Part.{Part}
-pub use Rattle.bag_text.specs.declared.path.Part.TheVariants.{Empty, Name}
+pub use Rattle.bag_text.specs.Text.{is_blank, text_cmp, without_leading_blanks, without_trailing_blanks}
+pub use Rattle.bag_text.specs.declared.path.PathPart.{PathPart}
+pub use Rattle.bag_text.specs.declared.path.PathPart.TheVariants.{Empty, Name}

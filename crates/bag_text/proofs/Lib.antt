@@ -9,6 +9,7 @@ pub mod LineLaws
 pub mod ListOf
 pub mod Numbered
 pub mod PathReading
+pub mod PathOrder
 pub mod Paths
 pub mod SortKeys
 pub mod SpellingLaws

@@ -2,7 +2,7 @@
 use Rattle.bag_text.proofs.Common.{Bool, IsTrue, List, [], ap, append-nil, append_assoc, arith, cond, drop, eqb, false}
 use Rattle.bag_text.proofs.Common.{get_or, length, not, refl, suc, true, ℕ, ◌&&◌, ◌++◌, ◌+◌, ◌<◌, ◌||◌, ◌∙◌, ◌∷◌, ◌≡◌}
 use Rattle.bag_text.proofs.Common.{drop_all, subst, sym, ◌-◌, ◌≤◌}
-use Rattle.bag_text.proofs.Common.{drop-cons, list_all, components, is_component, is_path, slash, Part, Empty, Name}
+use Rattle.bag_text.proofs.Common.{drop-cons, list_all, components, is_component, is_path, slash, PathPart, Empty, Name}
 use Rattle.bag_text.specs.PathPart.{part_of, with_byte, is_name}
 use Rattle.bag_text.proofs.Paths.{is_slash, some_component}
 
@@ -32,7 +32,7 @@ good_byte : (p : List ℕ) (c : ℕ) (t : List ℕ) → is_slash c ≡ false →
 good_byte p c t e = grind (arith, append_assoc)
 
 -- the components before place k are good, and the one that begins there is this so far
-abbrev pub IsReadTo : Part → List ℕ → ℕ → Type 0
+abbrev pub IsReadTo : PathPart → List ℕ → ℕ → Type 0
 IsReadTo part t k = (p : List ℕ) × (part ≡ part_of p) × (is_path t ≡ are_good p (drop k t))
 
 pub read_start : (t : List ℕ) → IsReadTo Empty t 0
@@ -41,11 +41,11 @@ read_start t = ([], refl, good_start t)
 at : (t : List ℕ) (k : ℕ) → k < length t → drop k t ≡ get_or t k 0 ∷ drop (k + 1) t
 at t k h = let step : suc k ≡ k + 1 = omega arith in drop-cons t k 0 h ∙ ap (λ j. get_or t k 0 ∷ drop j t) step
 
-pub read_byte : (part : Part) (t : List ℕ) (k : ℕ) → k < length t → is_slash (get_or t k 0) ≡ false → IsReadTo part t k
-    → IsReadTo (with_byte part (get_or t k 0)) t (k + 1)
+pub read_byte : (part : PathPart) (t : List ℕ) (k : ℕ) → k < length t → is_slash (get_or t k 0) ≡ false
+    → IsReadTo part t k → IsReadTo (with_byte part (get_or t k 0)) t (k + 1)
 read_byte part t k h other (p, is, good) = grind (arith, part_more, at, good_byte)
 
-pub read_slash : (part : Part) (t : List ℕ) (k : ℕ) → k < length t → is_slash (get_or t k 0) ≡ true
+pub read_slash : (part : PathPart) (t : List ℕ) (k : ℕ) → k < length t → is_slash (get_or t k 0) ≡ true
     → is_name part ≡ true → IsReadTo part t k → IsReadTo Empty t (k + 1)
 read_slash part t k h slash name read = grind (arith, at, append-nil, name_test, good_start)
 

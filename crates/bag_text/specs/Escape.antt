@@ -1,5 +1,6 @@
 -- How a path is written in manifests and fetch.txt (RFC 8493, 2.1.3).
 use Rattle.std.specs.Prelude.{ℕ, ◌==◌, List, [], ◌∷◌, if◌then◌else◌, codes, flat_map}
+use Rattle.bag_text.specs.Bytes.{Path}
 use Rattle.bag_text.specs.Lines.{line_feed, carriage_return}
 use Rattle.bag_text.specs.Spelling.{percent}
 
@@ -12,5 +13,5 @@ escape_one c =
     else c ∷ []
 
 -- a path as it is written
-abbrev pub escape : List ℕ → List ℕ
+abbrev pub escape : Path → List ℕ
 escape path = flat_map escape_one path

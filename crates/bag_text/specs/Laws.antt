@@ -2,6 +2,7 @@
 use Rattle.std.specs.Prelude.{ℕ, ◌≡◌, List, [], ◌∷◌, Some, Contains, ◌≢◌, ◌⊎◌, ◌↔◌, ◌++◌, All}
 use Rattle.std.specs.Prelude.{IsTrue}
 use Rattle.std.specs.List.Sorted.{IsStrictlySortedBy}
+use Rattle.bag_text.specs.Bytes.{Line, Path}
 use Rattle.bag_text.specs.declared.alg.Alg.{Alg}
 use Rattle.std.specs.List.{join_with_byte}
 use Rattle.bag_text.specs.Lines.{line_feed, carriage_return, lines}
@@ -15,11 +16,11 @@ use Rattle.bag_text.specs.Spelling.{unescaped}
 
 -- the law: a path that is written is read again
 abbrev pub EscapedIsReadAgain : Type 0
-EscapedIsReadAgain = (path : List ℕ) → unescaped V10 (escape path) ≡ Some path
+EscapedIsReadAgain = (path : Path) → unescaped V10 (escape path) ≡ Some path
 
 -- the law: each spelling spells one path, and what has a bad escape spells none
 abbrev pub UnescapedIsSpelled : Type 0
-UnescapedIsSpelled = (rules : Rules) (s path : List ℕ)
+UnescapedIsSpelled = (rules : Rules) (s : List ℕ) (path : Path)
     → Spells rules s path ↔ (unescaped rules s ≡ Some path)
 
 -- the law: a path is its components with a slash between each two
@@ -29,7 +30,7 @@ PathsAreJoinedComponents =
     ((parts : List (List ℕ)) × (parts ≢ []) × All (λ part. IsTrue (is_component part)) parts
     × All (λ part. All (λ c. c ≢ slash) part) parts × (t ≡ join_with_byte slash parts))
 
-abbrev pub HasNoEnd : List ℕ → Type 0
+abbrev pub HasNoEnd : Line → Type 0
 HasNoEnd line = All (λ c. (c ≢ line_feed) × (c ≢ carriage_return)) line
 
 -- LF, CR or CRLF; a CR alone only where no LF follows
@@ -41,7 +42,7 @@ IsEnd end rest =
 
 -- The text is these lines in order, each followed by an end. The last may lack its end where it
 -- isn't empty.
-abbrev pub Cut : List ℕ → List (List ℕ) → Type 0
+abbrev pub Cut : List ℕ → List Line → Type 0
 Cut t [] = t ≡ []
 Cut t (line ∷ rest) =
     HasNoEnd line
@@ -50,7 +51,7 @@ Cut t (line ∷ rest) =
 
 -- the law: a text is cut into its lines, and into no others
 abbrev pub LinesAreTheOnlyCut : Type 0
-LinesAreTheOnlyCut = (t : List ℕ) (all : List (List ℕ)) → Cut t all ↔ (all ≡ lines t)
+LinesAreTheOnlyCut = (t : List ℕ) (all : List Line) → Cut t all ↔ (all ≡ lines t)
 
 -- the law: ranks tell algorithms apart
 abbrev pub RanksTellApart : Type 0

@@ -1,4 +1,4 @@
--- What bytes begin alike with, and numbers that stand in the order of bytes.
+-- The common front of byte strings, and numbers that sort as sixteen bytes do.
 use Rattle.std.specs.Prelude.{ℕ, ◌≡◌, ◌≤◌, ◌==◌, ◌++◌, List, length, take, drop, replicate}
 use Rattle.std.specs.List.{common_prefix_len}
 use Rattle.std.specs.Int.{from_be_bytes, w128}

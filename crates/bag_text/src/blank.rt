@@ -3,7 +3,7 @@ ghost use Rattle.std.specs.Prelude.{◌≡◌, ◌≤◌, length, not};
 ghost use Rattle.std.specs.List.{prefix_len, suffix_len};
 ghost use Rattle.bag_text.specs.Text as spec;
 
-use super::line_cut::first_of_two;
+use crate::line_cut::first_of_two;
 
 const SPACE: u8 = b' ';
 

@@ -30,6 +30,7 @@ pub mod laws;
 mod line_cut;
 mod part;
 mod path;
+mod path_order;
 mod pool;
 mod read_text;
 mod rules;
@@ -49,8 +50,9 @@ pub use line_cut::Lines;
 pub use path::{
     PathFault, Unsafe, check_path, escape_path, is_payload, is_written_as_itself, unescape_path,
 };
+pub use path_order::{HasPath, sort_by_path};
 pub use pool::{Pool, Run};
 pub use read_text::{BYTE_ORDER_MARK, NotUtf8, lines, text_of};
 pub use rules::Rules;
-pub use sort_key::{common_front, key_after};
+pub use sort_key::common_front;
 pub use text::Text;

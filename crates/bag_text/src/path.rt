@@ -24,7 +24,7 @@ const DOT: u8 = b'.';
 
 /// What a component is as far as it is read.
 #[derive(Clone, Copy)]
-enum Part {
+enum PathPart {
     /// It has no byte.
     Empty,
     /// It is `.`.
@@ -35,15 +35,15 @@ enum Part {
     Name,
 }
 
-impl Part {
+impl PathPart {
     /// The component with one byte more.
-    fn with(self, byte: u8) -> Part
+    fn with(self, byte: u8) -> PathPart
         ensures { result ≡ with_byte self byte }
     {
         match self {
-            Part::Empty if byte == DOT => Part::Dot,
-            Part::Dot if byte == DOT => Part::TwoDots,
-            _ => Part::Name,
+            PathPart::Empty if byte == DOT => PathPart::Dot,
+            PathPart::Dot if byte == DOT => PathPart::TwoDots,
+            _ => PathPart::Name,
         }
     }
 
@@ -52,8 +52,8 @@ impl Part {
         ensures { result ≡ is_name self }
     {
         match self {
-            Part::Empty | Part::Dot | Part::TwoDots => false,
-            Part::Name => true,
+            PathPart::Empty | PathPart::Dot | PathPart::TwoDots => false,
+            PathPart::Name => true,
         }
     }
 }
@@ -67,12 +67,12 @@ pub fn check_path(text: &str) -> Result<(), Unsafe>
     if is_plain(text.as_bytes()) {
         return Ok(());
     }
-    let mut part = Part::Empty;
+    let mut part = PathPart::Empty;
     for byte in text.as_bytes() {
         if *byte != SLASH {
             part = part.with(*byte);
         } else if part.is_name() {
-            part = Part::Empty;
+            part = PathPart::Empty;
         } else {
             return Err(Unsafe);
         }

@@ -6,7 +6,7 @@ ghost use Rattle.bag_text.specs.Lines as cut;
 ghost use Rattle.bag_text.specs.NumberedRest.{numbered_rest};
 ghost use Rattle.bag_text.specs.Text as spec;
 
-use super::line_cut::Lines;
+use crate::Lines;
 use std::str;
 use thiserror::Error;
 

@@ -3,7 +3,7 @@ ghost use Rattle.std.specs.Prelude.{◌≡◌};
 ghost use Rattle.std.specs.Option.{option_copied};
 ghost use Rattle.bag_text.specs.Rules as spec;
 
-use super::blank::{begins_with_blank, trim};
+use crate::{begins_with_blank, trim};
 
 /// The rules by which the tag files of a bag are read.
 #[derive(Clone, Copy, Debug, PartialEq, Eq)]

@@ -18,7 +18,7 @@ pub fn common_front<'a>(first: &'a [u8], second: &[u8]) -> &'a [u8]
 
 /// The sixteen bytes after the first `skipped`, as a number that stands in the order of the bytes;
 /// after the last stand zeros.
-pub fn key_after(bytes: &[u8], skipped: usize) -> u128
+pub(crate) fn key_after(bytes: &[u8], skipped: usize) -> u128
     ensures { result ≡ spec.key_after bytes.now skipped }
 {
     let rest = bytes_after(bytes, skipped);
