@@ -10,7 +10,7 @@ pub use Rattle.std.proofs.lemmas.List.{get_or-map, length-map, length-take}
 pub use Rattle.std.proofs.lemmas.List.Elements.{All-cons, All-contains, All-nil, All-push, Contains-append_left}
 pub use Rattle.std.proofs.lemmas.List.Elements.{Contains-append_right, Contains-push, Contains-push_cases}
 pub use Rattle.std.proofs.lemmas.List.Sorted.{All-permutation, Contains-permutation, IsPermutation-map}
-pub use Rattle.std.proofs.lemmas.List.Sorted.{IsPermutation-sym, IsPermutation-trans, answers_always, ranks_by}
+pub use Rattle.std.proofs.lemmas.List.Sorted.{IsPermutation-sym, answers_always, ranks_by}
 pub use Rattle.std.proofs.lemmas.Result.{IfOk-weaker, err_from_is_err_and}
 pub use Rattle.std.specs.Cmp.Lexicographic.{nat_list_cmp_total, pointwise, same_text, texts_ties}
 pub use Rattle.std.specs.FinMap.{entries_sorted, find, get-entries, get-from_entries, get-remove, is_sorted}

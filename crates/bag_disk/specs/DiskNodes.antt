@@ -128,7 +128,7 @@ IsReachedTo nodes path end =
     (folder rest : List ℕ) → path ≡ under folder rest → length folder < end
     → node nodes folder ≡ Some Folder
 
--- and so does one that syncs, but that its device did something
+-- a call that syncs leaves all else, but that its device may have done something
 pub record OnlySyncs (old new : DiskState) : Type 0 where
   pub nodes : new.nodes ≡ old.nodes
   pub honest : new.honest ≡ old.honest
@@ -136,7 +136,7 @@ pub record OnlySyncs (old new : DiskState) : Type 0 where
   pub rest : new.rest ≡ old.rest
   pub noted : new.noted ≡ old.noted
 
--- a call that looks into a folder leaves all else
+-- a call that looks at what stands there leaves all else, and its device does nothing that it notes
 pub record OnlyLooks (old new : DiskState) : Type 0 where
   pub nodes : new.nodes ≡ old.nodes
   pub honest : new.honest ≡ old.honest

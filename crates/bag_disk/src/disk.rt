@@ -9,7 +9,8 @@ ghost use Rattle.bag_disk.specs.DiskNodes.{HasReadNext};
 ghost use Rattle.bag_disk.specs.Refusal.{CountsAs, at_known, of_name, refusal_at_path};
 ghost use Rattle.bag_disk.specs.declared.disk.DiskFault.TheVariants.{Name, NotFound};
 
-use bag_text::Text;
+use bag_text::{Text, said};
+use thiserror::Error;
 
 /// What stands at a path.
 #[derive(Clone, Copy, Debug, PartialEq, Eq)]
@@ -22,17 +23,22 @@ pub enum Entry {
 }
 
 /// Why a call of a disk is refused.
-#[derive(Clone, Copy, Debug, PartialEq, Eq)]
+#[derive(Clone, Copy, Debug, PartialEq, Eq, Error)]
 pub enum DiskFault {
     /// Nothing stands there.
+    #[error("{word}", word = said::NOT_FOUND)]
     NotFound,
     /// Something stands there already.
+    #[error("{word}", word = said::EXISTS)]
     Exists,
     /// A name isn't UTF-8, or is none for the system.
+    #[error("{word}", word = said::NAME)]
     Name,
     /// A growth was refused.
+    #[error("{word}", word = said::MEMORY)]
     Memory,
     /// The system refused.
+    #[error("{word}", word = said::DEVICE)]
     Device,
 }
 

@@ -79,7 +79,7 @@ impl Failures {
     }
 
     /// Counts one more.
-    fn note(&mut self)
+    pub fn note(&mut self)
         ensures { failures_counted self.new ≡ failures_counted self.old + 1 }
     {
         self.heard.note(&[0]);

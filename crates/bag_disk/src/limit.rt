@@ -6,7 +6,7 @@ ghost use Rattle.bag_disk.specs.FolderWalk.{AreFolders, AreThere, HasFound, IsTo
 ghost use Rattle.bag_disk.specs.Refusal.{IsDue, is_device};
 
 use crate::folder_walk::{FolderWalk, MOST_ENTRIES};
-use crate::path_order::{all_differ, sort_by_path};
+use crate::path_order::{all_differ, sort_in_place};
 use crate::refusal::Refusal;
 use bag_text::Text;
 use bag_tree::FileEntry;
@@ -66,6 +66,6 @@ fn are_too_many(found: Vec<FileEntry>) -> bool
         → most_entries < entry_count nodes }
 {
     let mut found = found;
-    sort_by_path(&mut found);
+    sort_in_place(&mut found);
     found.len() > MOST_ENTRIES as usize && all_differ(found.as_slice())
 }

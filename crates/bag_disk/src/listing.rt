@@ -12,9 +12,9 @@ ghost use Rattle.bag_disk.specs.Refusal.{IsCounted, IsDueInListing, IsNoFailure}
 use crate::Disk;
 use crate::folder_walk::FolderWalk;
 use crate::limit::no_room;
-use crate::path_order::{all_differ, sort_by_key, sort_by_path};
+use crate::path_order::all_differ;
 use crate::refusal::Refusal;
-use bag_text::{Items, Text};
+use bag_text::{Items, Text, sort_by_path};
 use bag_tree::Listing;
 use std::alloc::Global;
 
@@ -30,7 +30,7 @@ pub fn list_below<D: Disk>(disk: &mut D, alloc: Global) -> Result<Listing, Refus
     ensures failures { IsCounted result (D.state disk.old) (D.state disk.new) }
 {
     let found = walk(disk, alloc)?;
-    listing_of(found)
+    listing_of(alloc, found)
 }
 
 /// Finds all that stands below the base folder.
@@ -54,7 +54,7 @@ fn walk<D: Disk>(disk: &mut D, alloc: Global) -> Result<FolderWalk, Refusal>
 }
 
 /// The listing of what was found: its files sorted, where no two have the same path.
-fn listing_of(walk: FolderWalk) -> Result<Listing, Refusal>
+fn listing_of(alloc: Global, walk: FolderWalk) -> Result<Listing, Refusal>
     requires { ArePaths walk.files.items }
     ensures ordered { IfOk result (λ listing. IsOrdered listing.files) }
     ensures files { IfOk result (λ listing. IsPermutation walk.files.items listing.files) }
@@ -66,8 +66,7 @@ fn listing_of(walk: FolderWalk) -> Result<Listing, Refusal>
     let FolderWalk { files, listed, .. } = walk;
     let has_data = has_data(listed.as_slice());
     let mut files = files;
-    sort_by_key(&mut files)?;
-    sort_by_path(&mut files);
+    sort_by_path(alloc, &mut files)?;
     if !all_differ(files.as_slice()) {
         return Err(Refusal::Contradicts);
     }

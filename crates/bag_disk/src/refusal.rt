@@ -4,28 +4,39 @@ ghost use Rattle.bag_disk.specs.Refusal.{at_known, is_device, of_making, of_name
 ghost use Rattle.bag_disk.specs.declared.refusal.Refusal.TheVariants.{Memory};
 
 use crate::DiskFault;
+use bag_text::said;
 use std::alloc::{AllocError, AllocFailed};
+use thiserror::Error;
 
-/// Why the disk refused.
-#[derive(Clone, Copy)]
+/// Why the disk refused. Each is shown as the tree over it answers it.
+#[derive(Clone, Copy, Debug, PartialEq, Eq, Error)]
 pub enum Refusal {
     /// The system refused.
+    #[error("{word}", word = said::DEVICE)]
     Device,
     /// What stands there is neither a folder nor a regular file.
+    #[error("{word}", word = said::SPECIAL)]
     Special,
     /// A name isn't UTF-8.
+    #[error("{word}", word = said::NAME)]
     Name,
     /// There is no such file.
+    #[error("{word}", word = said::NOT_FOUND)]
     NotFound,
     /// There are more than 16,777,216 files and folders.
+    #[error("{word}", word = said::TOO_MANY)]
     TooMany,
     /// A growth was refused.
+    #[error("{word}", word = said::MEMORY)]
     Memory,
     /// What was to be made is there.
+    #[error("{word}", word = said::EXISTS)]
     Exists,
     /// The disk's answers contradict one another: what it named twice can't be listed.
+    #[error("{word}", word = said::DEVICE)]
     Contradicts,
     /// A folder in which no file was found stands where something is to be moved.
+    #[error("{word}", word = said::DEVICE)]
     InTheWay,
 }
 

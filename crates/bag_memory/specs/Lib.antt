@@ -8,4 +8,3 @@ pub mod MemoryView
 pub mod Refusals
 pub mod SkewTree
 pub mod Skewed
-pub mod TreeCalls

@@ -60,7 +60,7 @@ impl<T: Tree + Drop> Tree for FailTree<T> {
     ghost use Rattle.bag_tree.specs.declared.tree_fault.TreeFault.TheVariants.{NoneOpen};
     ghost use Rattle.bag_memory.specs.FailTree.{IfNotKth, RefusesKth};
     ghost use Rattle.bag_memory.specs.Refusals.{after_listing, after_opening, after_read};
-    ghost use Rattle.bag_memory.specs.TreeCalls.{ListCall, OpenCall, ReadCall};
+    ghost use Rattle.bag_tree.specs.TreeCalls.{ListCall, OpenCall, ReadCall};
 
     ghost state = { λ tree. failing (T.state tree.tree) tree.calls };
 

@@ -46,7 +46,7 @@ impl Tree for SkewTree {
     ghost use Rattle.bag_memory.specs.MemoryView.{memory_bag};
     ghost use Rattle.bag_memory.specs.MemoryLaw.{passing_is_bag};
     ghost use Rattle.bag_memory.specs.SkewTree.{memory_of, listing_of, own_of};
-    ghost use Rattle.bag_memory.specs.TreeCalls.{OpenCall, ReadCall};
+    ghost use Rattle.bag_tree.specs.TreeCalls.{OpenCall, ReadCall};
 
     ghost state = { λ tree. skewed (state_of_memory tree.tree) tree.own };
 

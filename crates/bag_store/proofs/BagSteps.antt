@@ -1,7 +1,8 @@
 -- What the changes of a disk make of the bag below its base folder.
 use Rattle.bag_store.proofs.Common.{arith, ◌≡◌, ℕ, Bool, true, false, cond, List, [], ◌∷◌, Any, IsTrue, length, Option}
 use Rattle.bag_store.proofs.Common.{Some, None, is_some, refl, ap, sym, ◌∙◌, false≢true, or_left, or_right, find}
-use Rattle.bag_store.proofs.Common.{get-entries, get-insert, get-remove, list_any, eq_by_cmp, nat_list_cmp_total, text_cmp}
+use Rattle.bag_store.proofs.Common.{get-entries, get-insert, get-remove, list_any, eq_by_cmp, nat_list_cmp_total}
+use Rattle.bag_store.proofs.Common.{text_cmp}
 use Rattle.bag_store.proofs.Common.{is_base_name, under, exact_texts, one_text, text_itself, Bag, file, files_of}
 use Rattle.bag_store.proofs.Common.{has_folder, has_within, is_taken, lacks_folder, lacks_source, make_folder, create}
 use Rattle.bag_store.proofs.Common.{MovesAll, is_within, moved, within_cases, itself_within, not_within, Nodes, Node}

@@ -1,7 +1,8 @@
 -- What a step makes of a tree of the files on a disk.
 use Rattle.bag_store.proofs.Common.{◌≡◌, ℕ, ◌+◌, ◌≤◌, true, IsTrue, List, take, Some, None, is_some, inl, inr, ◌⊎◌, ap}
-use Rattle.bag_store.proofs.Common.{sym, ◌∙◌, arith, false≢true, get-insert, get-remove, nat_list_cmp_total, is_base_name, Bag}
-use Rattle.bag_store.proofs.Common.{LeavesPartialFile, AppliesStep, IsUnchanged, Keeps, DiskState, Nodes, Node, node}
+use Rattle.bag_store.proofs.Common.{sym, ◌∙◌, arith, false≢true, get-insert, get-remove, nat_list_cmp_total}
+use Rattle.bag_store.proofs.Common.{is_base_name, Bag, LeavesPartialFile, AppliesStep, IsUnchanged, Keeps, DiskState}
+use Rattle.bag_store.proofs.Common.{Nodes, Node, node}
 use Rattle.bag_store.proofs.Common.{IsDisk, OnlyLooks, entry_count, is_plain, is_plain_node, ClosesOpenFile}
 use Rattle.bag_store.proofs.Common.{MakesFolderNode, moved, nodes_move, IsMovedIn, IsRenamed, bag_of, file_state_after}
 use Rattle.bag_store.proofs.Common.{count_after, Begins, Makes, failures_after, Refusal, all_plain, other_not_plain}
@@ -142,7 +143,8 @@ module _ (old new : DiskState) (own own_then given given_then : ℕ) (last last_
       → old.failures + own ≤ new.failures + own_then → given_then ≡ given → LeavesPut old new beside name bytes
       → LeavesReplaced beside name bytes (file_state_after old own given last)
       (file_state_after new own_then given_then last_then)
-  put_left beside name bytes disk disk_then is grows same (inl looks) = inl (step_same (looked old new looks) grows same)
+  put_left beside name bytes disk disk_then is grows same (inl looks) =
+      inl (step_same (looked old new looks) grows same)
   put_left beside name bytes disk disk_then is grows same (inr (inl begins)) =
       elim (step_begun beside bytes disk disk_then is grows same (inr begins))
       [ inl all ↦ inl all | inr part ↦ inr (inl part) ]

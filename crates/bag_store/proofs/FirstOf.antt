@@ -74,7 +74,8 @@ module _ (name bytes : List ℕ) (before now : List DeviceEvent) (some : AsksFir
     of_begun : (more rest : List DeviceEvent) → some.first ≡ file.syncs ++ more → begun ≡ more ++ rest
         → MayBegin name before now
     of_begun [] rest first_is begun_is =
-        nothing_yet (subst ChangeNothing (sym (first_is ∙ append-nil file.syncs)) (syncs_alone file.syncs file.are_syncs))
+        nothing_yet (subst ChangeNothing (sym (first_is ∙ append-nil file.syncs))
+        (syncs_alone file.syncs file.are_syncs))
     of_begun (e ∷ more) rest first_is begun_is =
         let same : e ≡ event.Create name = cc in
         let rest_is : map (event.Write name) file.pieces ≡ more ++ rest = cc in

@@ -1,9 +1,8 @@
 -- What putting a file in place of another, and removing one, makes of what stands on a disk.
 use Rattle.bag_store.proofs.Common.{◌≡◌, ℕ, true, false, IsTrue, List, None, length, take, take-length}
-use Rattle.bag_store.proofs.Common.{inl}
-use Rattle.bag_store.proofs.Common.{inr, ◌⊎◌, ap, sym, ◌∙◌, arith, get-insert, get-remove, same_map}
-use Rattle.bag_store.proofs.Common.{nat_list_cmp_total, exact_texts, one_text, text_itself, is_base_name, DiskState, Nodes}
-use Rattle.bag_store.proofs.Common.{Node, node, is_folder_node, File, OnlyLooks, ClosesOpenFile}
+use Rattle.bag_store.proofs.Common.{inl, inr, ◌⊎◌, ap, sym, ◌∙◌, arith, get-insert, get-remove, same_map}
+use Rattle.bag_store.proofs.Common.{nat_list_cmp_total, exact_texts, one_text, text_itself, is_base_name, DiskState}
+use Rattle.bag_store.proofs.Common.{Nodes, Node, node, is_folder_node, File, OnlyLooks, ClosesOpenFile}
 use Rattle.bag_store.proofs.Common.{HasFileNode, with_file_node, Begins, Makes}
 use Rattle.std.specs.FinMap as map
 use Rattle.std.proofs.Common.{◌≢◌, Ok, Err, OnErr, OnOk, subst}

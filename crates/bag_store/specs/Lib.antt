@@ -12,7 +12,6 @@ pub use Rattle.bag_memory.specs.MemoryView
 pub use Rattle.bag_memory.specs.Refusals
 pub use Rattle.bag_memory.specs.SkewTree
 pub use Rattle.bag_memory.specs.Skewed
-pub use Rattle.bag_memory.specs.TreeCalls
 pub use Rattle.bag_tree.specs.Asked
 pub use Rattle.bag_tree.specs.Bag
 pub use Rattle.bag_tree.specs.Changes
@@ -25,13 +24,17 @@ pub use Rattle.bag_tree.specs.Heard
 pub use Rattle.bag_tree.specs.Listing
 pub use Rattle.bag_tree.specs.Moved
 pub use Rattle.bag_tree.specs.Out
+pub use Rattle.bag_tree.specs.Pieces
 pub use Rattle.bag_tree.specs.Steps
+pub use Rattle.bag_tree.specs.Stop
 pub use Rattle.bag_tree.specs.Sums
 pub use Rattle.bag_tree.specs.Tree
+pub use Rattle.bag_tree.specs.TreeCalls
 pub use Rattle.bag_tree.specs.Whole
 pub mod Answered
 pub mod Asking
 pub mod Changing
+pub mod Due
 pub mod FileTree
 pub mod FileTreeCalls
 pub mod Standing

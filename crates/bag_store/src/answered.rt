@@ -1,40 +1,40 @@
 //! What a tree has answered.
-ghost use Rattle.std.specs.Prelude.{◌≡◌, ◌≤◌, ◌+◌, IsTrue};
+ghost use Rattle.std.specs.Prelude.{◌≡◌, ◌+◌, length};
 ghost use Rattle.bag_tree.specs.FileReads.{answer_of_read};
 ghost use Rattle.bag_tree.specs.declared.answer.Answer.TheVariants.{Given, Refused, Unlisted};
-ghost use Rattle.bag_store.specs.Answered.{fault_answering, count_after, failure_or_memory};
-ghost use Rattle.bag_store.specs.Answered.{one_more_failure, last_count};
+ghost use Rattle.bag_store.specs.Answered.{bytes_given, count_after, fault_answering, own_failures};
 
-use bag_disk::Refusal;
-use bag_tree::{Answer, TreeFault};
+use bag_disk::{Failures, Refusal};
+use bag_tree::{Answer, Heard, TreeFault};
 
-/// What a tree has answered: how often it failed over what its disk gave, how many bytes the open
-/// file gave, and the last answer. What the disk's device refused is counted by the disk.
-#[derive(Clone, Copy)]
+/// What a tree has answered, which only clauses read: how often it failed over what its disk gave,
+/// the bytes that the open file gave, and the last answer. What the disk's device refused is
+/// counted by the disk.
+#[derive(Drop)]
 pub(crate) struct Answered {
-    failures: u64,
-    given: u64,
+    failures: Failures,
+    given: Heard,
     last: Answer,
 }
 
 impl Answered {
     /// Nothing yet.
     pub(crate) fn nothing() -> Answered
-        ensures failures { result.failures ≡ 0 }
-        ensures given { result.given ≡ 0 }
+        ensures failures { own_failures result ≡ 0 }
+        ensures given { bytes_given result ≡ 0 }
         ensures last { result.last ≡ Given }
     {
         Answered {
-            failures: 0,
-            given: 0,
+            failures: Failures::none(),
+            given: Heard::new(),
             last: Answer::Given,
         }
     }
 
     /// Notes that a call gave what was asked for.
     pub(crate) fn give(&mut self)
-        ensures failures { self.new.failures ≡ self.old.failures }
-        ensures given { self.new.given ≡ self.old.given }
+        ensures failures { own_failures self.new ≡ own_failures self.old }
+        ensures given { bytes_given self.new ≡ bytes_given self.old }
         ensures last { self.new.last ≡ Given }
     {
         self.last = Answer::Given;
@@ -42,40 +42,30 @@ impl Answered {
 
     /// Notes that a file was opened.
     pub(crate) fn open(&mut self)
-        ensures failures { self.new.failures ≡ self.old.failures }
-        ensures given { self.new.given ≡ 0 }
+        ensures failures { own_failures self.new ≡ own_failures self.old }
+        ensures given { bytes_given self.new ≡ 0 }
         ensures last { self.new.last ≡ Given }
     {
-        self.given = 0;
+        self.given = Heard::new();
         self.last = Answer::Given;
     }
 
-    /// Whether `size` more bytes of the open file can be counted.
-    pub(crate) fn has_room(&self, size: usize) -> bool
-        ensures { IsTrue result → self.now.given + size ≤ last_count }
+    /// Notes that a read gave these bytes.
+    pub(crate) fn read(&mut self, bytes: &[u8])
+        ensures failures { own_failures self.new ≡ own_failures self.old }
+        ensures given { bytes_given self.new ≡ bytes_given self.old + length bytes.now }
+        ensures last { self.new.last ≡ answer_of_read (length bytes.now) }
     {
-        self.given <= u64::MAX - size as u64
-    }
-
-    /// Notes that a read gave `count` bytes.
-    pub(crate) fn read(&mut self, count: usize) -> usize
-        requires { self.old.given + count ≤ last_count }
-        ensures count { result ≡ count }
-        ensures failures { self.new.failures ≡ self.old.failures }
-        ensures given { self.new.given ≡ self.old.given + count }
-        ensures last { self.new.last ≡ answer_of_read count }
-    {
-        self.given += count as u64;
-        self.last = Answer::of_read(count);
-        count
+        self.given.note(bytes);
+        self.last = Answer::of_read(bytes.len());
     }
 
     /// Notes a refusal, and gives the fault that answers it. A failure that isn't the device's is
-    /// counted; where no more can be counted, the fault is `Memory`.
+    /// counted.
     pub(crate) fn refuse(&mut self, refusal: Refusal) -> TreeFault
-        ensures fault { result ≡ fault_answering refusal self.old.failures }
-        ensures failures { self.new.failures ≡ count_after refusal self.old.failures }
-        ensures given { self.new.given ≡ self.old.given }
+        ensures fault { result ≡ fault_answering refusal }
+        ensures failures { own_failures self.new ≡ count_after refusal (own_failures self.old) }
+        ensures given { bytes_given self.new ≡ bytes_given self.old }
         ensures last { self.new.last ≡ Refused result }
     {
         let fault = self.fault_of(refusal);
@@ -84,9 +74,9 @@ impl Answered {
 
     /// Notes that a listing was refused, and gives the fault that answers it, as `refuse` does.
     pub(crate) fn refuse_list(&mut self, refusal: Refusal) -> TreeFault
-        ensures fault { result ≡ fault_answering refusal self.old.failures }
-        ensures failures { self.new.failures ≡ count_after refusal self.old.failures }
-        ensures given { self.new.given ≡ self.old.given }
+        ensures fault { result ≡ fault_answering refusal }
+        ensures failures { own_failures self.new ≡ count_after refusal (own_failures self.old) }
+        ensures given { bytes_given self.new ≡ bytes_given self.old }
         ensures last { self.new.last ≡ Unlisted result }
     {
         let fault = self.fault_of(refusal);
@@ -97,8 +87,8 @@ impl Answered {
     /// Notes the fault that answers a call.
     pub(crate) fn note(&mut self, fault: TreeFault) -> TreeFault
         ensures fault { result ≡ fault }
-        ensures failures { self.new.failures ≡ self.old.failures }
-        ensures given { self.new.given ≡ self.old.given }
+        ensures failures { own_failures self.new ≡ own_failures self.old }
+        ensures given { bytes_given self.new ≡ bytes_given self.old }
         ensures last { self.new.last ≡ Refused fault }
     {
         self.last = Answer::Refused(fault);
@@ -107,9 +97,9 @@ impl Answered {
 
     /// The fault that answers a refusal, where a failure that isn't the device's is counted.
     fn fault_of(&mut self, refusal: Refusal) -> TreeFault
-        ensures fault { result ≡ fault_answering refusal self.old.failures }
-        ensures failures { self.new.failures ≡ count_after refusal self.old.failures }
-        ensures given { self.new.given ≡ self.old.given }
+        ensures fault { result ≡ fault_answering refusal }
+        ensures failures { own_failures self.new ≡ count_after refusal (own_failures self.old) }
+        ensures given { bytes_given self.new ≡ bytes_given self.old }
     {
         match refusal {
             Refusal::Device => TreeFault::Device,
@@ -125,14 +115,11 @@ impl Answered {
 
     /// Counts a failure.
     fn failure(&mut self, fault: TreeFault) -> TreeFault
-        ensures fault { result ≡ failure_or_memory fault self.old.failures }
-        ensures failures { self.new.failures ≡ one_more_failure self.old.failures }
-        ensures given { self.new.given ≡ self.old.given }
+        ensures fault { result ≡ fault }
+        ensures failures { own_failures self.new ≡ own_failures self.old + 1 }
+        ensures given { bytes_given self.new ≡ bytes_given self.old }
     {
-        if self.failures == u64::MAX {
-            return TreeFault::Memory;
-        }
-        self.failures += 1;
+        self.failures.note();
         fault
     }
 }

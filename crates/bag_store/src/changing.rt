@@ -9,6 +9,7 @@ ghost use Rattle.bag_disk.specs.WritableDisk.{ClosesOpenFile, MakesFolderNode, M
 ghost use Rattle.bag_store.specs.Asking.{AsksOfDisk, HasDurableFolders};
 ghost use Rattle.bag_store.specs.Changing.{HasFolderInTheWay, HasTarget, IsRenamed, IsMovedIn};
 ghost use Rattle.bag_store.specs.Changing.{IsNameTaken, LacksFolder, LacksSource};
+ghost use Rattle.bag_store.specs.Due.{IsDueInMaking};
 ghost use Rattle.bag_disk.specs.Refusal.{IsCounted, IsDueInMove, IsDueInStep, MeetsSpecial};
 ghost use Rattle.bag_disk.specs.Refusal.{failures_after, of_making};
 ghost use Rattle.bag_disk.specs.declared.disk.DiskFault.TheVariants.{Exists};
@@ -30,8 +31,7 @@ pub(crate) fn make_folder<D: WritableDisk>(disk: &mut D, name: &str) -> Result<(
     ensures asked { AsksOfDisk (AsksFolder name.now) AsksSyncs
         (D.state disk.old) (D.state disk.new) result }
     ensures refused { IfErr result
-        (IsDueInStep (MeetsSpecial (D.state disk.old)) ⊥
-        (IsNameTaken (D.state disk.old) name.now)) }
+        (IsDueInMaking (D.state disk.old) (IsNameTaken (D.state disk.old) name.now)) }
     ensures failures { IsCounted result (D.state disk.old) (D.state disk.new) }
 {
     sync_names(disk, BASE)?;
@@ -48,8 +48,8 @@ pub(crate) fn not_made<D: Disk>(disk: &mut D, name: &str, fault: DiskFault) -> R
     requires there { fault ≡ Exists → IsTrue (D.state disk.old).honest
         → Has (D.state disk.old).nodes name.now }
     ensures looks { OnlyLooks (D.state disk.old) (D.state disk.new) }
-    ensures due { IsDueInStep (MeetsSpecial (D.state disk.old)) ⊥
-        (IsNameTaken (D.state disk.old) name.now) result }
+    ensures due { IsDueInMaking (D.state disk.old) (IsNameTaken (D.state disk.old) name.now)
+        result }
     ensures failures { (before : ℕ)
         → (D.state disk.old).failures ≡ failures_after (of_making fault) before
         → (D.state disk.new).failures ≡ failures_after result before }

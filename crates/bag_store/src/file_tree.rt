@@ -16,8 +16,7 @@ use std::rt::Files;
 /// itself may be a symbolic link to a folder. `Device` is what the disk counted as its device's
 /// refusal in this call, but for two causes: where the disk's answers contradict one another, since
 /// it named a path twice, a listing is `Device`; and so is `move_in` to a path where a folder
-/// stands in which it found no file, since it might be replaced. A read after which the bytes of
-/// the open file might not be counted in 64 bits is `Memory`.
+/// stands in which it found no file, since it might be replaced.
 ///
 /// A step that changes it is one call of the disk: a folder is made, or something is renamed, never
 /// copied. It looks first, and replaces nothing that stood there then. Before `make_folder` and
@@ -65,7 +64,7 @@ impl<D: Disk + Drop> Tree for FileTree<D> {
     ghost use Rattle.std.specs.Prelude.{◌<◌, IfErr, length};
     ghost use Rattle.bag_disk.specs.BagBelow.{bag_of_disk};
     ghost use Rattle.bag_disk.specs.FolderWalk.{Contradiction};
-    ghost use Rattle.bag_memory.specs.TreeCalls.{ListCall, OpenCall, ReadCall};
+    ghost use Rattle.bag_tree.specs.TreeCalls.{ListCall, OpenCall, ReadCall};
     ghost use Rattle.bag_store.specs.FileTreeCalls.{ReportsDisk, disk_of, state_of};
 
     ghost state = { state_of D.state };
@@ -110,11 +109,11 @@ impl<D: Disk + Drop> Tree for FileTree<D> {
         if !self.disk.is_open() {
             return Err(self.answered.note(TreeFault::NoneOpen));
         }
-        if !self.answered.has_room(buffer.len()) {
-            return Err(self.answered.note(TreeFault::Memory));
-        }
         match self.disk.read(buffer) {
-            Ok(count) => Ok(self.answered.read(count)),
+            Ok(count) => {
+                self.answered.read(&buffer[..count]);
+                Ok(count)
+            }
             Err(fault) => Err(self.answered.refuse(Refusal::at_known(fault))),
         }
     }

@@ -3,9 +3,10 @@ ghost use Rattle.std.specs.Prelude.{◌≢◌, ◌⊎◌, IfErr, IsTrue, OnErr, 
 ghost use Rattle.bag_text.specs.Path.{is_base_name};
 ghost use Rattle.bag_tree.specs.FileChanges.{AsksFirstOf, AsksPut, AsksRemove};
 ghost use Rattle.bag_disk.specs.DiskNodes.{OnlyLooks};
-ghost use Rattle.bag_disk.specs.Refusal.{IsCounted, IsDueInStep, MeetsSpecial};
+ghost use Rattle.bag_disk.specs.Refusal.{IsCounted};
 ghost use Rattle.bag_store.specs.Asking.{AsksOfDisk};
 ghost use Rattle.bag_store.specs.Changing.{IsPlaceTaken, LacksFileThere};
+ghost use Rattle.bag_store.specs.Due.{IsDueInMaking, IsDueInRemoving};
 ghost use Rattle.bag_store.specs.Writing.{LeavesPut, Puts, RemovesIt};
 
 use crate::standing::{check_is_file, check_no_folder};
@@ -32,7 +33,7 @@ pub(crate) fn replace<D: ReplaceDisk>(
         (AsksFirstOf (AsksPut beside.now name.now bytes.now))
         (D.state disk.old) (D.state disk.new) result }
     ensures refused { IfErr result
-        (IsDueInStep (MeetsSpecial (D.state disk.old)) ⊥
+        (IsDueInMaking (D.state disk.old)
         (IsPlaceTaken (D.state disk.old) beside.now name.now)) }
     ensures failures { IsCounted result (D.state disk.old) (D.state disk.new) }
 {
@@ -53,8 +54,7 @@ pub(crate) fn remove<D: ReplaceDisk>(disk: &mut D, name: &str) -> Result<(), Ref
     ensures asked { AsksOfDisk (AsksRemove name.now) (AsksFirstOf (AsksRemove name.now))
         (D.state disk.old) (D.state disk.new) result }
     ensures refused { IfErr result
-        (IsDueInStep (MeetsSpecial (D.state disk.old))
-        (LacksFileThere (D.state disk.old) name.now) ⊥) }
+        (IsDueInRemoving (D.state disk.old) (LacksFileThere (D.state disk.old) name.now)) }
     ensures failures { IsCounted result (D.state disk.old) (D.state disk.new) }
 {
     check_is_file(disk, name)?;

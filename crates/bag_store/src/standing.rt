@@ -8,7 +8,9 @@ ghost use Rattle.bag_disk.specs.DiskNodes.{HasSpecial, IsReachedByFolders, OnlyL
 ghost use Rattle.bag_disk.specs.WritableDisk.{HasFileNode};
 ghost use Rattle.bag_store.specs.Changing.{IsNameTaken, LacksFileThere};
 ghost use Rattle.bag_disk.specs.DiskBag.{bag_of};
-ghost use Rattle.bag_disk.specs.Refusal.{IsCounted, IsDue, IsDueInStep, MeetsSpecial};
+ghost use Rattle.bag_disk.specs.Refusal.{IsCounted};
+ghost use Rattle.bag_store.specs.Due.{IsDueInFinding, IsDueInLook, IsDueInMaking};
+ghost use Rattle.bag_store.specs.Due.{IsDueInRemoving};
 ghost use Rattle.bag_store.specs.Standing.{IsStanding};
 
 use bag_disk::{Disk, DiskFault, Entry, Refusal};
@@ -28,9 +30,9 @@ pub(crate) fn standing_at<D: Disk>(disk: &mut D, path: &str) -> Result<Option<St
         IsTrue (D.state disk.old).honest → IsReachedByFolders (D.state disk.old).nodes path.now
         → IsStanding (D.state disk.old).nodes path.now standing) }
     ensures refused { IfErr result
-        (IsDue (IsTrue (D.state disk.old).honest
+        (IsDueInLook (IsTrue (D.state disk.old).honest
         → IsReachedByFolders (D.state disk.old).nodes path.now
-        → HasSpecial (D.state disk.old).nodes) ⊥ ⊥ ⊥) }
+        → HasSpecial (D.state disk.old).nodes)) }
     ensures failures { IsCounted result (D.state disk.old) (D.state disk.new) }
 {
     match disk.entry_at(path) {
@@ -52,8 +54,7 @@ pub(crate) fn check_free<D: Disk>(disk: &mut D, name: &str) -> Result<(), Refusa
     ensures free { OnOk result
         (IsTrue (D.state disk.old).honest → node (D.state disk.old).nodes name.now ≡ None) }
     ensures refused { IfErr result
-        (IsDueInStep (MeetsSpecial (D.state disk.old)) ⊥
-        (IsNameTaken (D.state disk.old) name.now)) }
+        (IsDueInMaking (D.state disk.old) (IsNameTaken (D.state disk.old) name.now)) }
     ensures failures { IsCounted result (D.state disk.old) (D.state disk.new) }
 {
     match standing_at(disk, name)? {
@@ -67,9 +68,10 @@ pub(crate) fn check_taken<D: Disk>(disk: &mut D, name: &str) -> Result<(), Refus
     requires { IsTrue (is_base_name name.now) }
     ensures looks { OnlyLooks (D.state disk.old) (D.state disk.new) }
     ensures taken { OnOk result (IsNameTaken (D.state disk.old) name.now) }
-    ensures refused { IfErr result (IsDue (MeetsSpecial (D.state disk.old)) ⊥
+    ensures refused { IfErr result
+        (IsDueInFinding (D.state disk.old)
         (IsTrue (D.state disk.old).honest
-        → is_taken (bag_of (D.state disk.old).nodes) name.now ≡ false) ⊥) }
+        → is_taken (bag_of (D.state disk.old).nodes) name.now ≡ false)) }
     ensures failures { IsCounted result (D.state disk.old) (D.state disk.new) }
 {
     match standing_at(disk, name)? {
@@ -86,7 +88,7 @@ pub(crate) fn check_no_folder<D: Disk>(disk: &mut D, name: &str) -> Result<(), R
         (IsTrue (D.state disk.old).honest
         → is_folder_node (node (D.state disk.old).nodes name.now) ≡ false) }
     ensures refused { IfErr result
-        (IsDueInStep (MeetsSpecial (D.state disk.old)) ⊥
+        (IsDueInMaking (D.state disk.old)
         (IsTrue (D.state disk.old).honest
         → has_folder (bag_of (D.state disk.old).nodes) name.now ≡ true)) }
     ensures failures { IsCounted result (D.state disk.old) (D.state disk.new) }
@@ -104,8 +106,7 @@ pub(crate) fn check_is_file<D: Disk>(disk: &mut D, name: &str) -> Result<(), Ref
     ensures file { OnOk result
         (IsTrue (D.state disk.old).honest → HasFileNode (D.state disk.old).nodes name.now) }
     ensures refused { IfErr result
-        (IsDueInStep (MeetsSpecial (D.state disk.old))
-        (LacksFileThere (D.state disk.old) name.now) ⊥) }
+        (IsDueInRemoving (D.state disk.old) (LacksFileThere (D.state disk.old) name.now)) }
     ensures failures { IsCounted result (D.state disk.old) (D.state disk.new) }
 {
     match standing_at(disk, name)? {

@@ -3,10 +3,11 @@ ghost use Rattle.std.specs.Prelude.{◌≡◌, IfErr, IsTrue, List, OnErr, OnOk,
 ghost use Rattle.bag_tree.specs.Asked.{AsksSyncs};
 ghost use Rattle.bag_tree.specs.declared.event.DeviceEvent.TheVariants.{Sync, SyncFolder};
 ghost use Rattle.bag_disk.specs.DiskNodes.{OnlyLooks, OnlySyncs};
-ghost use Rattle.bag_disk.specs.Refusal.{IsCounted, IsDueInStep};
+ghost use Rattle.bag_disk.specs.Refusal.{IsCounted};
 ghost use Rattle.bag_disk.specs.WritableDisk.{ClosesOpenFile, Notes};
 ghost use Rattle.bag_store.specs.Asking.{AsksAnsweredSyncs, AsksOfDisk, HasDurableFolders};
 ghost use Rattle.bag_store.specs.Asking.{SyncsBoth};
+ghost use Rattle.bag_store.specs.Due.{IsDueToDevice};
 
 use bag_disk::{Refusal, WritableDisk};
 
@@ -20,7 +21,7 @@ pub(crate) fn sync_names<D: WritableDisk>(disk: &mut D, folder: &str) -> Result<
     ensures same_file { D.written disk.new ≡ D.written disk.old }
     ensures noted { IsTrue (D.state disk.old).noted
         → OnOk result (Notes (SyncFolder folder.now) (D.state disk.old) (D.state disk.new)) }
-    ensures refused { IfErr result (IsDueInStep ⊥ ⊥ ⊥) }
+    ensures refused { IfErr result IsDueToDevice }
     ensures failures { IsCounted result (D.state disk.old) (D.state disk.new) }
 {
     disk.sync_folder(folder).map_err(Refusal::at_known)
@@ -35,7 +36,7 @@ pub(crate) fn sync_file<D: WritableDisk>(disk: &mut D) -> Result<(), Refusal>
     ensures noted { IsTrue (D.state disk.old).noted
         → OnOk result ((path : List ℕ) → D.written disk.old ≡ Some path
         → Notes (Sync path) (D.state disk.old) (D.state disk.new)) }
-    ensures refused { IfErr result (IsDueInStep ⊥ ⊥ ⊥) }
+    ensures refused { IfErr result IsDueToDevice }
     ensures failures { IsCounted result (D.state disk.old) (D.state disk.new) }
 {
     disk.sync().map_err(Refusal::at_known)
@@ -46,7 +47,7 @@ pub(crate) fn sync_with_base<D: WritableDisk>(disk: &mut D, folder: &str) -> Res
     ensures syncs { OnlySyncs (D.state disk.old) (D.state disk.new) }
     ensures asked { AsksOfDisk (SyncsBoth folder.now) AsksSyncs
         (D.state disk.old) (D.state disk.new) result }
-    ensures refused { IfErr result (IsDueInStep ⊥ ⊥ ⊥) }
+    ensures refused { IfErr result IsDueToDevice }
     ensures failures { IsCounted result (D.state disk.old) (D.state disk.new) }
 {
     sync_names(disk, folder)?;
@@ -64,7 +65,7 @@ pub(crate) fn sync_folder_names<D: WritableDisk>(
     ensures asked { AsksOfDisk AsksAnsweredSyncs AsksSyncs
         (D.state disk.old) (D.state disk.new) result }
     ensures durable { OnOk result (HasDurableFolders (D.state disk.new)) }
-    ensures refused { IfErr result (IsDueInStep ⊥ ⊥ ⊥) }
+    ensures refused { IfErr result IsDueToDevice }
     ensures failures { IsCounted result (D.state disk.old) (D.state disk.new) }
 {
     if is_synced {

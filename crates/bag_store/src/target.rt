@@ -1,10 +1,9 @@
 //! Folders that stand where something is to be moved.
-ghost use Rattle.std.specs.Prelude.{◌≡◌, ◌↔◌, Any, IsTrue, true};
+ghost use Rattle.std.specs.Prelude.{◌≡◌, ◌↔◌, Any, IsTrue};
 ghost use Rattle.bag_tree.specs.Moved as moving;
-ghost use Rattle.bag_tree.specs.Steps as step;
 ghost use Rattle.bag_disk.specs.DiskNodes.{OnlyLooks};
-ghost use Rattle.bag_disk.specs.DiskBag.{bag_of};
-ghost use Rattle.bag_disk.specs.Refusal.{IsDueInMove, failures_after};
+ghost use Rattle.bag_disk.specs.Refusal.{failures_after};
+ghost use Rattle.bag_store.specs.Due.{IsDueToFolder};
 
 use bag_disk::{Disk, Refusal, list_below};
 use bag_tree::{FileEntry, rest_within};
@@ -14,8 +13,7 @@ use std::alloc::Global;
 /// might be replaced. The files below the base folder are listed for that.
 pub(crate) fn folder_in_the_way<D: Disk>(disk: &mut D, alloc: Global, folder: &str) -> Refusal
     ensures looks { OnlyLooks (D.state disk.old) (D.state disk.new) }
-    ensures refused { IsDueInMove ⊥ ⊥ (IsTrue (D.state disk.old).honest
-        → step.has_within (bag_of (D.state disk.old).nodes) folder.now ≡ true) (Unit {0}) result }
+    ensures refused { IsDueToFolder (D.state disk.old) folder.now result }
     ensures failures { (D.state disk.new).failures
         ≡ failures_after result (D.state disk.old).failures }
 {

@@ -6,7 +6,8 @@ ghost use Rattle.bag_tree.specs.FileChanges.{AsksFirstOf};
 ghost use Rattle.bag_store.specs.Asking.{FillsFile, FillsPart, AsksOfDisk, HasFilled, WritesPieces};
 ghost use Rattle.bag_disk.specs.DiskNodes.{OnlyLooks};
 ghost use Rattle.bag_store.specs.Changing.{IsNameTaken};
-ghost use Rattle.bag_disk.specs.Refusal.{IsCounted, IsDueInStep, MeetsSpecial};
+ghost use Rattle.bag_disk.specs.Refusal.{IsCounted};
+ghost use Rattle.bag_store.specs.Due.{IsDueInMaking, IsDueToDevice};
 ghost use Rattle.bag_store.specs.Writing.{Begins, HasWritten, HasWrittenSome, Makes};
 
 use crate::changing::not_made;
@@ -22,8 +23,7 @@ pub(crate) fn create<D: WritableDisk>(disk: &mut D, name: &str, bytes: &[u8]) ->
     ensures asked { AsksOfDisk (AsksFile name.now bytes.now)
         (AsksFirstOf (AsksFile name.now bytes.now)) (D.state disk.old) (D.state disk.new) result }
     ensures refused { IfErr result
-        (IsDueInStep (MeetsSpecial (D.state disk.old)) ⊥
-        (IsNameTaken (D.state disk.old) name.now)) }
+        (IsDueInMaking (D.state disk.old) (IsNameTaken (D.state disk.old) name.now)) }
     ensures failures { IsCounted result (D.state disk.old) (D.state disk.new) }
 {
     match disk.create(name) {
@@ -42,7 +42,7 @@ fn fill<D: WritableDisk>(disk: &mut D, bytes: &[u8]) -> Result<(), Refusal>
     ensures asked { HasFilled
         (λ path. FillsFile path bytes.now) (λ path. FillsPart path bytes.now)
         (D.written disk.old) (D.state disk.old) (D.state disk.new) result }
-    ensures refused { IfErr result (IsDueInStep ⊥ ⊥ ⊥) }
+    ensures refused { IfErr result IsDueToDevice }
     ensures failures { IsCounted result (D.state disk.old) (D.state disk.new) }
 {
     write_all(disk, bytes)?;
@@ -61,7 +61,7 @@ fn write_all<D: WritableDisk>(disk: &mut D, bytes: &[u8]) -> Result<(), Refusal>
     ensures asked { HasFilled
         (λ path. WritesPieces path bytes.now) (λ path. FillsPart path bytes.now)
         (D.written disk.old) (D.state disk.old) (D.state disk.new) result }
-    ensures refused { IfErr result (IsDueInStep ⊥ ⊥ ⊥) }
+    ensures refused { IfErr result IsDueToDevice }
     ensures failures { IsCounted result (D.state disk.old) (D.state disk.new) }
 {
     let mut done = 0;

@@ -1,8 +1,10 @@
 -- Paths are distinct just where they ascend once they are sorted.
-use Rattle.bag_tags.proofs.Common.{Bool, List, [], arith, bytes_eq, false, get_or, length, subst, sym, ℕ, ◌+◌, ◌<◌, ◌∙◌}
+use Rattle.bag_tags.proofs.Common.{Bool, List, [], arith, bytes_eq, false, get_or, length, refl, subst, sym, true, ℕ}
+use Rattle.bag_tags.proofs.Common.{◌+◌, ◌<◌, ◌∙◌}
 use Rattle.bag_tags.proofs.Common.{◌∷◌, ◌≡◌, get_or-map, length-map, IsDistinct-IsPermutation, IsDistinct-from_apart}
 use Rattle.bag_tags.proofs.Common.{IsDistinct-from_sorted, apart_from_distinct, sorted_from_all_adjacent, Bor}
-use Rattle.bag_tags.proofs.Common.{IsDistinct, ◌↔◌, Less, text_cmp, TextsAscend, lent_texts}
+use Rattle.bag_tags.proofs.Common.{IsDistinct, IsTrue, ◌↔◌, Less, text_cmp, TextsAscend, lent_texts}
+use Rattle.std.specs.List.{IsAllAdjacentAnswer}
 use Rattle.std.specs.Cmp.Lexicographic.{nat_list_cmp_total, texts_ties}
 use Rattle.std.specs.List.Sorted.{IsPermutation, IsSortedBy}
 use Rattle.std.specs.declared.cmp.Ordering.{Ordering}
@@ -15,6 +17,20 @@ Lent = Bor (List ℕ)
 
 abbrev pub lent_lt : Lent → Lent → Bool
 lent_lt x y = is_lt (text_cmp x.now y.now)
+
+less : (o : Ordering) → true ≡ is_lt o → o ≡ Less
+less Less e = refl
+less _ e = cc
+
+-- a test of each pair of neighbours tells whether texts ascend
+pub ascend_by_neighbours : (lent : List Lent) (r : Bool) → IsAllAdjacentAnswer (λ x y b. b ≡ lent_lt x y) lent r
+    → IsTrue r ↔ TextsAscend lent
+ascend_by_neighbours lent true h = (
+  λ _ k d within. less (text_cmp (get_or lent k d).now (get_or lent (k + 1) d).now) (h k d within),
+  λ _. refl,
+)
+ascend_by_neighbours [] false h = absurd (omega (arith, h.1))
+ascend_by_neighbours (x ∷ xs) false h = (λ t. cc, λ up. let none = rw (up h.0 x h.1) at (h.2 x) in cc)
 
 reversed_ties : (o p : Ordering) → o ≡ ordering_reverse p → is_eq o ≡ is_eq p
 reversed_ties o p e = grind arith

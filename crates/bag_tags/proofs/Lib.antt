@@ -9,6 +9,8 @@ pub mod InfoReadAgain
 pub mod LongInfo
 pub mod ManifestLines
 pub mod ManifestReadAgain
+pub mod OxumReads
 pub mod ReadInfo
+pub mod SummedTexts
 pub mod TrimmedTexts
 pub mod WrittenLines

@@ -8,7 +8,9 @@ use Rattle.bag_tags.proofs.Common.{Kind, LineFault, IsLine, lines_of_file, IsTex
 use Rattle.bag_tags.proofs.Common.{NamesEachOnce, NewEntry, entry_line, is_bad_entry, manifest_text, paths}
 use Rattle.bag_tags.proofs.Common.{ManifestIsReadAgain, StandsOn}
 use Rattle.bag_text.proofs.ListOf.{contains_cases, contains_nothing}
+use Rattle.bag_read.proofs.ManifestCodes.{unread_line}
 use Rattle.bag_read.proofs.Reason.{never_ok, ok_same}
+use Rattle.bag_read.specs.Manifest.{HasUnreadLine}
 use Rattle.bag_read.specs.declared.manifest.ManifestEntry.{ManifestEntry}
 use Rattle.bag_tags.proofs.ManifestLines.{reads, written}
 use Rattle.bag_tags.proofs.WrittenLines.{IsWritten, at_place, file_lines, is_text, line_of_item, item_on_line}
@@ -93,6 +95,13 @@ module _ (kind : Kind) (alg : Alg) where
     lines_are : lines_of_file bytes ≡ here
     lines_are = file_lines entry_line entries (written_each entries all)
 
+    no_unread : (code : Code) (f : LineFault) → HasUnreadLine code V10 kind alg bytes f → ⊥
+    no_unread code f w =
+        let (x, stands, same) =
+        line_of_item entry_line entries f.line w.0 (subst (λ ls. IsLine ls f.line w.0) lines_are w.1) in
+        never_ok x (code, f.detail)
+        (sym (reads_at f.line x stands).1 ∙ sym (ap (manifest_line V10 kind alg) same) ∙ w.2.1)
+
     no_fault : (code : Code) (f : LineFault) → ManifestFault code V10 kind alg bytes f → ⊥
     no_fault NotUtf8 f w =
         let clash : true ≡ false = sym (is_text entry_line entries (written_each entries all)) ∙ w.2 in cc
@@ -100,11 +109,7 @@ module _ (kind : Kind) (alg : Alg) where
         let stands = same_entry f.line line digest f.detail (subst (λ ls. IsLine ls f.line line) lines_are is) read in
         first_named f.line (digest, f.detail) stands
         (subst (λ ls. Contains (named_before V10 kind alg ls f.line) f.detail) lines_are again)
-    no_fault code f w =
-        let (x, stands, same) =
-        line_of_item entry_line entries f.line w.0 (subst (λ ls. IsLine ls f.line w.0) lines_are w.1) in
-        never_ok x (code, f.detail)
-        (sym (reads_at f.line x stands).1 ∙ sym (ap (manifest_line V10 kind alg) same) ∙ w.2.1)
+    no_fault code f w = no_unread code f (unread_line V10 kind alg bytes code f (λ same. cc) (λ same. cc) w)
 
 pub manifest_again : ManifestIsReadAgain
 manifest_again kind alg entries texts can =

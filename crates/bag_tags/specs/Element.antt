@@ -1,6 +1,7 @@
 -- The elements that are written to bag-info.txt (RFC 8493, 2.2.2).
 use Rattle.std.specs.Prelude.{ℕ, ◌||◌, Bool, not, List, [], ◌∷◌, ◌++◌, bytes_eq, codes, flat_map}
 use Rattle.std.specs.List.{list_any}
+use Rattle.bag_text.specs.Bytes.{Content}
 use Rattle.bag_text.specs.Text.{trim, has_mark}
 use Rattle.bag_text.specs.Lines.{line_feed}
 use Rattle.bag_text.specs.LineEnd.{is_line_end}
@@ -15,7 +16,7 @@ abbrev pub info_line : NewElement → List ℕ
 info_line element = element.0 ++ codes ": " ++ element.1
 
 -- a line for each element, in their order
-abbrev pub info_text : List NewElement → List ℕ
+abbrev pub info_text : List NewElement → Content
 info_text elements = flat_map (λ element. info_line element ++ line_feed ∷ []) elements
 
 -- a text that begins or ends with a blank: trimming changes it

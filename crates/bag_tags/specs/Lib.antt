@@ -5,4 +5,5 @@ pub mod Entry
 pub mod Line
 pub mod OnLines
 pub mod ReadAgain
+pub mod Summed
 pub mod Writable

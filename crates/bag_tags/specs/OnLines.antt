@@ -2,6 +2,7 @@
 use Rattle.std.specs.Prelude.{ℕ, ◌==◌, ◌||◌, Bool, List, [], ◌∷◌, ◌++◌, bytes_eq, codes, drop}
 use Rattle.std.specs.Prelude.{flat_map, if◌then◌else◌}
 use Rattle.std.specs.List.{list_any, slice_split}
+use Rattle.bag_text.specs.Bytes.{Content}
 use Rattle.bag_text.specs.Lines.{line_feed}
 use Rattle.bag_text.specs.Text.{tab}
 use Rattle.bag_tags.specs.Element.{NewElement, is_bad_label, is_bad_value}
@@ -15,7 +16,7 @@ abbrev pub on_lines : List ℕ → List ℕ
 on_lines value = flat_map (λ c. if c == line_feed then line_feed ∷ tab ∷ [] else c ∷ []) value
 
 -- the text of elements, of which the value of each may go on over several lines
-abbrev pub text_on_lines : List NewElement → List ℕ
+abbrev pub text_on_lines : List NewElement → Content
 text_on_lines elements =
     flat_map (λ element. element.0 ++ codes ": " ++ on_lines element.1 ++ line_feed ∷ []) elements
 

@@ -4,6 +4,7 @@ use Rattle.std.specs.Prelude.{length, bytes_eq, map, slice_get}
 use Rattle.std.specs.Char.{is_ascii_hexdigit, is_ascii_uppercase}
 use Rattle.std.specs.List.{list_all, list_any, IsDistinct}
 use Rattle.std.specs.Str.{byte}
+use Rattle.bag_text.specs.Bytes.{Path}
 use Rattle.bag_text.specs.Alg.{hex_len}
 use Rattle.bag_text.specs.Path.{is_path, is_payload_path}
 use Rattle.bag_text.specs.Text.{is_blank}
@@ -13,7 +14,7 @@ use Rattle.bag_read.specs.declared.kind.Kind.{Kind}
 use Rattle.bag_read.specs.declared.kind.Kind.TheVariants.{Payload, Tag}
 use Rattle.bag_tags.specs.Entry.{NewEntry}
 
-abbrev pub paths : List NewEntry → List (List ℕ)
+abbrev pub paths : List NewEntry → List Path
 paths entries = map (λ entry. entry.1) entries
 
 -- no path stands twice

@@ -7,8 +7,8 @@ use std::alloc::Global;
 
 const DECLARATION: &str = "BagIt-Version: 1.0\nTag-File-Character-Encoding: UTF-8\n";
 
-/// The bytes of `bagit.txt`: version 1.0 and UTF-8 (RFC 8493, 2.1.1). An error only when out of
-/// memory.
+/// The bytes of `bagit.txt`: version 1.0 and UTF-8 (RFC 8493, 2.1.1). Fails only where
+/// memory runs out.
 pub fn write_declaration(alloc: Global) -> Result<Vec<u8>, WriteFault>
     ensures text { IfOk result (λ bytes. bytes.items ≡ declaration_text) }
     ensures never_bad { IsErrOf result WriteFault.BadValue → ⊥ }

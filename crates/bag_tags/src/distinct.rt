@@ -34,10 +34,5 @@ fn paths(alloc: Global, entries: &[(Text, Text)]) -> Result<Vec<&str>, AllocErro
 fn is_ascending(texts: &[&str]) -> bool
     ensures { IsTrue result ↔ TextsAscend texts.now }
 {
-    for k in 1..texts.len() {
-        if !texts[k - 1].cmp(texts[k]).is_lt() {
-            return false;
-        }
-    }
-    true
+    texts.is_sorted_by(|a, b| a.cmp(b).is_lt())
 }

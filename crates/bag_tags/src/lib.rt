@@ -23,6 +23,7 @@ pub mod laws;
 mod line;
 mod long_info;
 mod manifest;
+mod summed;
 
 pub use bag_read::{
     Declaration, Digest, Element, FetchEntry, Kind, LineFault, ManifestEntry, Oxum, Parsed,
@@ -35,3 +36,4 @@ pub use fault::WriteFault;
 pub use info::write_info;
 pub use long_info::{is_bad_long_element, write_long_info};
 pub use manifest::{push_entry, write_manifest};
+pub use summed::{SummedFile, manifests_of, sum_texts};

@@ -1,9 +1,10 @@
 -- What changes of files ask, one after another, and what a power cut leaves of them.
 use Rattle.bag_tree.proofs.Common.{arith, ◌≡◌, ◌++◌, ◌∷◌, ◌+◌, ◌-◌, ◌<◌, ℕ, zero, suc, List, [], IsTrue, refl, ap, sym}
-use Rattle.bag_tree.proofs.Common.{◌∙◌, add-one, subst, append-nil, append_assoc, get_or, length, take, is_base_name}
+use Rattle.bag_tree.proofs.Common.{◌∙◌, subst, append-nil, append_assoc, get_or, length, take, is_base_name}
 use Rattle.std.proofs.lemmas.List.Sums.{fold_more}
 use Rattle.std.proofs.lemmas.Option.{get_or_from_slice_get, slice_get_within}
 use Rattle.std.specs.Prelude.{Err, IfErr, Ok, OnOk, Result}
+use Rattle.bag_tree.proofs.OneMore.{take_one_more}
 use Rattle.bag_tree.proofs.FileChanges.{cuts_leave_first_changes, changes_are_durable}
 use Rattle.bag_tree.proofs.Runs.{left_between}
 use Rattle.bag_tree.specs.Asked.{Adds}
@@ -111,17 +112,6 @@ all_and_one beside (c ∷ changes) change before es now (first, later, is, asked
       (subst (λ (xs : List DeviceEvent). ChangeAsks beside change xs now)
       (ap (λ (xs : List DeviceEvent). before ++ xs) is ∙ sym (append_assoc before first later)) asks),
 )
-
--- the first items, and one more
-take_suc_more : {A : Type 0} (xs : List A) (i : ℕ) (x : A) → i < length xs → x ≡ get_or xs i x
-    → take (suc i) xs ≡ take i xs ++ x ∷ []
-take_suc_more [] i x lt e = absurd (omega arith)
-take_suc_more (y ∷ xs) zero x lt e = ap (λ z. z ∷ []) (sym e)
-take_suc_more (y ∷ xs) (suc i) x lt e = ap (λ ys. y ∷ ys) (take_suc_more xs i x (omega arith) e)
-
-take_one_more : {A : Type 0} (xs : List A) (i : ℕ) (x : A) → i < length xs → x ≡ get_or xs i x
-    → take (i + 1) xs ≡ take i xs ++ x ∷ []
-take_one_more xs i x lt e = rw add-one (take_suc_more xs i x lt e)
 
 module _ (beside : List ℕ) where
   adds_one : (changes : List FileChange) (change : FileChange) (old mid new : List DeviceEvent)

@@ -6,17 +6,22 @@ pub use Rattle.std.proofs.Common.{length-take-le, map, nat_eq, nat_lt, refl, rul
 pub use Rattle.std.proofs.Common.{take, take-append-drop, true, unwrap_or, vec_len, zero, ℕ, ⊎_elim, ◌&&◌, ◌*◌, ◌++◌}
 pub use Rattle.std.proofs.Common.{◌+◌, ◌-◌, ◌/◌, ◌<◌, ◌==◌, ◌^◌, ◌∙◌, ◌∷◌, ◌≡◌, ◌≢◌, ◌≤◌, ◌⊎◌}
 pub use Rattle.std.proofs.Math.Dec.{T}
+pub use Rattle.std.proofs.Math.Seq.{take-append-add}
 pub use Rattle.std.proofs.lemmas.Bool.{and_from, and_parts, cases_lt, eqb-true, false≢true, lt-ltb, ltb-true, or_right}
 pub use Rattle.std.proofs.lemmas.Bool.Decides.{Decides-eqb, nat_tests}
 pub use Rattle.std.proofs.lemmas.Grind.{common_steps}
+pub use Rattle.std.proofs.lemmas.List.{take_at}
 pub use Rattle.std.proofs.lemmas.List.Elements.{All-append, All-cons, All-from_get_or, All-head, All-nil, All-tail}
 pub use Rattle.std.proofs.lemmas.List.Elements.{All-take}
 pub use Rattle.std.proofs.lemmas.List.Prefix.{front_rest}
+pub use Rattle.std.proofs.lemmas.Result.{MatchResult-weaker, err_from_is_err_and}
 pub use Rattle.std.proofs.lemmas.Slice.Eq.{bytes_eq-Decides, starts_is}
+pub use Rattle.std.specs.Borrow.{Bor}
 pub use Rattle.std.specs.Cmp.Lexicographic.{nat_list_cmp_total}
 pub use Rattle.std.specs.FinMap.{IsAntisymmetric, entries_sorted, find, get-empty, get-entries, get-insert, is_sorted}
 pub use Rattle.std.specs.FinMap.{nat_cmp-IsAntisymmetric, slice_cmp-IsAntisymmetric}
 pub use Rattle.std.specs.FinMap.Entries.{below_all, same_entries}
+pub use Rattle.std.specs.Io.KnownBytes.{Appends}
 pub use Rattle.std.specs.List.{AllByRecursion, before_first, position_or_len, starts_with}
 pub use Rattle.std.specs.Option.{option_map}
 pub use Rattle.std.specs.Ordering.{eq_by_cmp, is_eq, is_lt, nat_cmp}
@@ -56,6 +61,8 @@ pub use Rattle.bag_tree.specs.DigestsOf.{AreSumsOf, hash_len, sum_at}
 pub use Rattle.bag_tree.specs.Digests.{HoldsWhere, IsHashWhere}
 pub use Rattle.bag_tree.specs.Moved.{ByPath, is_within, moved, renamed, with_renamed}
 pub use Rattle.bag_tree.specs.MovesAll.{MovedIsThere}
+pub use Rattle.bag_tree.specs.Out.{IsCut, OutState}
+pub use Rattle.bag_tree.specs.Pieces.{IsTaken, Writes, joined_pieces}
 pub use Rattle.bag_tree.specs.Tree.{HasOpen, Keeps, TreeState, refusal_of}
 pub use Rattle.bag_tree.specs.FileReads.{ReadsNext, answer_of_read}
 pub use Rattle.bag_tree.specs.Whole.{HasRead}

@@ -8,6 +8,7 @@ pub mod HashValues
 pub mod LeftOut
 pub mod ListingLaw
 pub mod Moving
+pub mod OneMore
 pub mod Parents
 pub mod PathEntries
 pub mod PutFile
@@ -18,3 +19,4 @@ pub mod Spelled
 pub mod SumsOf
 pub mod Updates
 pub mod Within
+pub mod Writing

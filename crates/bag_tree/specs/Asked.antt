@@ -2,6 +2,7 @@
 use Rattle.std.specs.Prelude.{ℕ, ◌≡◌, ◌++◌, ◌&&◌, ◌||◌, ◌⊎◌, not, Bool, true, false, List, [], ◌∷◌}
 use Rattle.std.specs.Prelude.{bytes_eq, map, ⊤}
 use Rattle.std.specs.List.{AllByRecursion}
+use Rattle.bag_text.specs.Bytes.{Content, Name, Path}
 use Rattle.bag_text.specs.Path.{is_base_name, under}
 use Rattle.bag_tree.specs.Cut.{is_synced}
 use Rattle.bag_tree.specs.declared.event.DeviceEvent.{DeviceEvent}
@@ -55,20 +56,20 @@ abbrev pub Asking : Type 1
 Asking = List DeviceEvent → List DeviceEvent → Type 0
 
 -- a folder of this name is made
-pub record AsksFolder (name : List ℕ) (before now : List DeviceEvent) : Type 0 where
+pub record AsksFolder (name : Name) (before now : List DeviceEvent) : Type 0 where
   pub syncs : List DeviceEvent
   pub are_syncs : AreSyncs syncs
   pub asked : now ≡ syncs ++ MakeFolder name ∷ []
 
 -- what has a name in the base folder is moved into a folder whose own name is durable by then
-pub record AsksMove (top folder : List ℕ) (before now : List DeviceEvent) : Type 0 where
+pub record AsksMove (top folder : Name) (before now : List DeviceEvent) : Type 0 where
   pub syncs : List DeviceEvent
   pub are_syncs : AreSyncs syncs
   pub durable : has_durable_folders (before ++ syncs) ≡ true
   pub asked : now ≡ syncs ++ Rename top (under folder top) ∷ []
 
 -- the folder is synced, and then the base folder
-abbrev pub is_synced_before_base : List ℕ → List DeviceEvent → Bool
+abbrev pub is_synced_before_base : Path → List DeviceEvent → Bool
 is_synced_before_base folder [] = false
 is_synced_before_base folder (SyncFolder synced ∷ later) =
     (bytes_eq synced folder && is_synced [] later) || is_synced_before_base folder later
@@ -76,7 +77,7 @@ is_synced_before_base folder (event ∷ later) = is_synced_before_base folder la
 
 -- A folder is renamed after it and the base folder were synced, in this order, so that moves into
 -- it are durable, and added there before they are removed here.
-pub record AsksRename (from to : List ℕ) (before now : List DeviceEvent) : Type 0 where
+pub record AsksRename (from to : Name) (before now : List DeviceEvent) : Type 0 where
   pub syncs : List DeviceEvent
   pub are_syncs : AreSyncs syncs
   pub durable : is_synced from syncs ≡ true
@@ -85,7 +86,7 @@ pub record AsksRename (from to : List ℕ) (before now : List DeviceEvent) : Typ
   pub asked : now ≡ syncs ++ Rename from to ∷ []
 
 -- a file is made and its bytes are written, and then its bytes are synced and its name
-pub record AsksFile (name bytes : List ℕ) (before now : List DeviceEvent) : Type 0 where
+pub record AsksFile (name : Name) (bytes : Content) (before now : List DeviceEvent) : Type 0 where
   pub syncs : List DeviceEvent
   pub are_syncs : AreSyncs syncs
   pub pieces : List (List ℕ)
@@ -93,7 +94,7 @@ pub record AsksFile (name bytes : List ℕ) (before now : List DeviceEvent) : Ty
   pub asked : now ≡ syncs ++ Create name ∷ map (Write name) pieces ++ Sync name ∷ SyncFolder [] ∷ []
 
 -- a file is made, and some bytes are written, and then it may be synced, or a sync be refused
-pub record AsksPart (name : List ℕ) (before now : List DeviceEvent) : Type 0 where
+pub record AsksPart (name : Name) (before now : List DeviceEvent) : Type 0 where
   pub syncs : List DeviceEvent
   pub are_syncs : AreSyncs syncs
   pub pieces : List (List ℕ)
@@ -106,7 +107,7 @@ abbrev pub AsksSyncs : Asking
 AsksSyncs before now = ChangeNothing now
 
 -- a file whose making is refused may be there in part
-abbrev pub MayBegin : List ℕ → Asking
+abbrev pub MayBegin : Name → Asking
 MayBegin name before now = ChangeNothing now ⊎ AsksPart name before now
 
 -- what was added to a trail

@@ -1,6 +1,7 @@
 -- What each call that changes a tree promises.
-use Rattle.std.specs.Prelude.{◌≡◌, ◌⊎◌, true, ℕ, IsTrue, List, Result, OnOk, OnErr, IfErr}
+use Rattle.std.specs.Prelude.{◌≡◌, ◌⊎◌, true, ℕ, IsTrue, Result, OnOk, OnErr, IfErr}
 use Rattle.std.specs.Prelude.{MatchResult}
+use Rattle.bag_text.specs.Bytes.{Content, Name}
 use Rattle.bag_text.specs.Path.{under}
 use Rattle.bag_tree.specs.Asked.{Adds, Asking, AsksFile, AsksFolder, AsksMove, AsksRename}
 use Rattle.bag_tree.specs.Asked.{AsksSyncs, MayBegin}
@@ -35,19 +36,19 @@ pub record Changes (step : Bag → Bag) (more : ℕ) (absent taken left : Type 0
       (λ _. Adds refused_asks old.trail new.trail)
 
 -- nothing was changed, or a file of some first bytes was made
-abbrev pub LeavesUnchangedOrPartial : List ℕ → List ℕ → TreeState → TreeState → Type 0
+abbrev pub LeavesUnchangedOrPartial : Name → Content → TreeState → TreeState → Type 0
 LeavesUnchangedOrPartial name bytes old new = IsUnchanged old new
     ⊎ LeavesPartialFile name bytes old new
 
 -- a call of `create`
-abbrev pub Creates : List ℕ → List ℕ → TreeState → TreeState → Result (Unit {0}) TreeFault → Type 0
+abbrev pub Creates : Name → Content → TreeState → TreeState → Result (Unit {0}) TreeFault → Type 0
 Creates name bytes old new =
     let taken = is_taken old.bag name ≡ true in
     let left = LeavesUnchangedOrPartial name bytes old new in
     Changes (create name bytes) 1 ⊥ taken left (AsksFile name bytes) (MayBegin name) old new
 
 -- a call of `rename_folder`
-abbrev pub RenamesFolder : List ℕ → List ℕ → TreeState → TreeState → Result (Unit {0}) TreeFault
+abbrev pub RenamesFolder : Name → Name → TreeState → TreeState → Result (Unit {0}) TreeFault
     → Type 0
 RenamesFolder from to old new =
     let absent = lacks_folder old.bag from ≡ true in
@@ -56,7 +57,7 @@ RenamesFolder from to old new =
     AsksSyncs old new
 
 -- a call of `move_in`
-abbrev pub MovesIn : List ℕ → List ℕ → TreeState → TreeState → Result (Unit {0}) TreeFault → Type 0
+abbrev pub MovesIn : Name → Name → TreeState → TreeState → Result (Unit {0}) TreeFault → Type 0
 MovesIn top folder old new =
     let absent = lacks_source old.bag top folder ≡ true in
     let taken = has_within old.bag (under folder top) ≡ true in
@@ -64,7 +65,7 @@ MovesIn top folder old new =
     AsksSyncs old new
 
 -- a call of `make_folder`
-abbrev pub MakesFolder : List ℕ → TreeState → TreeState → Result (Unit {0}) TreeFault → Type 0
+abbrev pub MakesFolder : Name → TreeState → TreeState → Result (Unit {0}) TreeFault → Type 0
 MakesFolder name old new =
     let taken = is_taken old.bag name ≡ true in
     Changes (make_folder name) 1 ⊥ taken (IsUnchanged old new) (AsksFolder name) AsksSyncs old new

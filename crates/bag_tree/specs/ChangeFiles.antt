@@ -1,5 +1,6 @@
 -- What changing files of the base folder, one after another, promises.
 use Rattle.std.specs.Prelude.{ℕ, ◌≡◌, ◌≢◌, ◌⊎◌, ◌≤◌, ◌-◌, true, IsTrue, List, Some, slice_get, take}
+use Rattle.bag_text.specs.Bytes.{Name}
 use Rattle.bag_text.specs.Path.{is_base_name}
 use Rattle.bag_tree.specs.Asked.{Adds}
 use Rattle.bag_tree.specs.Bag.{LacksFile, has_folder}
@@ -17,7 +18,7 @@ use Rattle.bag_tree.specs.declared.file_change.FileChange.TheVariants.{Put, Remo
 use Rattle.bag_tree.specs.declared.tree_fault.TreeFault.{TreeFault}
 
 -- its name is one of the base folder, and not the one beside
-abbrev pub IsOfFile : List ℕ → FileChange → Type 0
+abbrev pub IsOfFile : Name → FileChange → Type 0
 IsOfFile beside (Put name bytes) = IsTrue (is_base_name name) × (beside ≢ name)
 IsOfFile beside (Remove name) = IsTrue (is_base_name name)
 
@@ -28,12 +29,12 @@ more_by (Remove name) = 0
 
 -- A change that is refused left nothing, but that a file may be begun beside, or the change made:
 -- it isn't known whether that is durable.
-abbrev pub LeavesChange : List ℕ → FileChange → TreeState → TreeState → Type 0
+abbrev pub LeavesChange : Name → FileChange → TreeState → TreeState → Type 0
 LeavesChange beside (Put name bytes) old new = LeavesReplaced beside name bytes old new
 LeavesChange beside (Remove name) old new = IsUnchanged old new ⊎ AppliesStep (lose name) 0 old new
 
 -- a change may answer this refusal
-abbrev pub MayRefuseFileChange : List ℕ → FileChange → TreeState → TreeState → TreeFault → Type 0
+abbrev pub MayRefuseFileChange : Name → FileChange → TreeState → TreeState → TreeFault → Type 0
 MayRefuseFileChange beside (Put name bytes) old new =
     MayRefuseChange ⊥ ((is_taken old.bag beside ≡ true) ⊎ (has_folder old.bag name ≡ true)) old new
 MayRefuseFileChange beside (Remove name) old new =
@@ -41,7 +42,7 @@ MayRefuseFileChange beside (Remove name) old new =
 
 -- These changes were made. The bag of an honest tree is then the changes' bag, the device didn't
 -- fail, it was asked for what the changes ask, and no file was opened.
-pub record HasChanged (beside : List ℕ) (changes : List FileChange) (old new : TreeState) : Type 0
+pub record HasChanged (beside : Name) (changes : List FileChange) (old new : TreeState) : Type 0
   where
     pub bag : IsTrue old.honest → new.bag ≡ after_changes changes old.bag
     pub honest : new.honest ≡ old.honest
@@ -51,7 +52,7 @@ pub record HasChanged (beside : List ℕ) (changes : List FileChange) (old new :
     pub asked : IsTrue old.noted → Adds (ChangesAsk beside changes) old.trail new.trail
 
 -- All changes before this one were made, and this one was refused, as the tree answered.
-pub record HasStopped (beside : List ℕ) (changes : List FileChange) (old new : TreeState)
+pub record HasStopped (beside : Name) (changes : List FileChange) (old new : TreeState)
     (refusal : RefusedChange) : Type 0 where
   pub first : 1 ≤ refusal.place
   pub change : FileChange
@@ -65,13 +66,13 @@ pub record HasStopped (beside : List ℕ) (changes : List FileChange) (old new :
       → Adds (AsksFirstOf (ChangeAsks beside change)) before.trail new.trail
 
 -- a power cut at any moment of the changes leaves what the first of them made
-abbrev pub OutlastsChanges : List ℕ → List FileChange → TreeState → TreeState → Type 0
+abbrev pub OutlastsChanges : Name → List FileChange → TreeState → TreeState → Type 0
 OutlastsChanges beside changes old new =
     IsTrue old.noted → CanChangeAll beside changes old.bag
     → EachCut old.trail new.trail old.bag (IsAfterFirst beside changes old.bag)
 
 -- a power cut after the changes leaves what all of them made, and nothing else
-abbrev pub LastsChanged : List ℕ → List FileChange → TreeState → TreeState → Type 0
+abbrev pub LastsChanged : Name → List FileChange → TreeState → TreeState → Type 0
 LastsChanged beside changes old new =
     IsTrue old.noted → CanChangeAll beside changes old.bag
     → LeavesOnly old.trail new.trail old.bag (after_changes changes old.bag)

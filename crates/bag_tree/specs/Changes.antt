@@ -1,5 +1,6 @@
 -- What a change of a tree leaves, and how it is refused.
-use Rattle.std.specs.Prelude.{◌≡◌, ◌≤◌, ◌+◌, false, ℕ, IsTrue, List, None, take}
+use Rattle.std.specs.Prelude.{◌≡◌, ◌≤◌, ◌+◌, false, ℕ, IsTrue, None, take}
+use Rattle.bag_text.specs.Bytes.{Content, Name}
 use Rattle.bag_tree.specs.Bag.{Bag}
 use Rattle.bag_tree.specs.Tree.{TreeState, MayRefuse}
 use Rattle.bag_tree.specs.declared.tree_fault.TreeFault.{TreeFault}
@@ -35,7 +36,7 @@ pub record IsUnchanged (old new : TreeState) : Type 0 where
   pub given : new.given ≡ old.given
 
 -- a file of some first bytes was made where nothing had its name
-pub record LeavesPartialFile (name bytes : List ℕ) (old new : TreeState) : Type 0 where
+pub record LeavesPartialFile (name : Name) (bytes : Content) (old new : TreeState) : Type 0 where
   pub count : ℕ
   pub begun : AppliesStep (create name (take count bytes)) 1 old new
   pub free : IsTrue old.honest → is_taken old.bag name ≡ false

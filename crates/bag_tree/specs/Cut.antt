@@ -4,6 +4,7 @@ use Rattle.std.specs.Prelude.{List, [], ◌∷◌, Option, Some, None, bytes_eq,
 use Rattle.std.specs.List.{list_any, starts_with}
 use Rattle.std.specs.FinMap as fin
 use Rattle.std.specs.FinSet as set
+use Rattle.bag_text.specs.Bytes.{Content, Path}
 use Rattle.bag_text.specs.Path.{is_base_name, slash}
 use Rattle.bag_text.specs.Text.{text_cmp}
 use Rattle.bag_tree.specs.Bag.{Bag, file, files_of, has_file, has_folder}
@@ -16,25 +17,25 @@ use Rattle.bag_tree.specs.declared.event.DeviceEvent.TheVariants.{SyncRefused}
 
 -- the folder that holds a path's name: what stands before the path's last slash, or else the base
 -- folder, whose path is empty
-unfoldable pub folder_of : List ℕ → List ℕ
+unfoldable pub folder_of : Path → Path
 folder_of [] = []
 folder_of (c ∷ rest) = if list_any (λ d. d == slash) rest then c ∷ folder_of rest else []
 
 -- a file stands below this folder
-abbrev pub has_below : Bag → List ℕ → Bool
+abbrev pub has_below : Bag → Path → Bool
 has_below bag folder = list_any (λ e. starts_with nat_eq e.0 (folder ++ slash ∷ [])) (files_of bag)
 
 -- The folder is known to be there: it is the base folder, one that stands in it, or one with a file
 -- below it. Others may be there or not, since a bag doesn't have deeper folders without files.
-abbrev pub is_there : Bag → List ℕ → Bool
+abbrev pub is_there : Bag → Path → Bool
 is_there bag folder = bytes_eq folder [] || has_folder bag folder || has_below bag folder
 
 -- the files without one that stands at a path, and without those below it
-abbrev pub without : List ℕ → Files → Files
+abbrev pub without : Path → Files → Files
 without path files = fin.retain_keys files (λ p. not (is_within path p))
 
 -- the folders of the base folder, when what stood at one path has another: a folder, or a file
-abbrev pub with_renamed_folder : List ℕ → List ℕ → Bag → set.FinSet text_cmp
+abbrev pub with_renamed_folder : Path → Path → Bag → set.FinSet text_cmp
 with_renamed_folder from to bag =
     if is_base_name to
     then (if is_there bag from then set.insert bag.folders to else set.remove bag.folders to)
@@ -42,29 +43,29 @@ with_renamed_folder from to bag =
 
 -- The bag when what stood at one path, with all that is below it, stands at another. A name means
 -- one thing: what stood there before is lost.
-unfoldable pub rename : List ℕ → List ℕ → Bag → Bag
+unfoldable pub rename : Path → Path → Bag → Bag
 rename from to bag = record {
   files = moved from to (without to bag.files);
   folders = set.remove (with_renamed_folder from to bag) from;
 }
 
 -- the bag without what stood at a path and below it
-unfoldable pub lose : List ℕ → Bag → Bag
+unfoldable pub lose : Path → Bag → Bag
 lose from bag = record {
   files = without from bag.files;
   folders = set.remove bag.folders from;
 }
 
 -- the bag with a folder that is made; it has those in the base folder alone
-abbrev pub with_made_folder : List ℕ → Bag → Bag
+abbrev pub with_made_folder : Path → Bag → Bag
 with_made_folder name bag = if is_base_name name then make_folder name bag else bag
 
 -- the bag with these bytes in a file, where that is there
-abbrev pub hold : List ℕ → List ℕ → Bag → Bag
+abbrev pub hold : Path → Content → Bag → Bag
 hold name bytes bag = if has_file bag name then create name bytes bag else bag
 
 -- the bytes of a file after more were written at its end
-abbrev pub appended : Option (List ℕ) → List ℕ → List ℕ
+abbrev pub appended : Option Content → List ℕ → Content
 appended None bytes = bytes
 appended (Some content) bytes = content ++ bytes
 
@@ -81,12 +82,12 @@ done (SyncFolder folder) bag = bag
 done (SyncRefused path) bag = bag
 
 -- what has this name is at the path or above it; the base folder is below none
-abbrev pub is_on_way : List ℕ → List ℕ → Bool
+abbrev pub is_on_way : Path → Path → Bool
 is_on_way path name = not (bytes_eq path []) && is_within name path
 
 -- After the event the path may mean another file or folder: it, or one above it, was made, or was
 -- renamed, or is the new name of what was renamed, or was removed.
-abbrev pub is_anew : List ℕ → DeviceEvent → Bool
+abbrev pub is_anew : Path → DeviceEvent → Bool
 is_anew path (MakeFolder name) = is_on_way path name
 is_anew path (Rename from to) = is_on_way path from || is_on_way path to
 is_anew path (Create name) = is_on_way path name
@@ -100,7 +101,7 @@ is_anew path (SyncRefused refused) = false
 -- refused. That makes the names in it durable, and not its own. A device that refused a sync may
 -- have lost what it held, and say so once: a sync that it answers later makes durable what was done
 -- since.
-abbrev pub is_synced : List ℕ → List DeviceEvent → Bool
+abbrev pub is_synced : Path → List DeviceEvent → Bool
 is_synced folder [] = false
 is_synced folder (SyncFolder synced ∷ later) = bytes_eq synced folder || is_synced folder later
 is_synced folder (SyncRefused path ∷ later) = false
@@ -108,7 +109,7 @@ is_synced folder (event ∷ later) = not (is_anew folder event) && is_synced fol
 
 -- These events sync the file, before its path may mean another one, and before any sync is
 -- refused. That makes its bytes durable, and not its name.
-abbrev pub is_file_synced : List ℕ → List DeviceEvent → Bool
+abbrev pub is_file_synced : Path → List DeviceEvent → Bool
 is_file_synced name [] = false
 is_file_synced name (Sync synced ∷ later) = bytes_eq synced name || is_file_synced name later
 is_file_synced name (SyncRefused path ∷ later) = false

@@ -1,5 +1,6 @@
 -- The digest of bytes, in lower-case hex (RFC 8493, 2.4).
 use Rattle.std.specs.Prelude.{ℕ, List}
+use Rattle.bag_text.specs.Bytes.{Digest}
 use Rattle.hex.specs.Hex.{encode_lower}
 use Rattle.md5.specs.Md5.{md5}
 use Rattle.sha1.specs.Sha1.{sha1}
@@ -18,5 +19,5 @@ hash Sha384 bytes = sha384 bytes
 hash Sha512 bytes = sha512 bytes
 
 -- its value as manifests spell it
-abbrev pub digest : Alg → List ℕ → List ℕ
+abbrev pub digest : Alg → List ℕ → Digest
 digest alg bytes = encode_lower (hash alg bytes)

@@ -2,6 +2,7 @@
 use Rattle.std.specs.Prelude.{◌≡◌, ℕ, ◌≤◌, ◌↔◌, ◌⊎◌, zero, suc, List, [], ◌∷◌, ◌++◌, length, take}
 use Rattle.std.specs.Prelude.{drop, Option, Some}
 use Rattle.std.specs.Option.{option_map}
+use Rattle.bag_text.specs.Bytes.{Content, Path}
 use Rattle.bag_tree.specs.Bag.{Bag, file}
 use Rattle.bag_tree.specs.declared.listing.FileEntry.{FileEntry}
 use Rattle.bag_tree.specs.declared.answer.Answer.{Answer}
@@ -14,7 +15,7 @@ answer_of_read zero = AtEnd
 answer_of_read (suc n) = Given
 
 -- this file was opened, once at most, and no other
-abbrev pub OpensAtMost : TreeState → TreeState → List ℕ → Type 0
+abbrev pub OpensAtMost : TreeState → TreeState → Path → Type 0
 OpensAtMost old new path = (new.openings ≡ old.openings)
     ⊎ (new.openings ≡ old.openings ++ path ∷ [])
 
@@ -30,5 +31,5 @@ pub record ReadsNext (rest after : Option (List ℕ)) (n : ℕ) (buffer : List �
   pub some : (bytes : List ℕ) × (rest ≡ Some bytes)
 
 -- the file that was opened is one of the bag's, and all of it is left
-abbrev pub IsOpen : Option (List ℕ) → Option (List ℕ) → Type 0
+abbrev pub IsOpen : Option Content → Option (List ℕ) → Type 0
 IsOpen content rest = (bytes : List ℕ) × (content ≡ Some bytes) × (rest ≡ Some bytes)

@@ -1,5 +1,6 @@
 -- The digests of a listed file (RFC 8493, 2.4).
 use Rattle.std.specs.Prelude.{ℕ, ◌≡◌, ◌+◌, ◌<◌, List, All, IsTrue, Option, Some, length}
+use Rattle.bag_text.specs.Bytes.{Content, Digest}
 use Rattle.bag_text.specs.declared.alg.Alg.{Alg}
 use Rattle.bag_tree.specs.Bag.{file}
 use Rattle.bag_tree.specs.Tree.{TreeState}
@@ -12,8 +13,8 @@ use Rattle.bag_tree.specs.declared.digests.Digests.{Digests}
 -- these are the digests of as many bytes as were listed, which are the file's where the tree is
 -- honest
 pub record AreSumsOfFile (state : TreeState) (entry : FileEntry) (asked : List Alg)
-    (sums : List (Option (List ℕ))) : Type 0 where
-  pub content : List ℕ
+    (sums : List (Option Digest)) : Type 0 where
+  pub content : Content
   pub bytes : All (λ b. b < 256) content
   pub size : length content ≡ entry.size
   pub sums_of : AreSumsOf asked content sums

@@ -1,5 +1,6 @@
 -- What a power cut may leave where a sync is left out, whatever else is synced.
 use Rattle.std.specs.Prelude.{ℕ, ◌≡◌, ◌≢◌, ◌⊎◌, ◌++◌, false, IsTrue, Contains, List, [], ◌∷◌, map}
+use Rattle.bag_text.specs.Bytes.{Path}
 use Rattle.bag_text.specs.Path.{is_base_name, under}
 use Rattle.bag_tree.specs.Asked.{AreSyncs}
 use Rattle.bag_tree.specs.Bag.{Bag, HasFile, LacksFile, has_file}
@@ -18,7 +19,7 @@ AreSyncsWithout sync events = AreSyncs events × ¬ Contains events sync
 -- what is moved into a new folder may be lost, where the folder's own name isn't synced
 abbrev pub MovesMayLose : Type 0
 MovesMayLose =
-    (bag : Bag) (folder name : List ℕ) (first last : List DeviceEvent)
+    (bag : Bag) (folder name : Path) (first last : List DeviceEvent)
     → IsTrue (is_base_name folder) → IsTrue (is_base_name name) → is_there bag folder ≡ false
     → AreSyncsWithout (SyncFolder []) first → AreSyncsWithout (SyncFolder []) last
     → MayLeave (MakeFolder folder ∷ first ++ Rename name (under folder name) ∷ last)
@@ -27,7 +28,7 @@ MovesMayLose =
 -- a rename may be undone, where the folder that was left or the other one isn't synced
 abbrev pub RenamesMayBeUndone : Type 0
 RenamesMayBeUndone =
-    (bag : Bag) (from to : List ℕ) (syncs : List DeviceEvent) → AreSyncs syncs
+    (bag : Bag) (from to : Path) (syncs : List DeviceEvent) → AreSyncs syncs
     → ¬ (Contains syncs (SyncFolder (folder_of from)) × Contains syncs (SyncFolder (folder_of to)))
     → MayLeave (Rename from to ∷ syncs) bag bag
 
@@ -35,7 +36,7 @@ RenamesMayBeUndone =
 -- be moved into a folder isn't there, once the folder is given its name.
 abbrev pub RenamesMayLose : Type 0
 RenamesMayLose =
-    (bag : Bag) (folder name : List ℕ) (syncs : List DeviceEvent)
+    (bag : Bag) (folder name : Path) (syncs : List DeviceEvent)
     → IsTrue (is_base_name folder) → IsTrue (is_base_name name) → folder ≢ name → AreSyncs syncs
     → ¬ (Contains syncs (SyncFolder []) × Contains syncs (SyncFolder folder))
     → has_file bag folder ≡ false
@@ -45,14 +46,14 @@ RenamesMayLose =
 -- a file that was made may be missing, where its folder isn't synced, though its bytes are
 abbrev pub FilesMayBeMissing : Type 0
 FilesMayBeMissing =
-    (bag : Bag) (name : List ℕ) (pieces : List (List ℕ)) (syncs : List DeviceEvent)
+    (bag : Bag) (name : Path) (pieces : List (List ℕ)) (syncs : List DeviceEvent)
     → has_file bag name ≡ false → AreSyncsWithout (SyncFolder (folder_of name)) syncs
     → MayLeave (Create name ∷ map (Write name) pieces ++ syncs) bag bag
 
 -- a file may hold any bytes, where it isn't synced after a write
 abbrev pub BytesMayBeAny : Type 0
 BytesMayBeAny =
-    (bag : Bag) (name bytes found : List ℕ) (syncs : List DeviceEvent)
+    (bag : Bag) (name : Path) (bytes found : List ℕ) (syncs : List DeviceEvent)
     → HasFile bag name → AreSyncsWithout (Sync name) syncs
     → MayLeave (Write name bytes ∷ syncs) bag (create name found bag)
 
@@ -60,13 +61,14 @@ BytesMayBeAny =
 -- file.
 abbrev pub RefusedSyncsMayLose : Type 0
 RefusedSyncsMayLose =
-    (bag : Bag) (name bytes found path : List ℕ) (syncs : List DeviceEvent) → AreSyncs syncs
+    (bag : Bag) (name : Path) (bytes found : List ℕ) (path : Path) (syncs : List DeviceEvent)
+    → AreSyncs syncs
     → (HasFile bag name
     → MayLeave (Write name bytes ∷ SyncRefused path ∷ syncs) bag (create name found bag))
     × (has_file bag name ≡ false → MayLeave (Create name ∷ SyncRefused path ∷ syncs) bag bag)
 
 -- this event gives a path to another file or folder, or takes it from one
-abbrev pub GivesAnew : List ℕ → DeviceEvent → Type 0
+abbrev pub GivesAnew : Path → DeviceEvent → Type 0
 GivesAnew path event =
     (event ≡ MakeFolder path) ⊎ (event ≡ Create path) ⊎ (event ≡ Remove path)
     ⊎ ((other : List ℕ) × (event ≡ Rename path other))
@@ -76,14 +78,14 @@ GivesAnew path event =
 -- given anew: the older file may hold any bytes.
 abbrev pub SyncsAreOfTheNewFile : Type 0
 SyncsAreOfTheNewFile =
-    (bag : Bag) (name path bytes found : List ℕ) (event : DeviceEvent)
+    (bag : Bag) (name path : Path) (bytes found : List ℕ) (event : DeviceEvent)
     → HasFile bag name → name ≢ [] → IsTrue (is_within path name) → GivesAnew path event
     → MayLeave (Write name bytes ∷ event ∷ Sync name ∷ []) bag (create name found bag)
 
 -- and a sync of a folder no name: the file that was made in the older one may be missing
 abbrev pub SyncsAreOfTheNewFolder : Type 0
 SyncsAreOfTheNewFolder =
-    (bag : Bag) (folder name path : List ℕ) (event : DeviceEvent)
+    (bag : Bag) (folder name path : Path) (event : DeviceEvent)
     → folder ≢ [] → IsTrue (is_base_name name) → IsTrue (is_within path folder)
     → GivesAnew path event
     → MayLeave (Create (under folder name) ∷ event ∷ SyncFolder folder ∷ []) bag bag

@@ -18,8 +18,11 @@ pub mod Listing
 pub mod Moved
 pub mod MovesAll
 pub mod Out
+pub mod Pieces
 pub mod ReplaceCalls
 pub mod Steps
+pub mod Stop
 pub mod Sums
 pub mod Tree
+pub mod TreeCalls
 pub mod Whole

@@ -1,20 +1,21 @@
 -- Moving all that stands below a place.
 use Rattle.std.specs.Prelude.{ℕ, ◌≡◌, false, IsTrue, List, None}
 use Rattle.std.specs.FinMap as map
+use Rattle.bag_text.specs.Bytes.{Path}
 use Rattle.bag_text.specs.Path.{under}
 use Rattle.bag_tree.specs.Moved.{is_within, ByPath, moved}
 
 -- what stands neither at nor below one of two paths is as before
-abbrev pub KeepsOthers : {V : Type 0} → ByPath V → ByPath V → List ℕ → List ℕ → Type 0
+abbrev pub KeepsOthers : {V : Type 0} → ByPath V → ByPath V → Path → Path → Type 0
 KeepsOthers old new from to = (path : List ℕ) → is_within from path ≡ false
     → is_within to path ≡ false → map.get new path ≡ map.get old path
 
 -- What stood at `from` and below it stands at `to` and below it, nothing stands there any more, and
 -- all else stays.
-pub record MovesAll {V : Type 0} (old new : ByPath V) (from to : List ℕ) : Type 0 where
+pub record MovesAll {V : Type 0} (old new : ByPath V) (from to : Path) : Type 0 where
   pub arrived : map.get new to ≡ map.get old from
-  pub arrived_below : (rest : List ℕ) → map.get new (under to rest) ≡ map.get old (under from rest)
-  pub left : (path : List ℕ) → IsTrue (is_within from path) → is_within to path ≡ false
+  pub arrived_below : (rest : Path) → map.get new (under to rest) ≡ map.get old (under from rest)
+  pub left : (path : Path) → IsTrue (is_within from path) → is_within to path ≡ false
       → map.get new path ≡ None
   pub others : KeepsOthers old new from to
 

@@ -1,7 +1,8 @@
 -- What the calls of a tree answer, and what they change.
 use Rattle.std.specs.Prelude.{◌≡◌, ℕ, ◌<◌, ◌≤◌, ◌⊎◌, Bool, true, false, IsTrue, List, [], ◌∷◌, ◌++◌}
 use Rattle.std.specs.Prelude.{Option, None, Some, is_some, codes, ⊤}
-use Rattle.bag_tree.specs.Bag.{Bag}
+use Rattle.bag_text.specs.Bytes.{Path}
+use Rattle.bag_tree.specs.Bag.{Bag, file}
 use Rattle.bag_tree.specs.declared.tree_fault.TreeFault.{TreeFault}
 use Rattle.bag_tree.specs.declared.tree_fault.TreeFault.TheVariants.{Device, Special, Name}
 use Rattle.bag_tree.specs.declared.tree_fault.TreeFault.TheVariants.{NotFound, TooMany, Changed}
@@ -22,7 +23,7 @@ pub record TreeState : Type 0 where
   -- how often the device has failed
   pub failures : ℕ
   -- the paths for which `open_file` answered Ok
-  pub openings : List (List ℕ)
+  pub openings : List Path
   -- the rest of the open file
   pub rest : Option (List ℕ)
   -- how many bytes the reads of the open file have given
@@ -72,6 +73,15 @@ MayRefuse absent closed old new Exists = ⊥
 abbrev pub MayRefuseListing : TreeState → TreeState → TreeFault → Type 0
 MayRefuseListing old new = MayRefuse ⊥ ⊥ old new
 
+-- to open the file at a path may be refused so, where an honest tree answers NotFound only if it
+-- isn't there
+abbrev pub MayRefuseOpening : List ℕ → TreeState → TreeState → TreeFault → Type 0
+MayRefuseOpening path old new = MayRefuse (file old.bag path ≡ None) ⊥ old new
+
+-- to read the open file may be refused so, with NoneOpen only if none is
+abbrev pub MayRefuseRead : TreeState → TreeState → TreeFault → Type 0
+MayRefuseRead old new = MayRefuse ⊥ (old.rest ≡ None) old new
+
 -- a file is open
 abbrev pub HasOpen : TreeState → Type 0
 HasOpen state = is_some state.rest ≡ true
@@ -118,6 +128,6 @@ MayReportMemory old new = (refusal_of new.last ≡ Some Memory) ⊎ NothingFaile
 
 -- The file was refused when these had been opened: either its opening, and no file is open, or a
 -- read of it, and it is still open.
-abbrev pub IsRefusedAt : List (List ℕ) → List ℕ → TreeState → Type 0
+abbrev pub IsRefusedAt : List Path → Path → TreeState → Type 0
 IsRefusedAt opened path new = ((new.rest ≡ None) × (new.openings ≡ opened))
     ⊎ (HasOpen new × (new.openings ≡ opened ++ path ∷ []))

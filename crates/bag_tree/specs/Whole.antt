@@ -1,7 +1,8 @@
 -- When a whole file is refused.
 use Rattle.std.specs.Prelude.{◌≡◌, IsTrue, None, Some, Option, List, ℕ, ◌++◌}
+use Rattle.bag_text.specs.Bytes.{Content}
 use Rattle.bag_tree.specs.Bag.{file, HasFile}
-use Rattle.bag_tree.specs.Tree.{TreeState, MayRefuse, IsOtherSize, CameFromFile}
+use Rattle.bag_tree.specs.Tree.{TreeState, MayRefuseOpening, IsOtherSize, CameFromFile}
 use Rattle.bag_tree.specs.FileReads.{IsEntryOf}
 use Rattle.bag_tree.specs.declared.listing.FileEntry.{FileEntry}
 use Rattle.bag_tree.specs.declared.tree_fault.TreeFault.{TreeFault}
@@ -15,10 +16,10 @@ MayRefuseWhole old new entry Changed =
     IsOtherSize new entry.size
     × (IsTrue old.honest → HasFile old.bag entry.path × (IsEntryOf old.bag entry → ⊥))
 MayRefuseWhole old new entry fault =
-    MayRefuse (file old.bag entry.path ≡ None) ⊥ old new fault × CameFromFile new fault
+    MayRefuseOpening entry.path old new fault × CameFromFile new fault
 
 -- these bytes of the file were read, and the rest follows
-pub record HasRead (content : Option (List ℕ)) (bytes : List ℕ) (rest : Option (List ℕ)) : Type 0
+pub record HasRead (content : Option Content) (bytes : List ℕ) (rest : Option (List ℕ)) : Type 0
   where
     pub left : List ℕ
     pub is_open : rest ≡ Some left

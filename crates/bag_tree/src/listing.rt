@@ -1,5 +1,5 @@
 //! What a tree holds.
-use bag_text::{Items, Text};
+use bag_text::{HasPath, Items, Text};
 
 /// A file of a tree.
 #[derive(Debug, Drop)]
@@ -8,6 +8,14 @@ pub struct FileEntry {
     pub path: Text,
     /// The size in bytes.
     pub size: u64,
+}
+
+impl HasPath for FileEntry {
+    ghost path_of = { λ file. file.path };
+
+    fn path(&self) -> &Text {
+        &self.path
+    }
 }
 
 /// The files of a tree in the order of their paths, and whether its base folder has the folder

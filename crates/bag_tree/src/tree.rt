@@ -4,9 +4,9 @@ ghost use Rattle.std.specs.Prelude.{OnErr, MatchResult, length, ◌+◌};
 ghost use Rattle.bag_text.specs.Path.{is_path};
 ghost use Rattle.bag_tree.specs.Bag.{IsBag, file};
 ghost use Rattle.bag_tree.specs.Listing.{IsOrdered, IsListingOf};
-ghost use Rattle.bag_tree.specs.Tree.{TreeState, Keeps, MayRefuse, HasOpen};
+ghost use Rattle.bag_tree.specs.Tree.{TreeState, Keeps, HasOpen, MayRefuseListing};
 ghost use Rattle.bag_tree.specs.FileReads.{IsOpen, ReadsNext, answer_of_read};
-ghost use Rattle.bag_tree.specs.Tree.{MayRefuseListing};
+ghost use Rattle.bag_tree.specs.Tree.{MayRefuseOpening, MayRefuseRead};
 ghost use Rattle.bag_tree.specs.declared.answer.Answer.TheVariants.{Given, Refused, Unlisted};
 
 use crate::{Listing, TreeFault};
@@ -63,8 +63,7 @@ pub trait Tree {
         ensures closed { OnErr result ((state self.new).rest ≡ None) }
         ensures not_opened { OnErr result ((state self.new).openings ≡ (state self.old).openings) }
         ensures refused { IfErr result
-            (MayRefuse (file (state self.old).bag path.now ≡ None) ⊥ (state self.old)
-            (state self.new)) };
+            (MayRefuseOpening path.now (state self.old) (state self.new)) };
 
     /// Reads the next bytes of the open file into the buffer, and says how many; none at the file's
     /// end.
@@ -85,7 +84,7 @@ pub trait Tree {
             → ReadsNext (state self.old).rest (state self.new).rest n buffer.new) }
         ensures same { OnErr result ((state self.new).rest ≡ (state self.old).rest) }
         ensures refused { IfErr result
-            (MayRefuse ⊥ ((state self.old).rest ≡ None) (state self.old) (state self.new)) };
+            (MayRefuseRead (state self.old) (state self.new)) };
 
     /// The bag of a tree is a bag: its paths are paths, and the folders that they need are there.
     ghost is_bag: { (tree : Self) → IsBag (state tree).bag };

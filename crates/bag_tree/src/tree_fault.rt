@@ -1,6 +1,7 @@
 //! Why a tree refused a call.
 ghost use Rattle.std.specs.Prelude.{◌≡◌, []};
 ghost use Rattle.bag_tree.specs.declared.tree_fault.TreeFault.TheVariants.{Memory};
+ghost use Rattle.bag_tree.specs.Stop.{IsOutOfMemory, IsRefusalOf};
 ghost use Rattle.bag_tree.specs.Tree as spec;
 
 use bag_text::{Text, said};
@@ -93,6 +94,27 @@ impl Stop {
         Stop {
             cause,
             path: Text::empty(alloc),
+        }
+    }
+
+    /// Where memory ran out.
+    pub fn out_of_memory(alloc: Global) -> Stop
+        ensures { IsOutOfMemory result }
+    {
+        Stop::without_path(alloc, TreeFault::Memory)
+    }
+
+    /// The refusal of the file at this path. Out of memory names no file.
+    ///
+    /// It takes no memory: whoever copies the path before the file is read reports no other refusal
+    /// of it as out of memory.
+    pub fn of_file(alloc: Global, cause: TreeFault, path: Text) -> Stop
+        ensures { IsRefusalOf cause path result }
+    {
+        if cause == TreeFault::Memory {
+            Stop::out_of_memory(alloc)
+        } else {
+            Stop { cause, path }
         }
     }
 }

@@ -8,7 +8,7 @@ returns c = λ is nodes there.
     elim c.if-len.branch [
       | then-len w ↦
           let fit =
-          found_fit nodes _ _ c.sort_by_path.ensures.permutation
+          found_fit nodes _ _ c.sort_in_place.ensures.permutation
           (rw w.as_slice.ensures.value at (w.all_differ.ensures.0 (sym w.result-is ∙ is))) there in
           omega (arith, fit, w.if-len.true, c.len.ensures)
       | else-len w ↦ let more = ltb-true 16777216 c.len.result (sym w.result-is ∙ is)

@@ -41,7 +41,8 @@ returns-in-Err-clause-asked g c = λ path at noted.
     some_pieces path (take c.loop-done.done c.args.bytes.now) (drop c.loop-done.done c.args.bytes.now)
     c.args.bytes.now (g.D.Disk.state c.args.disk.now).trail
     (g.D.Disk.state c.loop-done.disk).trail (g.D.Disk.state c.write.new.self).trail
-    (take-append-drop c.loop-done.done c.args.bytes.now) (c.loop-done.invariant.4 path at noted) c.in-Err.ensures.same.trail
+    (take-append-drop c.loop-done.done c.args.bytes.now) (c.loop-done.invariant.4 path at noted)
+    c.in-Err.ensures.same.trail
 
 pub returns-clause-asked : goal.returns-clause-asked
 returns-clause-asked g c = λ path at noted.

@@ -34,8 +34,8 @@ returns-in-Err-clause-replaces g c = record {
       (count_grows c.in-Err.refusal _ _ _ _ c.in-Err.ensures.failures c.refuse.ensures.failures) c.refuse.ensures.given
       c.in-Err.ensures.left;
   refused =
-      move_answered_so (g.D.Disk.state c.args.self.now.disk) (g.D.Disk.state c.replace.new.disk) _ _ c.in-Err.refusal _ _
-      _ ⊥ ⊥
+      move_answered_so (g.D.Disk.state c.args.self.now.disk) (g.D.Disk.state c.replace.new.disk) _ _ c.in-Err.refusal _
+      _ _ ⊥ ⊥
       c.in-Err.ensures.failures c.refuse.ensures.failures c.refuse.ensures.fault (λ never. absurd never)
       (due_in_move _ _ _ _ c.in-Err.refusal c.in-Err.ensures.refused);
   asked = c.in-Err.ensures.asked;

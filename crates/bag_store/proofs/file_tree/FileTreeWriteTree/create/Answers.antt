@@ -43,7 +43,7 @@ returns-in-Err-clause-creates g c = record {
 pub returns-in-Err-clause-cause : goal.returns-in-Err-clause-cause
 returns-in-Err-clause-cause g c =
     tells_move (g.D.Disk.state c.args.self.now.disk) (g.D.Disk.state c.create.new.disk)
-    c.args.self.now.answered.failures c.in-Err.refusal _ _ _ ⊥
+    c.in-Err.refusal _ _ _ ⊥
     c.refuse.ensures.fault c.in-Err.ensures.failures (due_in_move _ _ _ _ c.in-Err.refusal c.in-Err.ensures.refused)
 
 pub invariant_of-self : goal.invariant_of-self

@@ -44,7 +44,7 @@ returns-in-Err-clause-moves g c = record {
 pub returns-in-Err-clause-cause : goal.returns-in-Err-clause-cause
 returns-in-Err-clause-cause g c =
     tells_move (g.D.Disk.state c.args.self.now.disk) (g.D.Disk.state c.move_in.new.disk)
-    c.args.self.now.answered.failures c.in-Err.refusal _ _ _ _
+    c.in-Err.refusal _ _ _ _
     c.refuse.ensures.fault c.in-Err.ensures.failures c.in-Err.ensures.refused
 
 pub invariant_of-self : goal.invariant_of-self

@@ -5,7 +5,8 @@ use Rattle.std.specs.Prelude.{OnErr, IfOk, IfErr, MatchResult}
 use Rattle.bag_text.specs.Path.{is_path}
 use Rattle.bag_tree.specs.Bag.{file}
 use Rattle.bag_tree.specs.Listing.{IsOrdered, IsListingOf}
-use Rattle.bag_tree.specs.Tree.{TreeState, Keeps, MayRefuse, HasOpen, MayRefuseListing}
+use Rattle.bag_tree.specs.Tree.{TreeState, Keeps, HasOpen, MayRefuseListing, MayRefuseOpening}
+use Rattle.bag_tree.specs.Tree.{MayRefuseRead}
 use Rattle.bag_tree.specs.FileReads.{IsOpen, ReadsNext, answer_of_read}
 use Rattle.bag_tree.specs.declared.answer.Answer.TheVariants.{Given, Refused, Unlisted}
 use Rattle.bag_tree.specs.declared.tree_fault.TreeFault.{TreeFault}
@@ -36,7 +37,7 @@ pub record OpenCall (old new : TreeState) (path : List ℕ)
   pub honest : OnOk answer (IsTrue old.honest → IsOpen (file old.bag path) new.rest)
   pub closed : OnErr answer (new.rest ≡ None)
   pub not_opened : OnErr answer (new.openings ≡ old.openings)
-  pub refused : IfErr answer (MayRefuse (file old.bag path ≡ None) ⊥ old new)
+  pub refused : IfErr answer (MayRefuseOpening path old new)
 
 -- what `read` does with a buffer of this size
 pub record ReadCall (old new : TreeState) (room : ℕ) (buffer : List ℕ)
@@ -51,4 +52,4 @@ pub record ReadCall (old new : TreeState) (room : ℕ) (buffer : List ℕ)
       new.last ≡ Refused fault)
   pub honest : IfOk answer (λ n. IsTrue old.honest → ReadsNext old.rest new.rest n buffer)
   pub same : OnErr answer (new.rest ≡ old.rest)
-  pub refused : IfErr answer (MayRefuse ⊥ (old.rest ≡ None) old new)
+  pub refused : IfErr answer (MayRefuseRead old new)

@@ -1,5 +1,5 @@
 use Rattle.bag_disk.proofs.Common.{rules, is_lt, nat_list_cmp_total, answers_always, ranks_by, text_cmp}
-use Rattle.bag_disk.proofs.path_order.sort_by_path.Goals as goal
+use Rattle.bag_disk.proofs.path_order.sort_in_place.Goals as goal
 
 pub returns-clause-sorted : goal.returns-clause-sorted
 returns-clause-sorted c =

@@ -1,0 +1,5 @@
+use Rattle.std.proofs.Common.{[]}
+use Rattle.bag_tags.proofs.summed.sums_of.Goals as goal
+
+pub returns : goal.returns
+returns c = c.finish.ensures c.args.algs c.args.bytes.now (c.update.ensures c.args.algs [] c.new-digests.ensures)
