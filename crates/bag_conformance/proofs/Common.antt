@@ -28,7 +28,7 @@ pub use Rattle.bag_facts.proofs.ByPath.{found}
 pub use Rattle.bag_facts.proofs.Mapped.{contains_mapped, kept, mapped_contains, passed, take_one_more, taken_cases}
 pub use Rattle.bag_facts.specs.Facts.{rules_in}
 pub use Rattle.bag_facts.specs.FactsOfBag.{IsFactsOf}
-pub use Rattle.bag_facts.specs.FaultAt.{of_path}
+pub use Rattle.bag_facts.specs.FaultAt.{of_bag, of_path}
 pub use Rattle.bag_facts.specs.TagReader.{AreFilesOfBag}
 pub use Rattle.bag_facts.specs.declared.fault.Fault.{Fault}
 pub use Rattle.bag_profile.specs.Pattern.{matches}
@@ -53,7 +53,6 @@ pub use Rattle.bag_stages.proofs.HasLists.{only, same_set, true_or_not}
 pub use Rattle.bag_stages.proofs.ManifestsList.{missing_or_not}
 pub use Rattle.bag_stages.proofs.OxumFaults.{by_line}
 pub use Rattle.bag_stages.specs.FaultFields.{At}
-pub use Rattle.bag_stages.specs.FaultPlaces.{of_bag}
 pub use Rattle.bag_stages.specs.HasList.{HasList}
 pub use Rattle.bag_stages.specs.MetadataStage.{pair, HasElement, HasLater, bag_info_txt}
 pub use Rattle.bag_stages.specs.TagFiles.{HasManifest, bagit_txt, lines_in, lines_or_none}

@@ -16,7 +16,7 @@ use Rattle.bag_profile.specs.declared.label.LabelRule.{LabelRule}
 use Rattle.bag_profile.specs.declared.rule.ListRule.{ListRule}
 use Rattle.bag_profile.specs.declared.rule.ListRule.TheVariants as list
 use Rattle.bag_profile.specs.declared.terms.Serialization.TheVariants.{Required}
-use Rattle.bag_stages.specs.FaultFields.{At}
+use Rattle.bag_stages.specs.FaultFields.{At, AtPath}
 use Rattle.bag_stages.specs.MetadataStage.{bag_info_txt, HasElement, HasLater, pair}
 use Rattle.bag_stages.specs.TagFiles.{bagit_txt, HasManifest}
 use Rattle.bag_conformance.specs.ProfileRules.{Lists, Excludes, MatchesNone, IsFreeTagFile}
@@ -79,12 +79,12 @@ module _ (bag : Bag) (profile : Profile) (f : Fault) where
   -- a file must be there, and isn't
   abbrev pub LacksTagFile : Type 0
   LacksTagFile =
-      At f f.path None 0 [] × Lists profile list.TagFilesRequired f.path × ¬ (HasFile bag f.path)
+      AtPath f None [] × Lists profile list.TagFilesRequired f.path × ¬ (HasFile bag f.path)
 
   -- a tag file is there that no pattern allows
   abbrev pub HasOtherTagFile : Type 0
   HasOtherTagFile =
-      At f f.path None 0 [] × HasFile bag f.path × IsFreeTagFile f.path
+      AtPath f None [] × HasFile bag f.path × IsFreeTagFile f.path
       × MatchesNone profile list.TagFilesAllowed f.path
 
   -- fetch.txt is there, and may not be

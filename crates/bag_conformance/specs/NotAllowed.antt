@@ -1,5 +1,6 @@
 -- Names and versions that a profile doesn't allow.
 use Rattle.std.specs.Prelude.{ℕ, ◌≡◌, true, List, None}
+use Rattle.bag_text.specs.Bytes.{Path}
 use Rattle.bag_text.specs.declared.code.Code.TheVariants.{VersionNotAccepted}
 use Rattle.bag_read.specs.ManifestName.{manifest_name, is_alg_text}
 use Rattle.bag_read.specs.declared.kind.Kind.{Kind}
@@ -12,13 +13,13 @@ use Rattle.bag_conformance.specs.ConformanceStage.{allowed_manifests}
 use Rattle.bag_conformance.specs.ProfileRules.{Excludes, MatchesNone, IsFreeTagFile}
 
 -- the name of a manifest, of any algorithm, that may not be there
-abbrev pub IsOtherManifest : Profile → Kind → List ℕ → Type 0
+abbrev pub IsOtherManifest : Profile → Kind → Path → Type 0
 IsOtherManifest profile kind path =
     (alg : List ℕ) × (is_alg_text alg ≡ true) × (path ≡ manifest_name kind alg)
     × Excludes profile (allowed_manifests kind) alg
 
 -- a tag file of which other rules don't speak, and that no pattern allows
-abbrev pub IsOtherTagFile : Profile → List ℕ → Type 0
+abbrev pub IsOtherTagFile : Profile → Path → Type 0
 IsOtherTagFile profile path = IsFreeTagFile path × MatchesNone profile TagFilesAllowed path
 
 -- the fault that a version isn't accepted

@@ -1,6 +1,7 @@
 -- What a profile's lists say of a name, and which files its patterns are asked of (BagIt Profiles
 -- Specification).
 use Rattle.std.specs.Prelude.{ℕ, ◌≡◌, ◌≢◌, true, false, List, Some, Contains}
+use Rattle.bag_text.specs.Bytes.{Path}
 use Rattle.bag_text.specs.Path.{is_payload_path}
 use Rattle.bag_read.specs.ManifestName.{manifest_name, is_alg_text, tag_path}
 use Rattle.bag_read.specs.declared.kind.Kind.{Kind}
@@ -27,7 +28,7 @@ MatchesNone profile rule name =
 
 -- a tag file of which other rules don't speak: neither bagit.txt, bag-info.txt or fetch.txt, nor a
 -- manifest of any algorithm
-pub record IsFreeTagFile (path : List ℕ) : Type 0 where
+pub record IsFreeTagFile (path : Path) : Type 0 where
   pub outside_payload : is_payload_path path ≡ false
   pub no_declaration : path ≢ tag_path Declaration
   pub no_info : path ≢ tag_path Info

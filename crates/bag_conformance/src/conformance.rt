@@ -6,7 +6,6 @@ ghost use Rattle.bag_conformance.specs.ConformanceStage.{IsOfProfile};
 ghost use Rattle.bag_stages.specs.Found.{AreFaultsOf};
 
 use crate::elements::element_faults;
-use crate::joined::joined;
 use crate::manifest_names::manifest_faults;
 use crate::tag_files::tag_file_faults;
 use crate::whole_bag::whole_faults;
@@ -41,13 +40,11 @@ fn faults_of_parts(
     ensures { IfOk result (λ faults.
         AreAllOf facts.now (λ bag. IsOfProfile bag profile.now) faults.items) }
 {
-    let of_elements = element_faults(alloc, facts, profile)?;
-    let of_manifests = faults_of_manifests(alloc, facts, profile)?;
-    let so_far = joined(of_elements, of_manifests)?;
-    let of_tag_files = tag_file_faults(alloc, facts, profile)?;
-    let of_parts = joined(so_far, of_tag_files)?;
-    let of_whole = whole_faults(alloc, facts, profile)?;
-    joined(of_parts, of_whole)
+    let mut faults = element_faults(alloc, facts, profile)?;
+    faults.append(&mut faults_of_manifests(alloc, facts, profile)?)?;
+    faults.append(&mut tag_file_faults(alloc, facts, profile)?)?;
+    faults.append(&mut whole_faults(alloc, facts, profile)?)?;
+    Ok(faults)
 }
 
 /// The faults of manifests of both kinds.
@@ -59,7 +56,7 @@ fn faults_of_manifests(
     ensures { IfOk result (λ faults. AreAllOf facts.now (λ bag f.
         IsOfKind bag profile.now f Payload ⊎ IsOfKind bag profile.now f Tag) faults.items) }
 {
-    let of_manifests = manifest_faults(alloc, facts, profile, Kind::Payload)?;
-    let of_tag_manifests = manifest_faults(alloc, facts, profile, Kind::Tag)?;
-    joined(of_manifests, of_tag_manifests)
+    let mut faults = manifest_faults(alloc, facts, profile, Kind::Payload)?;
+    faults.append(&mut manifest_faults(alloc, facts, profile, Kind::Tag)?)?;
+    Ok(faults)
 }

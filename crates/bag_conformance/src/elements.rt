@@ -15,7 +15,6 @@ ghost use Rattle.bag_conformance.specs.LabelOrder.{IsByLabel};
 
 use crate::by_label::{by_label, labelled};
 use crate::info_fault::info_fault;
-use crate::joined::joined;
 use crate::label_rule::rule_faults;
 use bag_facts::{Facts, Fault};
 use bag_profile::{LabelRule, Profile};
@@ -36,9 +35,8 @@ pub(crate) fn element_faults(
 {
     let sorted = by_label(alloc, elements_of(facts))?;
     let naming = labelled(sorted.as_slice(), "BagIt-Profile-Identifier");
-    let of_name = identifier_faults(alloc, profile.identifier(), naming)?;
-    let of_rules = rules_faults(alloc, sorted.as_slice(), profile.labels())?;
-    let mut faults = joined(of_name, of_rules)?;
+    let mut faults = identifier_faults(alloc, profile.identifier(), naming)?;
+    faults.append(&mut rules_faults(alloc, sorted.as_slice(), profile.labels())?)?;
     faults.sort_by_key(|fault| fault.line)?;
     Ok(faults)
 }
@@ -93,7 +91,7 @@ fn rules_faults(
     let mut faults = Vec::new(alloc);
     for rule in rules {
         let found = labelled(sorted, rule.label.as_str());
-        faults = joined(faults, rule_faults(alloc, rule, found)?)?;
+        faults.append(&mut rule_faults(alloc, rule, found)?)?;
     }
     Ok(faults)
 }

@@ -16,5 +16,6 @@ pub(crate) fn info_fault(
 ) -> Result<Fault, AllocError>
     ensures { IfOk result (λ fault. fault ≡ reported.in_info code line detail) }
 {
-    Ok(Fault::of_line(code, TagName::Info.path(alloc)?, None, line, detail))
+    let path = TagName::Info.path(alloc)?;
+    Ok(Fault::new(alloc, code, path).at(line).with(detail))
 }

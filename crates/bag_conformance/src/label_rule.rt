@@ -5,7 +5,6 @@ ghost use Rattle.bag_stages.specs.MetadataStage as spec;
 ghost use Rattle.bag_conformance.specs.ElementFaults as reported;
 
 use crate::info_fault::info_fault;
-use crate::joined::joined;
 use bag_facts::Fault;
 use bag_profile::LabelRule;
 use bag_read::Element;
@@ -22,11 +21,10 @@ pub(crate) fn rule_faults(
     ensures { IfOk result (λ faults. faults.items
         ≡ reported.rule_faults rule.now (reported.lent found.now)) }
 {
-    let required = required_faults(alloc, rule, found)?;
-    let repeated = repeated_faults(alloc, rule, found)?;
-    let of_count = joined(required, repeated)?;
-    let of_values = value_faults(alloc, rule, found)?;
-    joined(of_count, of_values)
+    let mut faults = required_faults(alloc, rule, found)?;
+    faults.append(&mut repeated_faults(alloc, rule, found)?)?;
+    faults.append(&mut value_faults(alloc, rule, found)?)?;
+    Ok(faults)
 }
 
 /// That an element is lacking.

@@ -15,10 +15,8 @@
 mod by_label;
 mod conformance;
 mod elements;
-mod file_fault;
 mod has_file;
 mod info_fault;
-mod joined;
 mod label_rule;
 pub mod laws;
 mod manifest_names;

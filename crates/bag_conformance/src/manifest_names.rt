@@ -10,9 +10,7 @@ ghost use Rattle.bag_conformance.specs.ConformanceStage.{required_manifests, all
 ghost use Rattle.bag_conformance.specs.ConformanceStage.{LacksManifest, HasOtherManifest};
 ghost use Rattle.bag_conformance.specs.NotAllowed.{IsOtherManifest};
 
-use crate::file_fault::file_fault;
 use crate::has_file::has_file;
-use crate::joined::joined;
 use crate::profile_rules::{excludes, listed};
 use bag_facts::{Facts, Fault};
 use bag_profile::{ListRule, Profile};
@@ -31,9 +29,9 @@ pub(crate) fn manifest_faults(
     ensures { IfOk result (λ faults.
         AreAllOf facts.now (λ bag f. IsOfKind bag profile.now f kind) faults.items) }
 {
-    let lacking = lacking_manifests(alloc, facts, profile, kind)?;
-    let others = other_manifests(alloc, facts, profile, kind)?;
-    joined(lacking, others)
+    let mut faults = lacking_manifests(alloc, facts, profile, kind)?;
+    faults.append(&mut other_manifests(alloc, facts, profile, kind)?)?;
+    Ok(faults)
 }
 
 /// The faults that manifests must be there, and aren't. A name that no manifest can have is always
@@ -54,7 +52,7 @@ fn lacking_manifests(
     for name in required {
         let path = manifest_path(alloc, kind, name)?;
         if !has_manifest(facts, kind, path.as_str()) {
-            faults.push(file_fault(alloc, code, &path)?)?;
+            faults.push(Fault::about(alloc, code, &path)?)?;
         }
     }
     Ok(faults)
@@ -76,7 +74,7 @@ fn other_manifests(
     let mut faults = Vec::new(alloc);
     for entry in files {
         if is_other_manifest(profile, kind, entry.path.as_str()) {
-            faults.push(file_fault(alloc, code, &entry.path)?)?;
+            faults.push(Fault::about(alloc, code, &entry.path)?)?;
         }
     }
     Ok(faults)

@@ -9,9 +9,7 @@ ghost use Rattle.bag_conformance.specs.ConformanceStage.{LacksTagFile, HasOtherT
 ghost use Rattle.bag_conformance.specs.ConformanceStage.{HasFetchFile};
 ghost use Rattle.bag_conformance.specs.NotAllowed.{IsOtherTagFile};
 
-use crate::file_fault::file_fault;
 use crate::has_file::has_file;
-use crate::joined::joined;
 use crate::profile_rules::{is_free_tag_file, listed, matches_none};
 use bag_facts::{Facts, Fault};
 use bag_profile::{ListRule, Profile};
@@ -29,11 +27,10 @@ pub(crate) fn tag_file_faults(
     ensures { IfOk result (λ faults.
         AreAllOf facts.now (λ bag. IsOfTagFiles bag profile.now) faults.items) }
 {
-    let lacking = lacking_tag_files(alloc, facts, profile)?;
-    let others = other_tag_files(alloc, facts, profile)?;
-    let faults = joined(lacking, others)?;
-    let of_fetch = fetch_faults(alloc, facts, profile)?;
-    joined(faults, of_fetch)
+    let mut faults = lacking_tag_files(alloc, facts, profile)?;
+    faults.append(&mut other_tag_files(alloc, facts, profile)?)?;
+    faults.append(&mut fetch_faults(alloc, facts, profile)?)?;
+    Ok(faults)
 }
 
 /// The faults that files must be there, and aren't.
@@ -49,7 +46,7 @@ fn lacking_tag_files(
     let mut faults = Vec::new(alloc);
     for path in required {
         if !has_file(facts, path.as_str()) {
-            faults.push(file_fault(alloc, Code::TagFileRequired, path)?)?;
+            faults.push(Fault::about(alloc, Code::TagFileRequired, path)?)?;
         }
     }
     Ok(faults)
@@ -69,7 +66,7 @@ fn other_tag_files(
     let mut faults = Vec::new(alloc);
     for entry in files {
         if is_other_tag_file(profile, entry.path.as_str()) {
-            faults.push(file_fault(alloc, Code::TagFileNotAllowed, &entry.path)?)?;
+            faults.push(Fault::about(alloc, Code::TagFileNotAllowed, &entry.path)?)?;
         }
     }
     Ok(faults)
@@ -91,5 +88,5 @@ fn fetch_faults(alloc: Global, facts: &Facts, profile: &Profile) -> Result<Vec<F
     if profile.allow_fetch() || !has_file(facts, path.as_str()) {
         return Ok(Vec::new(alloc));
     }
-    Ok(vec![in alloc; file_fault(alloc, Code::FetchNotAllowed, &path)?]?)
+    Ok(vec![in alloc; Fault::new(alloc, Code::FetchNotAllowed, path)]?)
 }

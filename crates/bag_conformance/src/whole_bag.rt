@@ -2,11 +2,9 @@
 ghost use Rattle.std.specs.Prelude.{◌≡◌, IfOk, option_and_then};
 ghost use Rattle.std.specs.Option.{option_copied};
 ghost use Rattle.bag_text.specs.declared.code.Code.TheVariants.{VersionNotAccepted};
-ghost use Rattle.bag_text.specs.declared.code.Code.TheVariants.{SerializationRequired};
 ghost use Rattle.bag_read.specs.Declaration as declared;
 ghost use Rattle.bag_tree.specs.Bag.{Bag, file};
 ghost use Rattle.bag_facts.specs.FactsOfBag.{IsFactsOf};
-ghost use Rattle.bag_stages.specs.FaultPlaces.{of_bag};
 ghost use Rattle.bag_stages.specs.TagFiles.{bagit_txt};
 ghost use Rattle.bag_conformance.specs.ConformanceFaults.{AreAll, IsOfWhole, AreAllOf};
 ghost use Rattle.bag_conformance.specs.ConformanceStage.{HasOtherVersion};
@@ -31,7 +29,7 @@ pub(crate) fn whole_faults(
 {
     let mut faults = version_faults(alloc, facts, profile)?;
     if profile.serialization() == Serialization::Required {
-        faults.push(serialization_fault(alloc))?;
+        faults.push(Fault::of_bag(alloc, Code::SerializationRequired))?;
     }
     Ok(faults)
 }
@@ -66,22 +64,7 @@ fn version_fault(alloc: Global, version: &Text) -> Result<Fault, AllocError>
     ensures { IfOk result (λ fault. fault ≡ other_version version.now) }
 {
     let path = TagName::Declaration.path(alloc)?;
-    Ok(Fault::of_line(
-        Code::VersionNotAccepted,
-        path,
-        None,
-        1,
-        version.copy(alloc)?,
-    ))
-}
-
-fn serialization_fault(alloc: Global) -> Fault
-    ensures { result ≡ of_bag SerializationRequired }
-{
-    Fault::of_path(
-        Code::SerializationRequired,
-        Text::empty(alloc),
-        None,
-        Text::empty(alloc),
-    )
+    let detail = version.copy(alloc)?;
+    let fault = Fault::new(alloc, Code::VersionNotAccepted, path);
+    Ok(fault.at(1).with(detail))
 }

@@ -13,8 +13,8 @@ pub use Rattle.std.proofs.lemmas.List.{get_or_default, length-replicate, map-app
 pub use Rattle.std.proofs.lemmas.List.{take_all}
 pub use Rattle.std.proofs.lemmas.List.Elements.{All-append, All-cons, All-contains, All-from_get_or, All-from_recursion}
 pub use Rattle.std.proofs.lemmas.List.Elements.{All-head, All-nil, All-replicate, All-tail, filter-append}
-pub use Rattle.std.proofs.lemmas.List.Sorted.{Contains-permutation, IsPermutation-sym, IsPermutation-trans}
-pub use Rattle.std.proofs.lemmas.List.Sorted.{answers_always, ranks_by, searchable_from_sorted}
+pub use Rattle.std.proofs.lemmas.List.Sorted.{Contains-permutation, IsPermutation-sym, searchable_from_sorted}
+pub use Rattle.std.proofs.lemmas.Result.{err_from_is_err_and}
 pub use Rattle.std.proofs.lemmas.Slice.Eq.{bytes_eq-Decides}
 pub use Rattle.std.proofs.lemmas.Str.{IsCharBoundary-from_take, IsUtf8-from_ascii, IsUtf8-string_bytes}
 pub use Rattle.std.specs.Cmp.{IsTotalOrder, nat_cmp_total, tied_itself}
@@ -60,8 +60,9 @@ pub use Rattle.bag_tree.proofs.Calm.{memory_refused, memory_then, memory_unliste
 pub use Rattle.bag_tree.proofs.Calm.{nothing_then}
 pub use Rattle.bag_tree.proofs.SameText.{one_text, same_test, text_itself}
 pub use Rattle.bag_tree.specs.Bag.{Bag, HasFile, IsBag, file}
+pub use Rattle.bag_tree.specs.Pieces.{IsTaken}
 pub use Rattle.bag_tree.specs.Listing.{IsListingOf, IsOrdered, entry_at, size_at}
-pub use Rattle.bag_tree.specs.Tree.{CameFromFile, FailsOver, Keeps, MayRefuse, TreeState}
+pub use Rattle.bag_tree.specs.Tree.{CameFromFile, FailsOver, Keeps, MayRefuseListing, TreeState}
 pub use Rattle.bag_tree.specs.Tree.{MayReportMemory, NothingFailed, IsRefusedAt}
 pub use Rattle.bag_tree.specs.FileReads.{IsEntryOf, OpensAtMost}
 pub use Rattle.bag_tree.specs.Whole.{MayRefuseWhole}
@@ -82,17 +83,18 @@ pub use Rattle.bag_facts.specs.FactsOfBag.{IsFactsOf}
 pub use Rattle.bag_facts.specs.FaultLine.{alg_field, encoded, field, is_encoded, line_field}
 pub use Rattle.bag_facts.specs.Laws.{LinesTellFaultsApart, EqualFaultsAreOne, OneOfThree}
 pub use Rattle.bag_facts.specs.FaultOrder.{fault_cmp}
-pub use Rattle.bag_facts.specs.Stops.{IsOutOfMemory, MayRefuseFacts}
+pub use Rattle.bag_tree.specs.Stop.{IsOutOfMemory, IsRefusalOf}
+pub use Rattle.bag_facts.specs.Stops.{MayRefuseFacts}
 pub use Rattle.bag_facts.specs.TagFacts.{AreByPath, AreEntriesOf, IsDeclarationOf, IsManifestNamed, IsManifestOf}
 pub use Rattle.bag_facts.specs.TagFacts.{IsParsed, IsReadOf, IsTagFileNamed, SaysOfTagFile, entry_paths, name_of}
 pub use Rattle.bag_facts.specs.TagFacts.{path_of}
 pub use Rattle.bag_facts.specs.TagReader.{AreBytes, AreFilesOfBag, PathsAreTexts, IsWhole, ReadsWanted, StopsReading}
-pub use Rattle.bag_facts.specs.TagReader.{read_path, IsRefusalOf, MayStopReading, OpensAll}
+pub use Rattle.bag_facts.specs.TagReader.{read_path, MayStopReading, OpensAll}
 pub use Rattle.bag_facts.specs.TagReader.{OpensFirst}
 pub use Rattle.bag_facts.specs.Wanted.{AreWanted, ForListing, IsWanted, OpensUpTo, OpensWanted}
 pub use Rattle.bag_facts.specs.Wanted.{Wants, paths_of}
 pub use Rattle.bag_facts.specs.declared.facts.Facts.{Facts}
-pub use Rattle.bag_facts.specs.declared.fault.TheConstants.{ESCAPED, ESCAPED_HYPHEN}
+pub use Rattle.bag_facts.specs.declared.field.TheConstants.{ESCAPED, ESCAPED_HYPHEN}
 pub use Rattle.bag_facts.specs.declared.options.Options.{Options}
 pub use Rattle.bag_facts.specs.declared.tag_facts.TagFacts.{TagFacts}
 pub use Rattle.bag_facts.specs.declared.tag_reader.TagBytes.{TagBytes}

@@ -9,6 +9,7 @@ pub mod Cut
 pub mod Entries
 pub mod Escapes
 pub mod FieldPieces
+pub mod Found
 pub mod ItsFolder
 pub mod Known
 pub mod Lines

@@ -1,8 +1,9 @@
 -- Members of a mapped list, of a filtered one, and the first items of a list.
 use Rattle.bag_facts.proofs.Common.{◌≡◌, ◌<◌, ◌⊎◌, inl, inr, ℕ, zero, suc, ◌+◌, List, [], ◌∷◌, ◌++◌, map, length, take}
-use Rattle.bag_facts.proofs.Common.{get_or, Bool, true, false, Contains, refl, ap, sym, subst, cond, arith, add-one}
+use Rattle.bag_facts.proofs.Common.{get_or, Bool, true, false, Contains, refl, ap, sym, subst, cond, arith}
 use Rattle.bag_facts.proofs.Common.{filter, contains_cases, contains_first, contains_behind, contains_nothing}
 use Rattle.bag_facts.proofs.Common.{contains_either}
+pub use Rattle.bag_tree.proofs.OneMore.{take_one_more}
 
 pub mapped_contains : {A B : Type 0} (g : A → B) (xs : List A) (x : A) → Contains xs x → Contains (map g xs) (g x)
 mapped_contains g [] x c = absurd (contains_nothing x c)
@@ -35,17 +36,6 @@ module _ {A : Type 0} (p : A → Bool) where
   pub passed : (xs : List A) (x : A) → p x ≡ true → Contains xs x → Contains (filter p xs) x
   passed [] x passes c = absurd (contains_nothing x c)
   passed (y ∷ xs) x passes c = passed_by (p y) y xs x refl passes (passed xs x passes) c
-
-take_suc_more : {A : Type 0} (xs : List A) (i : ℕ) (x : A) → i < length xs → x ≡ get_or xs i x
-    → take (suc i) xs ≡ take i xs ++ x ∷ []
-take_suc_more [] i x lt e = absurd (omega arith)
-take_suc_more (y ∷ xs) zero x lt e = ap (λ z. z ∷ []) (sym e)
-take_suc_more (y ∷ xs) (suc i) x lt e = ap (λ ys. y ∷ ys) (take_suc_more xs i x (omega arith) e)
-
--- the first items, and one more
-pub take_one_more : {A : Type 0} (xs : List A) (i : ℕ) (x : A) → i < length xs → x ≡ get_or xs i x
-    → take (i + 1) xs ≡ take i xs ++ x ∷ []
-take_one_more xs i x lt e = rw add-one (take_suc_more xs i x lt e)
 
 -- a member of them is one of the first, or the one more
 pub taken_cases : {A : Type 0} (xs : List A) (i : ℕ) (x y : A) → i < length xs → x ≡ get_or xs i x

@@ -3,7 +3,7 @@ use Rattle.bag_facts.proofs.Common.{◌≡◌, ◌<◌, ◌≤◌, ◌+◌, ◌+
 use Rattle.bag_facts.proofs.Common.{get_or, None, Some, refl, sym, ap, ◌∙◌, subst, arith, Contains, append_assoc}
 use Rattle.bag_facts.proofs.Common.{append-nil, IsStrictlySortedBy, map-append, take-append-drop, take_all, text_cmp}
 use Rattle.bag_facts.proofs.Common.{contains_either, contains_cases, contains_nothing, NothingFailed, IsListingOf}
-use Rattle.bag_facts.proofs.Common.{TreeState, Keeps, OpensAtMost, IsEntryOf, FailsOver, MayRefuse, IsRefusedAt}
+use Rattle.bag_facts.proofs.Common.{TreeState, Keeps, OpensAtMost, IsEntryOf, FailsOver, MayRefuseListing, IsRefusedAt}
 use Rattle.bag_facts.proofs.Common.{Unlisted, FileEntry, Listing, Stop, TreeFault, Device, Special, Name, NotFound}
 use Rattle.bag_facts.proofs.Common.{TooMany, Changed, NoneOpen, Memory, Exists, memory_then, memory_unlisted}
 use Rattle.bag_facts.proofs.Common.{nothing_asked, nothing_then, MayRefuseFacts, MayStopReading, AreFilesOfBag}
@@ -177,7 +177,7 @@ pub all_texts : (options : Options) (files : List FileEntry) (count : ℕ) (old 
     → ReadsSome options files count old new read → PathsAreTexts files
 all_texts options files count old new read le h = subst PathsAreTexts (take_all count files le) h.texts
 
-pub listing_refusal : (old new : TreeState) (cause : TreeFault) → MayRefuse ⊥ ⊥ old new cause
+pub listing_refusal : (old new : TreeState) (cause : TreeFault) → MayRefuseListing old new cause
     → MayRefuseFacts old new cause
 listing_refusal old new Changed h = absurd h
 listing_refusal old new NoneOpen h = absurd h
@@ -187,7 +187,7 @@ listing_refusal old new other h = h
 -- a refused listing stops reading the facts
 pub listing_stop : (options : Options) (old new : TreeState) (cause : TreeFault) (stop : Stop) → stop.cause ≡ cause
     → stop.path ≡ [] → new.openings ≡ old.openings → new.rest ≡ old.rest
-    → MayRefuse ⊥ ⊥ old new cause → new.last ≡ Unlisted cause → MayStopReading options old new stop
+    → MayRefuseListing old new cause → new.last ≡ Unlisted cause → MayStopReading options old new stop
 listing_stop options old new cause stop same none unopened left h last = grind (arith, listing_refusal, memory_unlisted)
 
 -- what stops reading after a listing stops reading the facts

@@ -4,6 +4,7 @@ use Rattle.std.specs.List.{join_with_byte}
 use Rattle.std.specs.Str.{byte}
 use Rattle.std.specs.declared.cmp.Ordering.{Ordering}
 use Rattle.std.specs.Ordering.{nat_cmp, on, then_cmp}
+use Rattle.bag_text.specs.Bytes.{Line}
 use Rattle.bag_text.specs.Text.{text_cmp}
 use Rattle.bag_text.specs.Code.{number, stage}
 use Rattle.bag_text.specs.CodeWord.{word}
@@ -55,14 +56,14 @@ earlier_cmp =
     (on (λ f. f.detail) text_cmp)
 
 -- the line of a fault in it
-abbrev pub earlier_line : Fault → List ℕ
+abbrev pub earlier_line : Fault → Line
 earlier_line f =
     join_with_byte (byte " ")
     (decimal (number f.code) ∷ word f.code ∷ field f.path ∷ earlier_alg_field f.alg
     ∷ line_field f.line ∷ field f.detail ∷ [])
 
 -- the text is the line of this fault in it
-pub record WasLineOf (line : List ℕ) (f : Fault) : Type 0 where
+pub record WasLineOf (line : Line) (f : Fault) : Type 0 where
   pub fault : IsFault f
   pub earlier : IsEarlier f
   pub text : earlier_line f ≡ line
@@ -74,4 +75,4 @@ EarlierFaultsKeepTheirOrder = (f g : Fault) → IsEarlier f → IsEarlier g
 
 -- the law: each of its lines is still a line, of the same fault
 abbrev pub EarlierLinesKeepTheirFaults : Type 0
-EarlierLinesKeepTheirFaults = (line : List ℕ) (f : Fault) → WasLineOf line f → IsLineOf line f
+EarlierLinesKeepTheirFaults = (line : Line) (f : Fault) → WasLineOf line f → IsLineOf line f

@@ -3,6 +3,7 @@ use Rattle.std.specs.Prelude.{ℕ, ◌==◌, ◌||◌, Bool, List, [], ◌∷◌
 use Rattle.std.specs.Prelude.{codes, decimal, if◌then◌else◌, flat_map, nat_le}
 use Rattle.std.specs.List.{join_with_byte}
 use Rattle.std.specs.Str.{byte}
+use Rattle.bag_text.specs.Bytes.{Line}
 use Rattle.percent_encoding.specs.Percent.{percent_encode_byte}
 use Rattle.bag_text.specs.Alg.{name}
 use Rattle.bag_text.specs.Code.{number}
@@ -35,7 +36,7 @@ abbrev pub line_field : ℕ → List ℕ
 line_field line = if line == 0 then codes "-" else decimal line
 
 -- code, word, path, algorithm, line and detail, with one space between
-abbrev pub fault_line : Fault → List ℕ
+abbrev pub fault_line : Fault → Line
 fault_line f =
     join_with_byte (byte " ")
     (decimal (number f.code) ∷ word f.code ∷ field f.path ∷ alg_field f.alg ∷ line_field f.line

@@ -1,5 +1,6 @@
 -- Which line is a fault's.
-use Rattle.std.specs.Prelude.{◌^◌, ◌<◌, ◌≡◌, IsUtf8, List, ℕ}
+use Rattle.std.specs.Prelude.{◌^◌, ◌<◌, ◌≡◌, IsUtf8}
+use Rattle.bag_text.specs.Bytes.{Line}
 use Rattle.bag_facts.specs.declared.fault.Fault.{Fault}
 use Rattle.bag_facts.specs.FaultLine.{fault_line}
 
@@ -10,6 +11,6 @@ pub record IsFault (f : Fault) : Type 0 where
   pub line : f.line < 2 ^ 64
 
 -- the text is the line of this fault
-pub record IsLineOf (line : List ℕ) (f : Fault) : Type 0 where
+pub record IsLineOf (line : Line) (f : Fault) : Type 0 where
   pub fault : IsFault f
   pub text : fault_line f ≡ line

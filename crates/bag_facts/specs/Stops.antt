@@ -1,5 +1,6 @@
 -- Why listing a tree and reading its tag files may stop.
 use Rattle.std.specs.Prelude.{◌≡◌, ◌≢◌, ◌⊎◌, ◌<◌, [], IsTrue, ⊤}
+use Rattle.bag_tree.specs.Stop.{IsOutOfMemory}
 use Rattle.bag_tree.specs.Tree.{TreeState, MayRefuseListing, FailsOver, CameFromFile, most_entries}
 use Rattle.bag_tree.specs.declared.answer.Answer.TheVariants.{Unlisted}
 use Rattle.bag_tree.specs.declared.tree_fault.Stop.{Stop}
@@ -7,10 +8,6 @@ use Rattle.bag_tree.specs.declared.tree_fault.TreeFault.{TreeFault}
 use Rattle.bag_tree.specs.declared.tree_fault.TreeFault.TheVariants.{Device, Special, Name}
 use Rattle.bag_tree.specs.declared.tree_fault.TreeFault.TheVariants.{NotFound, TooMany, Changed}
 use Rattle.bag_tree.specs.declared.tree_fault.TreeFault.TheVariants.{NoneOpen, Memory, Exists}
-
--- there was no memory, and no file is named
-abbrev pub IsOutOfMemory : Stop → Type 0
-IsOutOfMemory stop = (stop.cause ≡ Memory) × (stop.path ≡ [])
 
 -- Why listing a tree and reading its tag files may be refused. Over an honest tree the cause is the
 -- device, something in the tree that is no file and no folder or has a name that isn't UTF-8, the

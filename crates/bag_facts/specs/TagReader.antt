@@ -1,7 +1,8 @@
 -- Reading the tag files of a listing.
 use Rattle.std.specs.Prelude.{◌≡◌, ◌⊎◌, ◌++◌, ◌∷◌, ◌<◌, ℕ, List, [], length, All, Contains, Option}
-use Rattle.std.specs.Prelude.{None, Some, IsTrue, IsUtf8, ◌≢◌}
+use Rattle.std.specs.Prelude.{None, Some, IsTrue, IsUtf8}
 use Rattle.std.specs.Option.{option_map}
+use Rattle.bag_text.specs.Bytes.{Path}
 use Rattle.bag_read.specs.ManifestName.{tag_path}
 use Rattle.bag_tree.specs.Bag as bag
 use Rattle.bag_tree.specs.Tree.{MayReportMemory, TreeState, CameFromFile}
@@ -9,14 +10,14 @@ use Rattle.bag_tree.specs.Listing.{size_at}
 use Rattle.bag_tree.specs.declared.listing.FileEntry.{FileEntry}
 use Rattle.bag_tree.specs.declared.tree_fault.Stop.{Stop}
 use Rattle.bag_tree.specs.declared.tree_fault.TreeFault.TheVariants.{Memory}
-use Rattle.bag_facts.specs.Stops.{IsOutOfMemory, MayRefuseFacts, IsOfListing, ReportsAnswer}
+use Rattle.bag_tree.specs.Stop.{IsOutOfMemory}
+use Rattle.bag_facts.specs.Stops.{MayRefuseFacts, IsOfListing, ReportsAnswer}
 use Rattle.bag_facts.specs.Wanted.{IsRefusedFile, Wants, IsWanted, AreWanted}
 use Rattle.bag_facts.specs.declared.options.Options.{Options}
 use Rattle.bag_facts.specs.declared.tag_reader.TagBytes.{TagBytes}
-use Rattle.bag_tree.specs.declared.tree_fault.TreeFault.{TreeFault}
 
 -- where the file stands
-abbrev pub read_path : TagBytes → List ℕ
+abbrev pub read_path : TagBytes → Path
 read_path read = tag_path read.name
 
 -- these are the files of the bag, with their lengths
@@ -82,9 +83,3 @@ pub record MayStopReading (options : Options) (old new : TreeState) (stop : Stop
   pub path : IsOutOfMemory stop ⊎ IsOfListing old new stop ⊎ IsRefusedFile options old stop
   pub memory : stop.cause ≡ Memory → stop.path ≡ []
   pub out_of_memory : stop.cause ≡ Memory → MayReportMemory old new
-
--- The refusal of the file is reported so: with its path, or without one where it was when out of
--- memory.
-abbrev pub IsRefusalOf : TreeFault → List ℕ → Stop → Type 0
-IsRefusalOf cause path stop = ((cause ≢ Memory) × (stop.cause ≡ cause) × (stop.path ≡ path))
-    ⊎ ((cause ≡ Memory) × IsOutOfMemory stop)

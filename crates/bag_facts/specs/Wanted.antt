@@ -1,6 +1,7 @@
 -- The tag files that are read (RFC 8493, 2.1 and 2.2).
 use Rattle.std.specs.Prelude.{◌≡◌, ◌≢◌, ◌++◌, ◌⊎◌, ◌∷◌, ℕ, List, All, Contains, map, IsTrue}
 use Rattle.std.specs.List.Sorted.{IsStrictlySortedBy}
+use Rattle.bag_text.specs.Bytes.{Path}
 use Rattle.bag_text.specs.Text.{text_cmp}
 use Rattle.bag_text.specs.Order.{IsListOf}
 use Rattle.bag_read.specs.ManifestName.{tag_path}
@@ -21,15 +22,15 @@ abbrev pub Wants : Options → TagName → Type 0
 Wants options name = (name ≡ Declaration) ⊎ (options.depth ≢ depth_of.Declaration)
 
 -- a tag file that is read whole under the options
-abbrev pub IsWanted : Options → List ℕ → Type 0
+abbrev pub IsWanted : Options → Path → Type 0
 IsWanted options path = (name : TagName) × (tag_path name ≡ path) × Wants options name
 
 -- the paths of listed files
-abbrev pub paths_of : List FileEntry → List (List ℕ)
+abbrev pub paths_of : List FileEntry → List Path
 paths_of files = map (λ entry. entry.path) files
 
 -- the wanted tag files among these files, in path order
-abbrev pub AreWanted : Options → List FileEntry → List (List ℕ) → Type 0
+abbrev pub AreWanted : Options → List FileEntry → List Path → Type 0
 AreWanted options files paths =
     IsListOf text_cmp (λ path. IsWanted options path × Contains (paths_of files) path) paths
 
@@ -41,7 +42,7 @@ OpensWanted options old new =
 
 -- the file was refused when the wanted tag files before it had been opened, each once and in path
 -- order, and no other file
-abbrev pub OpensUpTo : Options → List FileEntry → List ℕ → TreeState → TreeState → Type 0
+abbrev pub OpensUpTo : Options → List FileEntry → Path → TreeState → TreeState → Type 0
 OpensUpTo options files path old new =
     (before : List (List ℕ)) × (after : List (List ℕ))
     × AreWanted options files (before ++ path ∷ after)

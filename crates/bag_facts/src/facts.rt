@@ -25,7 +25,7 @@ use crate::tag_reader::{TagBytes, read_tag_files};
 use crate::{Depth, FetchList, Manifest, Metadata, Options, TagFacts};
 use bag_read::{Declaration, Kind, ManifestEntry, TagName, declared_rules};
 use bag_text::{Alg, AlgSet, Items, Pool, Rules, is_payload};
-use bag_tree::{FileEntry, Listing, Stop, Tree, TreeFault};
+use bag_tree::{FileEntry, Listing, Stop, Tree};
 use std::alloc::{AllocError, Global};
 
 /// What the checks need to know of a bag: its files, and its tag files, parsed once.
@@ -80,7 +80,7 @@ impl Facts {
         let read = read_tag_files(alloc, tree, listing.files.as_slice(), options)?;
         match Facts::of(alloc, options, listing, read) {
             Ok(facts) => Ok(facts),
-            Err(_) => Err(Stop::without_path(alloc, TreeFault::Memory)),
+            Err(_) => Err(Stop::out_of_memory(alloc)),
         }
     }
 

@@ -5,19 +5,18 @@
 //! none. LINE is in decimal, or `-` for 0. PATH and DETAIL are `-` where they are empty, and `%2D`
 //! where they are the text `-`. In any other text the bytes 0 to 32, `%`, 127 and those outside
 //! ASCII are written as `%` and two upper-case hex digits, and every other byte as itself.
-ghost use Rattle.std.specs.Prelude.{◌≡◌, IfOk, ◌++◌, ◌∷◌, OnOk, OnErr, string_bytes, decimal};
+ghost use Rattle.std.specs.Option.{option_copied};
+ghost use Rattle.std.specs.Prelude.{◌≡◌, IfOk, ◌++◌, ◌∷◌, [], OnOk, OnErr, string_bytes, decimal};
 ghost use Rattle.std.specs.Io.{StartsWith};
 ghost use Rattle.bag_text.specs.Alg.{rank_or_zero};
-ghost use Rattle.percent_encoding.specs.Iter.{encoded_text};
-ghost use Rattle.bag_facts.specs.FaultLine.{field};
 ghost use Rattle.bag_text.specs.Code as of_code;
 ghost use Rattle.bag_facts.specs.FaultAt as made;
 ghost use Rattle.bag_facts.specs.LineOf.{IsFault};
 ghost use Rattle.bag_facts.specs.FaultLine as spec;
 
+use crate::field::field_pieces;
 use bag_text::{Alg, Code, Text};
 use itoa::Buffer;
-use percent_encoding::{AsciiSet, CONTROLS, PercentEncode, ascii_set, percent_encode};
 use std::alloc::{AllocError, Global};
 use std::cmp::Ordering;
 
@@ -38,25 +37,52 @@ pub struct Fault {
 }
 
 impl Fault {
-    /// The fault of a line of the file at a path, from 1; with an algorithm, that of its manifest.
-    pub fn of_line(code: Code, path: Text, alg: Option<Alg>, line: u64, detail: Text) -> Fault
-        ensures { result ≡ made.of_line code path alg line detail }
+    /// The fault of the file at a path, as a whole; of the bag where the path is empty.
+    pub fn new(alloc: Global, code: Code, path: Text) -> Fault
+        ensures { result ≡ made.of_path code path None [] }
     {
         Fault {
             code,
             path,
-            alg,
-            line,
-            detail,
+            alg: None,
+            line: 0,
+            detail: Text::empty(alloc),
         }
     }
 
-    /// The fault of a path, about no single line: of the file there, of a name, and of the whole
-    /// bag where it is empty.
-    pub fn of_path(code: Code, path: Text, alg: Option<Alg>, detail: Text) -> Fault
-        ensures { result ≡ made.of_path code path alg detail }
+    /// The fault of the file at a path, which is copied. Fails only where memory runs out.
+    pub fn about(alloc: Global, code: Code, path: &Text) -> Result<Fault, AllocError>
+        ensures { IfOk result (λ fault. fault ≡ made.of_path code path.now None []) }
     {
-        Fault::of_line(code, path, alg, 0, detail)
+        Ok(Fault::new(alloc, code, path.copy(alloc)?))
+    }
+
+    /// The fault of the bag, about no file.
+    pub fn of_bag(alloc: Global, code: Code) -> Fault
+        ensures { result ≡ made.of_bag code }
+    {
+        Fault::new(alloc, code, Text::empty(alloc))
+    }
+
+    /// The same fault, of the manifest of an algorithm.
+    pub fn of(self, alg: Option<Alg>) -> Fault
+        ensures { result ≡ record self { alg = alg } }
+    {
+        Fault { alg, ..self }
+    }
+
+    /// The same fault, of a line of its file, from 1.
+    pub fn at(self, line: u64) -> Fault
+        ensures { result ≡ record self { line = line } }
+    {
+        Fault { line, ..self }
+    }
+
+    /// The same fault, with more to say.
+    pub fn with(self, detail: Text) -> Fault
+        ensures { result ≡ record self { detail = detail } }
+    {
+        Fault { detail, ..self }
     }
 
     /// The stage of the check that finds it, from 1 to 8: the first digit of the code's number.
@@ -77,6 +103,16 @@ impl Fault {
             line: self.line,
             detail: self.detail.copy(alloc)?,
         })
+    }
+
+    /// A copy of a fault that may be there, such as a cursor. Fails only where memory runs out.
+    pub fn copied(alloc: Global, fault: Option<&Fault>) -> Result<Option<Fault>, AllocError>
+        ensures { IfOk result (λ copy. copy ≡ option_copied fault.entry) }
+    {
+        match fault {
+            None => Ok(None),
+            Some(fault) => Ok(Some(fault.copy(alloc)?)),
+        }
     }
 }
 
@@ -243,27 +279,6 @@ fn append_text(text: &str, out: &mut String) -> Result<(), AllocError>
 {
     out.push_str(" ")?;
     field_pieces(text).append_to(out)
-}
-
-/// The bytes that a field escapes, beside those outside ASCII.
-const ESCAPED: AsciiSet = ascii_set!(CONTROLS.add(b' ').add(b'%'));
-
-/// What a field escapes, and the hyphen, which alone stands for the empty text.
-const ESCAPED_HYPHEN: AsciiSet = ascii_set!(ESCAPED.add(b'-'));
-
-/// A text as a field, in pieces that take no memory: `-` where it is empty, `%2D` for the text `-`,
-/// and else each byte as itself or as `%` and two upper-case hex digits, so that the field is ASCII
-/// without a space.
-pub fn field_pieces(text: &str) -> PercentEncode<'_>
-    ensures { encoded_text result ≡ field text.now }
-{
-    if text.is_empty() {
-        percent_encode(b"-", ESCAPED)
-    } else if text == "-" {
-        percent_encode(b"-", ESCAPED_HYPHEN)
-    } else {
-        percent_encode(text.as_bytes(), ESCAPED)
-    }
 }
 
 /// Every fault has UTF-8 texts, and a line number that fits 64 bits.

@@ -19,23 +19,22 @@
 //! total, and faults that tie are one; no two faults have the same line, and a line is read back.
 #![tactic(auto)]
 
-mod arrangement;
 mod facts;
 mod fault;
+mod field;
 mod from_line;
 pub mod laws;
 mod listed_manifest;
 mod options;
 mod part;
 mod pooling;
-mod refusal;
 mod tag_facts;
 mod tag_reader;
 
 pub use facts::Facts;
-pub use fault::{Fault, field_pieces};
+pub use fault::Fault;
+pub use field::put_line;
 pub use from_line::CursorFault;
 pub use options::{Depth, Options};
 pub use part::Part;
-pub use refusal::refusal_of;
 pub use tag_facts::{FetchList, Manifest, Metadata, TagFacts};

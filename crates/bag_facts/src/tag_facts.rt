@@ -13,13 +13,12 @@ ghost use Rattle.bag_text.specs.Order.{IsListOf};
 ghost use Rattle.bag_text.specs.Text.{text_cmp};
 ghost use Rattle.bag_text.specs.declared.code.Code.TheVariants.{NotUtf8};
 
-use crate::arrangement::{are_in_order, arrange};
 use crate::tag_reader::TagBytes;
 use bag_read::{
     Declaration, Element, FetchEntry, Kind, LineFault, ManifestEntry, Parsed, TagName,
     read_declaration, read_fetch, read_info, read_manifest_among,
 };
-use bag_text::{Alg, Code, Items, Pool, Rules, Text};
+use bag_text::{Alg, Code, Items, Pool, Rules, Text, sort_by_path};
 use std::alloc::{AllocError, Global};
 
 /// What is known of a tag file that was read.
@@ -112,7 +111,15 @@ impl Manifest {
         ensures alg { IfOk result (λ manifest. manifest.alg ≡ alg) }
         ensures says { IfOk result (IsManifestOf rules bytes.items) }
     {
-        let Parsed { items, faults } = read_and_drop(alloc, known, rules, kind, alg, bytes)?;
+        let Parsed { items, faults } = read_manifest_among(
+            alloc,
+            known,
+            rules,
+            kind,
+            alg,
+            bytes.as_slice(),
+        )?;
+        drop(bytes);
         Ok(Manifest {
             kind,
             alg,
@@ -131,24 +138,6 @@ impl Manifest {
     }
 }
 
-/// Reads the bytes of a manifest, which go then.
-fn read_and_drop(
-    alloc: Global,
-    known: &Pool,
-    rules: Rules,
-    kind: Kind,
-    alg: Alg,
-    bytes: Vec<u8>,
-) -> Result<Parsed<ManifestEntry>, AllocError>
-    ensures items { IfOk result (λ parsed.
-        IsListOf (on (λ e. e.line) nat_cmp) (IsEntry rules kind alg (lines_of_file bytes.items))
-        parsed.items) }
-    ensures faults { IfOk result (λ parsed.
-        AreFaults (IsManifestFault rules kind alg bytes.items) parsed.faults) }
-{
-    read_manifest_among(alloc, known, rules, kind, alg, bytes.as_slice())
-}
-
 /// The entry of a path among entries in the order of their paths, found in time log n of these.
 pub(crate) fn entry_at<'a>(entries: &'a [ManifestEntry], path: &Text) -> Option<&'a ManifestEntry>
     ensures { AreByPath entries.now
@@ -161,7 +150,7 @@ pub(crate) fn entry_at<'a>(entries: &'a [ManifestEntry], path: &Text) -> Option<
     entries.get(place)
 }
 
-/// Entries in the order of their paths, in which those of many manifests are.
+/// Entries in the order of their paths.
 fn sorted_by_path(
     alloc: Global,
     entries: Items<ManifestEntry>,
@@ -169,24 +158,8 @@ fn sorted_by_path(
     ensures sorted { IfOk result (IsSortedByKey (λ entry. entry.path) text_cmp) }
     ensures permutation { IfOk result (IsPermutation entries) }
 {
-    let entries = entries.into_vec();
-    if are_in_order(entries.as_slice()) {
-        return Ok(Items::from_vec(entries));
-    }
-    sort_by_path(alloc, entries)
-}
-
-/// Sorts entries by their paths. Most are in order before the second sort, which then only compares
-/// neighbours.
-fn sort_by_path(
-    alloc: Global,
-    mut entries: Vec<ManifestEntry>,
-) -> Result<Items<ManifestEntry>, AllocError>
-    ensures sorted { IfOk result (IsSortedByKey (λ entry. entry.path) text_cmp) }
-    ensures permutation { IfOk result (IsPermutation entries.items) }
-{
-    arrange(alloc, &mut entries)?;
-    entries.sort_unstable_by(|a, b| a.path.cmp(&b.path));
+    let mut entries = entries.into_vec();
+    sort_by_path(alloc, &mut entries)?;
     Ok(Items::from_vec(entries))
 }
 

@@ -10,9 +10,9 @@ ghost use Rattle.bag_facts.specs.TagReader.{ReadsWanted, StopsReading, read_path
 ghost use Rattle.bag_facts.specs.Wanted.{Wants, IsWanted, AreWanted, OpensUpTo};
 ghost use Rattle.bag_facts.specs.declared.tag_reader.TagBytes.{TagBytes};
 
-use crate::{Options, refusal_of};
+use crate::Options;
 use bag_read::TagName;
-use bag_tree::{FileEntry, Stop, Tree, TreeFault, read_whole};
+use bag_tree::{FileEntry, Stop, Tree, read_whole};
 use std::alloc::Global;
 
 /// The bytes of a tag file that is there.
@@ -64,7 +64,7 @@ pub(crate) fn read_tag_files<T: Tree>(
             continue;
         };
         if read.push(file).is_err() {
-            return Err(Stop::without_path(alloc, TreeFault::Memory));
+            return Err(Stop::out_of_memory(alloc));
         }
     }
     Ok(read)
@@ -98,11 +98,11 @@ fn read_wanted<T: Tree>(
     };
     // Copied before the file is read, so that its refusal isn't reported as out of memory.
     let Ok(path) = entry.path.copy(alloc) else {
-        return Err(Stop::without_path(alloc, TreeFault::Memory));
+        return Err(Stop::out_of_memory(alloc));
     };
     match read_whole(alloc, tree, entry) {
         Ok(bytes) => Ok(Some(TagBytes::new(name, bytes))),
-        Err(cause) => Err(refusal_of(alloc, cause, path)),
+        Err(cause) => Err(Stop::of_file(alloc, cause, path)),
     }
 }
 

@@ -22,7 +22,6 @@ mod stages;
 
 pub use bag_facts::{
     CursorFault, Depth, Facts, Fault, FetchList, Manifest, Metadata, Options, TagFacts,
-    field_pieces,
 };
 pub use bag_profile::{Profile, ProfileFault};
 pub use stages::stage_faults;

@@ -35,7 +35,7 @@ pub use Rattle.bag_facts.proofs.Mapped.{contains_mapped, kept, mapped_contains, 
 pub use Rattle.bag_facts.proofs.Ordered.{fault_cmp_same, fault_cmp_total}
 pub use Rattle.bag_facts.specs.Facts.{IsByV10, rules_in}
 pub use Rattle.bag_facts.specs.FactsOfBag.{IsByV097, IsFactsOf, IsSaidOfTagFile, IfBagRead}
-pub use Rattle.bag_facts.specs.FaultAt.{of_line, of_path}
+pub use Rattle.bag_facts.specs.FaultAt.{of_bag, of_line, of_path}
 pub use Rattle.bag_facts.specs.FaultOrder.{fault_cmp}
 pub use Rattle.bag_facts.specs.TagFacts.{AreByPath, AreEntriesOf, IsDeclarationOf, IsFetchListOf, IsManifestNamed}
 pub use Rattle.bag_facts.specs.TagFacts.{IsMetadataOf, IsReadOf, SaysOfTagFile, entry_paths, name_of, path_of}
@@ -111,8 +111,9 @@ pub use Rattle.bag_stages.specs.CompletenessFaults.{missing_code, IsSoughtInStag
 pub use Rattle.bag_stages.specs.Laws.{FaultsAreListed, FaultsAreOfStage, NamesByKind}
 pub use Rattle.bag_stages.specs.CompletenessStage.{IsOfCompleteness, IsPayloadFile, IsPayloadName}
 pub use Rattle.bag_stages.specs.DeclarationStage.{InDeclaration, IsOfDeclaration}
+pub use Rattle.bag_stages.specs.Expected.{Expected}
 pub use Rattle.bag_stages.specs.FaultFields.{At, InFile, in_line}
-pub use Rattle.bag_stages.specs.FaultPlaces.{in_file, of_bag}
+pub use Rattle.bag_stages.specs.FaultPlaces.{in_file}
 pub use Rattle.bag_stages.specs.FetchFaults.{AreByLine, AreFetched, IsNamedByNone, IsNamedByNoneAmong}
 pub use Rattle.bag_stages.specs.FetchFaults.{IsFetchLeftOutByAll, IsFetchLeftOutByOne, IsFetchLeftOutBySome, IsNotNamed}
 pub use Rattle.bag_stages.specs.FetchFaults.{IsNotNamedAmong, not_in_manifest}
@@ -132,7 +133,8 @@ pub use Rattle.bag_stages.specs.MetadataStage.{bag_info_txt}
 pub use Rattle.bag_stages.specs.Names.{IsNameOf, texts_of}
 pub use Rattle.bag_stages.specs.OxumFaults.{again, differs, first_faults, is_oxum, no_oxum, of_element, oxum_faults}
 pub use Rattle.bag_stages.specs.OxumFaults.{oxums, same_oxum, reported_faults}
-pub use Rattle.bag_stages.specs.Payload.{oxum, oxum_of_files, oxum_text}
+pub use Rattle.bag_read.specs.Oxum.{oxum_text}
+pub use Rattle.bag_stages.specs.Payload.{oxum, oxum_of_files}
 pub use Rattle.bag_stages.specs.PayloadNamed.{RestStartsAfter, IsExact, IsNamedExactly, IsPayloadNotFirst}
 pub use Rattle.bag_stages.specs.PayloadNamed.{payload_paths}
 pub use Rattle.bag_stages.specs.PayloadSize.{listed_oxum, payload_entries}
@@ -143,4 +145,3 @@ pub use Rattle.bag_stages.specs.TagFiles.{HasManifest, HasNoText, HasSupported, 
 pub use Rattle.bag_stages.specs.TagFiles.{lines_or_none, manifest_of, named_in}
 pub use Rattle.bag_stages.specs.ValidityStage.{Differs, IsEntryIn, IsOfValidity}
 pub use Rattle.bag_stages.specs.ValidityStage.{expected_and_found}
-pub use Rattle.bag_stages.specs.declared.expected.Expected.{Expected}

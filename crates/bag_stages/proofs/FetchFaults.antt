@@ -10,7 +10,8 @@ use Rattle.bag_stages.proofs.Common.{IsManifestNamed, IsReadOf, Manifest, in_fil
 use Rattle.bag_stages.proofs.Common.{IsNotNamedAmong, IsFetchLeftOutByAll, IsFetchLeftOutByOne, IsFetchLeftOutBySome}
 use Rattle.bag_stages.proofs.Common.{not_in_manifest, fetch_txt, FaultsAreOfStage, HasFetch, IsLeftOut}
 use Rattle.bag_stages.proofs.Common.{IsLeftOutByOne, lines_or_none, manifest_of}
-use Rattle.bag_read.proofs.FetchLine.{IsReasonCode, reason_code}
+use Rattle.bag_text.specs.declared.rules.Rules.{Rules}
+use Rattle.bag_read.proofs.FetchLine.{IsReasonCode, reason_code, unread_line}
 use Rattle.bag_facts.specs.declared.tag_facts.FetchList.{FetchList}
 use Rattle.bag_stages.specs.FetchFaults.{IsFetchLeftOut}
 use Rattle.bag_stages.specs.FetchStage.{FetchHolds, IsOfFetch}
@@ -22,11 +23,17 @@ use Rattle.bag_stages.proofs.LeftOut.{by_all, by_one, left_out_by, not_both}
 use Rattle.bag_stages.proofs.ReadManifest.{by_path, entry_names, is_absent, is_there, names_entry, of_alg}
 use Rattle.bag_stages.proofs.Sorted.{sorted_together}
 
+-- the reasons why a line doesn't read are of the fourth stage
+fourth : (rules : Rules) (c : Code) → IsReasonCode rules c → stage c ≡ 4
+fourth rules c is = grind arith
+
 -- what is wrong with a text is found at the fourth stage
 text_stage : (bag : Bag) (c : Code) (bytes : List ℕ) (x : LineFault) → is_utf8 bytes ≡ true
     → FetchFault (rules_in bag) c bytes x → stage c ≡ 4
 text_stage bag NotUtf8 bytes x text h = let clash : true ≡ false = sym text ∙ h.2 in cc
-text_stage bag c bytes x text h = grind (arith, reason_code, rules_in)
+text_stage bag c bytes x text h =
+    let unread = unread_line (rules_in bag) c bytes x (λ same. cc) h in
+    fourth (rules_in bag) c (reason_code (rules_in bag) unread.0 (c, x.detail) unread.2.1)
 
 pub line_tells : (bag : Bag) (bytes : List ℕ) (x : LineFault) → IsFetchFault (rules_in bag) bytes x
     → (stage x.code ≡ 4) ↔ (is_utf8 bytes ≡ true)
@@ -37,7 +44,9 @@ line_tells bag bytes x h =
 line_code : (bag : Bag) (c : Code) (bytes : List ℕ) (x : LineFault) → stage c ≡ 4 → FetchFault (rules_in bag) c bytes x
     → IsReasonCode (rules_in bag) c
 line_code bag NotUtf8 bytes x s h = absurd (omega (arith, s))
-line_code bag c bytes x s h = reason_code (rules_in bag) h.0 (c, x.detail) h.2.1
+line_code bag c bytes x s h =
+    let unread = unread_line (rules_in bag) c bytes x (λ same. cc) h in
+    reason_code (rules_in bag) unread.0 (c, x.detail) unread.2.1
 
 -- what the codes of the stage say
 module _ (bag : Bag) (f : Fault) where

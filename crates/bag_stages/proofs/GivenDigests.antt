@@ -1,7 +1,7 @@
 -- A digest that a manifest gives has no more bytes than the longest one has.
 use Rattle.bag_stages.proofs.Common.{◌≡◌, ◌≤◌, ℕ, List, length, take, ap, arith, length-map, take_all, encode_lower}
 use Rattle.bag_stages.proofs.Common.{lower_digits, hex_len, Alg, Md5, Kind, ManifestEntry, lines_read, Bag, rules_in}
-use Rattle.bag_stages.proofs.Common.{IsEntryIn}
+use Rattle.bag_stages.proofs.Common.{sym, Expected, IsEntryIn, IsSpelledBy}
 use Rattle.std.specs.Char.{to_ascii_lowercase}
 use Rattle.hex.proofs.HexLemmas.{length-encode_with}
 
@@ -16,6 +16,11 @@ module _ (bag : Bag) (kind : Kind) (alg : Alg) (entry : ManifestEntry) (listed :
       omega (arith, ap length read.in_lower_case, length-map read.hex to_ascii_lowercase, read.hex_length, at_most alg)
 
   -- so the first of them are all
-  pub all_bytes : (bytes : List ℕ) → encode_lower bytes ≡ entry.digest → take 64 bytes ≡ bytes
+  all_bytes : (bytes : List ℕ) → encode_lower bytes ≡ entry.digest → take 255 bytes ≡ bytes
   all_bytes bytes is =
-      take_all 64 bytes (omega (arith, ap length is, length-encode_with lower_digits bytes, short_text))
+      take_all 255 bytes (omega (arith, ap length is, length-encode_with lower_digits bytes, short_text))
+
+pub spelled_bytes : (bag : Bag) (path : List ℕ) (kind : Kind) (one : Expected) → IsSpelledBy bag path kind one
+    → take 255 one.digest ≡ one.digest
+spelled_bytes bag path kind one spelled =
+    all_bytes bag kind one.alg spelled.entry spelled.listed one.digest (sym spelled.digest_is)

@@ -10,6 +10,9 @@ use Rattle.bag_stages.proofs.Common.{file_listed, listed_file, unnamed, IsAskedU
 use Rattle.bag_stages.proofs.Common.{IsUnlistedManifest, IsLineFault, IsOfManifest, InManifest}
 use Rattle.bag_stages.proofs.Common.{FaultsAreOfStage, in_file, in_line, manifest_of, HasManifest}
 use Rattle.bag_stages.proofs.Common.{HasSupported, Names, IsEntryIn}
+use Rattle.bag_text.specs.declared.code.Code.TheVariants.{DigestLength, ManifestEscape, ManifestLine, NamedAgain}
+use Rattle.bag_text.specs.declared.code.Code.TheVariants.{ManifestOutsidePayload, ManifestUnsafePath}
+use Rattle.bag_text.specs.declared.code.Code.TheVariants.{TagmanifestNamesPayload, TagmanifestNamesTagmanifest}
 use Rattle.bag_read.specs.declared.tag_name.TagName.TheVariants as tag_name
 use Rattle.bag_read.proofs.ManifestCodes.{IsManifestCode, manifest_fault_code, manifest_fault_stage}
 use Rattle.bag_read.proofs.ManifestCodes.{manifest_fault_line}
@@ -135,17 +138,28 @@ module _ (bag : Bag) (f : Fault) where
   unfolding IsOfManifests ManifestHolds
   of_manifest_is Payload alg (inl h) = absurd h
   of_manifest_is Tag alg (inl (by, code, (other, at, has, there, lacks))) =
-      subst (ManifestHolds bag f) (sym code) (by, alg, other, at, has, there, lacks)
+      subst (ManifestHolds bag f) (sym code) (alg, other, at, by, has, there, lacks)
   of_manifest_is kind alg (inr h) = line_row f.code (line_code kind alg h) (kind, alg, h.0)
 
   abbrev pub IsOfSome : Type 0
   IsOfSome = (kind : Kind) × ((alg : Alg) × IsOfManifest bag kind alg f)
 
+  of_line : (c : Code) → f.code ≡ c → stage c ≡ 5 → InManifest bag f → IsOfSome
+  of_line c e five (kind, alg, wrong) = (kind, (alg, inr (wrong, ap stage e ∙ five)))
+
   some_of_holds : (c : Code) → f.code ≡ c → ManifestHolds bag f c → IsOfSome
   unfolding ManifestHolds
-  some_of_holds PayloadManifestNotListed e (by, alg, other, at, has, there, lacks) =
+  some_of_holds PayloadManifestNotListed e (alg, other, at, by, has, there, lacks) =
       (Tag, (alg, inl (by, e, (other, at, has, there, lacks))))
-  some_of_holds c e h = grind arith
+  some_of_holds ManifestLine e h = of_line ManifestLine e refl h
+  some_of_holds DigestLength e h = of_line DigestLength e refl h
+  some_of_holds ManifestEscape e h = of_line ManifestEscape e refl h
+  some_of_holds ManifestUnsafePath e h = of_line ManifestUnsafePath e refl h
+  some_of_holds ManifestOutsidePayload e h = of_line ManifestOutsidePayload e refl h
+  some_of_holds TagmanifestNamesPayload e h = of_line TagmanifestNamesPayload e refl h
+  some_of_holds TagmanifestNamesTagmanifest e h = of_line TagmanifestNamesTagmanifest e refl h
+  some_of_holds NamedAgain e h = of_line NamedAgain e refl h
+  some_of_holds other e h = absurd h
 
   pub of_some : IsOfManifests bag f → IsOfSome
   unfolding IsOfManifests

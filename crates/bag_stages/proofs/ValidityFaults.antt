@@ -39,7 +39,7 @@ module _ (bag : Bag) (f : Fault) where
   holds_stage c h = grind arith
 
   from_fields : (kind : Kind) → f.code ≡ differing_code kind → Differs bag f kind → IsOfSomeEntry bag f
-  from_fields kind e (alg, entry, content, listed, there, differ, at) = grind (arith, made_of)
+  from_fields kind e (alg, entry, content, at, listed, there, differ) = grind (arith, made_of)
 
   of_holds : (c : Code) → f.code ≡ c → ValidityHolds bag f c → IsOfSomeEntry bag f
   unfolding ValidityHolds

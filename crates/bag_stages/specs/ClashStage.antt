@@ -1,6 +1,7 @@
 -- The faults of names that differ by normal form alone, and what they leave.
-use Rattle.std.specs.Prelude.{ℕ, ◌≡◌, ◌++◌, Bool, true, List, map}
+use Rattle.std.specs.Prelude.{◌≡◌, ◌++◌, Bool, true, List, map}
 use Rattle.std.specs.List.Sorted.{IsPermutation}
+use Rattle.bag_text.specs.Bytes.{Path}
 use Rattle.bag_text.specs.Order.{IsListOf}
 use Rattle.bag_text.specs.Text.{text_cmp}
 use Rattle.bag_text.specs.declared.code.Code.TheVariants.{NameClash}
@@ -22,7 +23,7 @@ IsSoughtClash clashes bag f = IsClashFault bag f × (clashes ≡ true)
 -- none twice
 abbrev pub ClashesAndLeastsAreAllNames : Type 0
 ClashesAndLeastsAreAllNames =
-    (bag : Bag) (names leasts : List (List ℕ)) (faults : List Fault)
+    (bag : Bag) (names leasts : List Path) (faults : List Fault)
     → IsListOf text_cmp (IsPayloadName bag) names
     → IsListOf text_cmp (IsLeast (IsPayloadName bag)) leasts
     → IsListOf fault_cmp (IsClashFault bag) faults

@@ -2,6 +2,7 @@
 use Rattle.std.specs.Prelude.{ℕ, ◌≡◌, ◌↔◌, ◌⊎◌, true, List, [], Option, None, Some, Contains, Bool}
 use Rattle.std.specs.List.{IsDistinct}
 use Rattle.std.specs.Ordering.{eq_by_cmp}
+use Rattle.bag_text.specs.Bytes.{Path}
 use Rattle.bag_text.specs.Path.{is_payload_path}
 use Rattle.bag_text.specs.declared.alg.Alg.{Alg}
 use Rattle.bag_text.specs.declared.code.Code.{Code}
@@ -30,11 +31,11 @@ pub record HasEachOnce (IsMember : Fault → Type 0) (faults : List Fault) : Typ
 
 -- the fault of a path of which this holds, by the manifest of an algorithm, or by all where no
 -- algorithm is given
-abbrev pub IsOfPath : Code → Option Alg → (List ℕ → Type 0) → Fault → Type 0
+abbrev pub IsOfPath : Code → Option Alg → (Path → Type 0) → Fault → Type 0
 IsOfPath code alg IsWrong f = (f ≡ of_path code f.path alg []) × IsWrong f.path
 
 -- that fault of such a path among these
-abbrev pub IsOfPathAmong : Code → Option Alg → (List ℕ → Type 0) → List (List ℕ) → Fault → Type 0
+abbrev pub IsOfPathAmong : Code → Option Alg → (Path → Type 0) → List Path → Fault → Type 0
 IsOfPathAmong code alg IsWrong paths f = Contains paths f.path × IsOfPath code alg IsWrong f
 
 -- what a file is that a manifest of a kind names, and that isn't there
@@ -88,7 +89,7 @@ IsFileNamedByNone bag =
     IsOfPath PayloadFileNotListed None (λ path. IsPayloadFile bag path × ¬ (IsNamedBySome bag path))
 
 -- the path of a payload file, and no payload manifest names it
-abbrev pub IsPathNamedByNone : Bag → List ℕ → Type 0
+abbrev pub IsPathNamedByNone : Bag → Path → Type 0
 IsPathNamedByNone bag path = (is_payload_path path ≡ true) × ¬ (IsNamedBySome bag path)
 
 -- the payload manifest of an algorithm is wrong about a file, one way or the other
@@ -100,7 +101,7 @@ abbrev pub IsWrongOfSome : Bag → Fault → Type 0
 IsWrongOfSome bag f = (alg : Alg) × IsWrong bag alg f
 
 -- the path of a payload file, and none of these entries has it
-abbrev pub IsPathLeftOutOf : List ManifestEntry → List ℕ → Type 0
+abbrev pub IsPathLeftOutOf : List ManifestEntry → Path → Type 0
 IsPathLeftOutOf entries path =
     (is_payload_path path ≡ true) × ¬ (Contains (entry_paths entries) path)
 

@@ -10,19 +10,22 @@ use Rattle.bag_stages.specs.TagFiles.{bagit_txt}
 
 -- what a code says of a bag and the other fields of the fault
 module _ (bag : Bag) (f : Fault) where
-  -- this is wrong with the declaration
+  -- bagit.txt is there, and wrong as `DeclarationFault` says of the code
   abbrev pub InDeclaration : Type 0
   InDeclaration = InFile bag f bagit_txt None IsDeclarationFault
 
   unfoldable pub DeclarationHolds : Code → Type 0
-  -- bagit.txt isn't there
+  -- there is no bagit.txt
   DeclarationHolds code.NoDeclaration = At f bagit_txt None 0 [] × LacksFile bag bagit_txt
-  -- its bytes
+  -- its bytes aren't UTF-8, or begin with a byte order mark
   DeclarationHolds code.DeclarationNotUtf8 = InDeclaration
+  -- it hasn't two lines
   DeclarationHolds code.DeclarationLineCount = InDeclaration
-  -- its two lines
+  -- line 1 declares no version, or line 2 no encoding
   DeclarationHolds code.DeclarationLine = InDeclaration
+  -- line 1 declares a version that isn't known
   DeclarationHolds code.VersionUnsupported = InDeclaration
+  -- line 2 declares another encoding than UTF-8
   DeclarationHolds code.EncodingUnsupported = InDeclaration
   -- codes of other stages
   DeclarationHolds other = ⊥

@@ -1,7 +1,8 @@
 -- The files to fetch that payload manifests leave out: one manifest at a time, and all at once.
-use Rattle.std.specs.Prelude.{ℕ, ◌≡◌, ◌⊎◌, List, Option, None, Some, Contains}
+use Rattle.std.specs.Prelude.{◌≡◌, ◌⊎◌, List, Option, None, Some, Contains}
 use Rattle.std.specs.List.Sorted.{IsStrictlySortedBy}
 use Rattle.std.specs.Ordering.{nat_cmp, on}
+use Rattle.bag_text.specs.Bytes.{Path}
 use Rattle.bag_text.specs.Order.{IsListOf}
 use Rattle.bag_text.specs.declared.alg.Alg.{Alg}
 use Rattle.bag_text.specs.declared.code.Code.TheVariants.{FetchNotInManifest}
@@ -26,16 +27,16 @@ abbrev pub AreFetched : Bag → List FetchEntry → Type 0
 AreFetched bag entries = IsListOf (on (λ e. e.line) nat_cmp) (HasFetch bag) entries
 
 -- the fault that payload manifests leave a file to fetch out; with an algorithm, its manifest does
-abbrev pub not_in_manifest : List ℕ → Option Alg → FetchEntry → Fault
+abbrev pub not_in_manifest : Path → Option Alg → FetchEntry → Fault
 not_in_manifest path alg e = of_line FetchNotInManifest path alg e.line e.path
 
 -- that fault of a file that is at the path of none of the manifest's entries
-abbrev pub IsNotNamed : List ℕ → Alg → List ManifestEntry → FetchEntry → Fault → Type 0
+abbrev pub IsNotNamed : Path → Alg → List ManifestEntry → FetchEntry → Fault → Type 0
 IsNotNamed path alg named e f =
     (f ≡ not_in_manifest path (Some alg) e) × ¬ (Contains (entry_paths named) e.path)
 
 -- that fault of a file among these
-abbrev pub IsNotNamedAmong : List ℕ → Alg → List ManifestEntry → List FetchEntry → Fault → Type 0
+abbrev pub IsNotNamedAmong : Path → Alg → List ManifestEntry → List FetchEntry → Fault → Type 0
 IsNotNamedAmong path alg named entries f =
     (e : FetchEntry) × Contains entries e × IsNotNamed path alg named e f
 
@@ -51,11 +52,11 @@ abbrev pub IsFetchLeftOutBySome : Bag → Fault → Type 0
 IsFetchLeftOutBySome bag f = (alg : Alg) × IsFetchLeftOutByOne bag alg f
 
 -- that fault of a file that no payload manifest names
-abbrev pub IsNamedByNone : Bag → List ℕ → FetchEntry → Fault → Type 0
+abbrev pub IsNamedByNone : Bag → Path → FetchEntry → Fault → Type 0
 IsNamedByNone bag path e f = (f ≡ not_in_manifest path None e) × ¬ (IsNamedBySome bag e.path)
 
 -- that fault of a file among these
-abbrev pub IsNamedByNoneAmong : Bag → List ℕ → List FetchEntry → Fault → Type 0
+abbrev pub IsNamedByNoneAmong : Bag → Path → List FetchEntry → Fault → Type 0
 IsNamedByNoneAmong bag path entries f =
     (e : FetchEntry) × Contains entries e × IsNamedByNone bag path e f
 

@@ -1,5 +1,6 @@
 -- What a search of the facts of a bag finds.
-use Rattle.std.specs.Prelude.{ℕ, ◌≡◌, List}
+use Rattle.std.specs.Prelude.{◌≡◌, List}
+use Rattle.bag_text.specs.Bytes.{Path}
 use Rattle.bag_text.specs.Order.{IsListOf}
 use Rattle.bag_tree.specs.Bag.{Bag}
 use Rattle.bag_read.specs.declared.fetch.FetchEntry.{FetchEntry}
@@ -22,6 +23,6 @@ AreEachOnceOf facts IsSo faults = IfBagRead facts (λ bag. HasEachOnce (IsSo bag
 
 -- exactly these faults of the files to fetch, of which the list is at the path
 abbrev pub AreFetchFaultsOf :
-    Facts → List ℕ → List FetchEntry → (Bag → Fault → Type 0) → List Fault → Type 0
+    Facts → Path → List FetchEntry → (Bag → Fault → Type 0) → List Fault → Type 0
 AreFetchFaultsOf facts path entries IsSo faults = IfBagRead facts (λ bag.
     path ≡ fetch_txt → AreFetched bag entries → IsListOf fault_cmp (IsSo bag) faults)

@@ -1,5 +1,6 @@
 -- Laws of the stages: the faults of each are of it, and each bag has a list of them.
 use Rattle.std.specs.Prelude.{◌≡◌, ℕ, List}
+use Rattle.bag_text.specs.Bytes.{Path}
 use Rattle.bag_text.specs.Code.{stage}
 use Rattle.bag_tree.specs.Bag.{Bag}
 use Rattle.bag_facts.specs.declared.fault.Fault.{Fault}
@@ -12,7 +13,7 @@ use Rattle.bag_stages.specs.Given.{kind_of}
 
 -- the law: only manifests of this kind name a path
 abbrev pub NamesByKind : Type 0
-NamesByKind = (bag : Bag) (kind : Kind) (alg : Alg) (path : List ℕ) → Names bag kind alg path
+NamesByKind = (bag : Bag) (kind : Kind) (alg : Alg) (path : Path) → Names bag kind alg path
     → kind ≡ kind_of path
 
 -- the law: to be of one class is an equivalence

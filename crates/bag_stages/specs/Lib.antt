@@ -4,6 +4,7 @@ pub mod Clashes
 pub mod CompletenessFaults
 pub mod CompletenessStage
 pub mod DeclarationStage
+pub mod Expected
 pub mod FaultFields
 pub mod FaultPlaces
 pub mod FetchFaults

@@ -1,5 +1,6 @@
 -- The faults of manifests, one manifest at a time.
 use Rattle.std.specs.Prelude.{ℕ, ◌≡◌, ◌⊎◌, true, List, Some, Contains}
+use Rattle.bag_text.specs.Bytes.{Path}
 use Rattle.bag_text.specs.Code.{stage}
 use Rattle.bag_text.specs.declared.alg.Alg.{Alg}
 use Rattle.bag_text.specs.declared.code.Code.TheVariants.{PayloadManifestNotListed}
@@ -17,27 +18,27 @@ use Rattle.bag_stages.specs.FaultFields.{At, InFile}
 use Rattle.bag_stages.specs.TagFiles.{manifest_of, HasManifest, HasSupported, Names}
 
 -- the fault that the tag manifest at a path doesn't name a payload manifest
-abbrev pub unnamed : List ℕ → Alg → List ℕ → Fault
+abbrev pub unnamed : Path → Alg → Path → Fault
 unnamed path alg file = of_path PayloadManifestNotListed path (Some alg) file
 
 -- a payload manifest, of any algorithm's name, that is at no entry's path
-abbrev pub IsManifestUnnamed : List ManifestEntry → List ℕ → Type 0
+abbrev pub IsManifestUnnamed : List ManifestEntry → Path → Type 0
 IsManifestUnnamed entries file =
     ((other : List ℕ) × (is_alg_text other ≡ true) × (file ≡ manifest_name Payload other))
     × ¬ (Contains (entry_paths entries) file)
 
 -- that fault of a payload manifest that is at no entry's path
-abbrev pub IsUnnamedFault : List ℕ → Alg → List ManifestEntry → Fault → Type 0
+abbrev pub IsUnnamedFault : Path → Alg → List ManifestEntry → Fault → Type 0
 IsUnnamedFault path alg entries f =
     (f ≡ unnamed path alg f.detail) × IsManifestUnnamed entries f.detail
 
 -- that fault of a file among these
-abbrev pub IsUnnamedAmong : List ℕ → Alg → List ManifestEntry → List (List ℕ) → Fault → Type 0
+abbrev pub IsUnnamedAmong : Path → Alg → List ManifestEntry → List Path → Fault → Type 0
 IsUnnamedAmong path alg entries files f =
     Contains files f.detail × IsUnnamedFault path alg entries f
 
 -- those faults that the bag's rules ask for: those of 0.97 ask for no name
-abbrev pub IsAskedUnnamed : Bag → List ℕ → Alg → List ManifestEntry → List (List ℕ) → Fault → Type 0
+abbrev pub IsAskedUnnamed : Bag → Path → Alg → List ManifestEntry → List Path → Fault → Type 0
 IsAskedUnnamed bag path alg entries files f = IsByV10 bag × IsUnnamedAmong path alg entries files f
 
 -- a tag manifest names the payload manifests that are there, by the rules of 1.0 alone, and a

@@ -16,29 +16,35 @@ use Rattle.bag_stages.specs.TagFiles.{manifest_of, HasManifest, HasSupported, Na
 
 -- what a code says of a bag and the other fields of the fault
 module _ (bag : Bag) (f : Fault) where
-  -- this is wrong with a line of a manifest
+  -- a line of a manifest is wrong as `ManifestFault` says of the code
   abbrev pub InManifest : Type 0
   InManifest =
       (kind : Kind) × (alg : Alg)
       × InFile bag f (manifest_of kind alg) (Some alg) (IsManifestFault (rules_in bag) kind alg)
 
   unfoldable pub ManifestHolds : Code → Type 0
-  -- the form of a line (2.1.3)
+  -- it isn't a digest in hex, blanks and a path (2.1.3)
   ManifestHolds code.ManifestLine = InManifest
+  -- its digest hasn't the length of the algorithm's
   ManifestHolds code.DigestLength = InManifest
+  -- its path is spelled with a bad escape
   ManifestHolds code.ManifestEscape = InManifest
-  -- the path in it (2.1.3 and 2.2.1)
+  -- what is spelled isn't a path
   ManifestHolds code.ManifestUnsafePath = InManifest
+  -- a payload manifest's isn't the path of a payload file
   ManifestHolds code.ManifestOutsidePayload = InManifest
+  -- a tag manifest's is the path of a payload file (2.2.1)
   ManifestHolds code.TagmanifestNamesPayload = InManifest
+  -- or it has the form of a tag manifest's name
   ManifestHolds code.TagmanifestNamesTagmanifest = InManifest
+  -- it reads, and a line before it names the same path
   ManifestHolds code.NamedAgain = InManifest
-  -- a tag manifest names the payload manifests that are there (2.2.1); the rules of 0.97 don't ask
-  -- it
+  -- a tag manifest doesn't name a payload manifest that is there (2.2.1), which the rules of 0.97
+  -- allow
   ManifestHolds code.PayloadManifestNotListed =
-      IsByV10 bag × (alg : Alg) × (other : List ℕ)
+      (alg : Alg) × (other : List ℕ)
       × At f (manifest_of Tag alg) (Some alg) 0 (manifest_name Payload other)
-      × HasSupported bag Tag alg × HasManifest bag Payload other
+      × IsByV10 bag × HasSupported bag Tag alg × HasManifest bag Payload other
       × ¬ (Names bag Tag alg (manifest_name Payload other))
   -- codes of other stages
   ManifestHolds other = ⊥

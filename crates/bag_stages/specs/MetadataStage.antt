@@ -1,16 +1,17 @@
 -- Stage 3: what is a fault of the metadata and of its Payload-Oxum (RFC 8493, 2.2.2).
 use Rattle.std.specs.Prelude.{ℕ, ◌≡◌, ◌≢◌, ◌++◌, List, [], None, Some, codes, ◌<◌, ◌≤◌, true}
+use Rattle.bag_text.specs.Bytes.{Path}
 use Rattle.bag_text.specs.declared.code.Code.{Code}
 use Rattle.bag_text.specs.declared.code.Code.TheVariants as code
 use Rattle.bag_read.specs.Info.{IsInfoFault, IsElement}
-use Rattle.bag_read.specs.Oxum.{oxum_of}
+use Rattle.bag_read.specs.Oxum.{oxum_of, oxum_text}
 use Rattle.bag_read.specs.declared.info.Element.{Element}
 use Rattle.bag_read.specs.declared.oxum.Oxum.{Oxum}
 use Rattle.bag_tree.specs.Bag.{Bag}
 use Rattle.bag_facts.specs.declared.fault.Fault.{Fault}
 use Rattle.bag_facts.specs.Facts.{rules_in}
 use Rattle.bag_stages.specs.FaultFields.{At, InFile}
-use Rattle.bag_stages.specs.Payload.{oxum, oxum_text}
+use Rattle.bag_stages.specs.Payload.{oxum}
 use Rattle.bag_text.specs.Text.{same_label}
 use Rattle.bag_read.specs.ManifestName.{tag_path}
 use Rattle.bag_read.specs.declared.tag_name.TagName.TheVariants.{Info}
@@ -24,7 +25,7 @@ oxum_label = codes "Payload-Oxum"
 abbrev pub pair : List ℕ → List ℕ → List ℕ
 pair a b = a ++ codes ":" ++ b
 
-abbrev pub bag_info_txt : List ℕ
+abbrev pub bag_info_txt : Path
 bag_info_txt = tag_path Info
 
 -- the elements of bag-info.txt that have a label, whatever its case: each, the first, and each

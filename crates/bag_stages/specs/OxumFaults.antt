@@ -1,17 +1,17 @@
 -- The faults of the elements of the label Payload-Oxum (RFC 8493, 2.2.2), of the payload's size.
 use Rattle.std.specs.Prelude.{ℕ, ◌==◌, ◌&&◌, Bool, List, [], ◌∷◌, ◌++◌, Option, None, Some, map}
 use Rattle.std.specs.Prelude.{filter, if◌then◌else◌}
+use Rattle.bag_text.specs.Bytes.{Path}
 use Rattle.bag_text.specs.Text.{same_label}
 use Rattle.bag_text.specs.declared.code.Code.{Code}
 use Rattle.bag_text.specs.declared.code.Code.TheVariants.{OxumMalformed, OxumAgain, OxumDiffers}
 use Rattle.bag_text.specs.declared.code.Code.TheVariants.{NoOxum}
-use Rattle.bag_read.specs.Oxum.{oxum_of}
+use Rattle.bag_read.specs.Oxum.{oxum_of, oxum_text}
 use Rattle.bag_read.specs.declared.info.Element.{Element}
 use Rattle.bag_read.specs.declared.oxum.Oxum.{Oxum}
 use Rattle.bag_facts.specs.FaultAt.{of_line, of_path}
 use Rattle.bag_facts.specs.declared.fault.Fault.{Fault}
 use Rattle.bag_stages.specs.MetadataStage.{oxum_label, pair}
-use Rattle.bag_stages.specs.Payload.{oxum_text}
 
 abbrev pub is_oxum : Element → Bool
 is_oxum e = same_label e.label oxum_label
@@ -23,7 +23,7 @@ oxums elements = filter is_oxum elements
 abbrev pub same_oxum : Oxum → Oxum → Bool
 same_oxum a b = a.octets == b.octets && a.streams == b.streams
 
-module _ (path : List ℕ) where
+module _ (path : Path) where
   -- a fault of an element
   abbrev pub of_element : Code → Element → List ℕ → Fault
   of_element code e detail = of_line code path None e.line detail

@@ -8,7 +8,7 @@ use Rattle.bag_read.specs.declared.kind.Kind.{Kind}
 use Rattle.bag_read.specs.declared.kind.Kind.TheVariants.{Payload}
 use Rattle.bag_tree.specs.Bag.{Bag, has_folder}
 use Rattle.bag_facts.specs.declared.fault.Fault.{Fault}
-use Rattle.bag_stages.specs.FaultFields.{At}
+use Rattle.bag_stages.specs.FaultFields.{At, AtPath}
 use Rattle.bag_stages.specs.TagFiles.{HasManifest, HasNoText}
 
 -- what a code says of a bag and the other fields of the fault
@@ -24,7 +24,7 @@ module _ (bag : Bag) (f : Fault) where
       (kind : Kind) × (alg : List ℕ) × At f (manifest_name kind alg) None 0 alg
       × HasManifest bag kind alg × (alg_named alg ≡ None)
   -- a tag file that isn't UTF-8, but for the declaration (2.3)
-  PartHolds code.NotUtf8 = At f f.path None 0 [] × HasNoText bag f.path
+  PartHolds code.NotUtf8 = AtPath f None [] × HasNoText bag f.path
   -- codes of other stages
   PartHolds other = ⊥
 

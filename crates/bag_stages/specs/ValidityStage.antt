@@ -1,6 +1,7 @@
 -- Stage 7: what keeps a complete bag from being valid (RFC 8493, 3): files whose digests aren't
 -- those that manifests give.
 use Rattle.std.specs.Prelude.{ℕ, ◌≡◌, ◌≢◌, ◌++◌, List, Some, codes}
+use Rattle.bag_text.specs.Bytes.{Digest}
 use Rattle.bag_text.specs.declared.alg.Alg.{Alg}
 use Rattle.bag_text.specs.declared.code.Code.{Code}
 use Rattle.bag_text.specs.declared.code.Code.TheVariants.{PayloadSumDiffers, TagSumDiffers}
@@ -21,7 +22,7 @@ IsEntryIn bag kind alg entry =
     IsEntry (rules_in bag) kind alg (lines_in bag (manifest_of kind alg)) entry
 
 -- the digest that was expected, a colon, and the digest that was found
-abbrev pub expected_and_found : List ℕ → List ℕ → List ℕ
+abbrev pub expected_and_found : Digest → Digest → List ℕ
 expected_and_found expected found = expected ++ codes ":" ++ found
 
 -- what a code says of a bag and the other fields of the fault
@@ -30,9 +31,9 @@ module _ (bag : Bag) (f : Fault) where
   abbrev pub Differs : Kind → Type 0
   Differs kind =
       (alg : Alg) × (entry : ManifestEntry) × (content : List ℕ)
+      × At f entry.path (Some alg) 0 (expected_and_found entry.digest (digest alg content))
       × IsEntryIn bag kind alg entry × (file bag entry.path ≡ Some content)
       × (entry.digest ≢ digest alg content)
-      × At f entry.path (Some alg) 0 (expected_and_found entry.digest (digest alg content))
 
   unfoldable pub ValidityHolds : Code → Type 0
   ValidityHolds PayloadSumDiffers = Differs Payload

@@ -89,5 +89,6 @@ fn clash_fault(alloc: Global, name: &str, least: &str) -> Result<Fault, AllocErr
     ensures { IfOk result (λ fault. fault ≡ name_clash name.now least.now) }
 {
     let detail = Text::from_str(alloc, least)?;
-    Ok(Fault::of_path(Code::NameClash, Text::from_str(alloc, name)?, None, detail))
+    let path = Text::from_str(alloc, name)?;
+    Ok(Fault::new(alloc, Code::NameClash, path).with(detail))
 }

@@ -4,6 +4,7 @@ ghost use Rattle.bag_stages.specs.ClashStage.{IsSoughtClash};
 ghost use Rattle.bag_stages.specs.CompletenessFaults.{IsIncomplete, IsSoughtInStageSix};
 ghost use Rattle.bag_stages.specs.Found.{AreFaultsOf, AreEachOnceOf};
 
+use crate::appended::appended;
 use crate::clashes::clash_faults;
 use crate::left_out::left_out_by_all;
 use crate::missing::missing_tag_files;
@@ -17,10 +18,11 @@ pub fn completeness_faults(alloc: Global, facts: &Facts) -> Result<Vec<Fault>, A
     ensures { IfOk result (λ faults.
         AreFaultsOf facts.now (IsSoughtInStageSix facts.now.options.clashes) faults.items) }
 {
-    let mut faults = faults_of_files(alloc, facts)?;
-    let mut of_names = clashes_if_set(alloc, facts)?;
-    faults.append(&mut of_names)?;
-    faults.sort_unstable();
+    let of_files = faults_of_files(alloc, facts)?;
+    let of_names = clashes_if_set(alloc, facts)?;
+    let mut faults = appended(of_files, of_names)?;
+    // The lists one behind the other ascend each, and the sort merges such runs.
+    faults.sort()?;
     Ok(faults)
 }
 
@@ -29,21 +31,20 @@ pub fn completeness_faults(alloc: Global, facts: &Facts) -> Result<Vec<Fault>, A
 fn faults_of_files(alloc: Global, facts: &Facts) -> Result<Vec<Fault>, AllocError>
     ensures { IfOk result (λ faults. AreEachOnceOf facts.now IsIncomplete faults.items) }
 {
-    let mut faults = payload_faults(alloc, facts)?;
-    let mut of_tags = missing_tag_files(alloc, facts)?;
-    faults.append(&mut of_tags)?;
-    let mut of_all = left_out_by_all(alloc, facts)?;
-    faults.append(&mut of_all)?;
-    Ok(faults)
+    let of_payload = payload_faults(alloc, facts)?;
+    let of_tags = missing_tag_files(alloc, facts)?;
+    let of_manifests = appended(of_payload, of_tags)?;
+    let of_all = left_out_by_all(alloc, facts)?;
+    appended(of_manifests, of_all)
 }
 
 /// The clashes of names where the options ask for them, and else none, in the order of their paths.
 /// The facts are read for more than the declaration. Fails only where memory runs out.
-pub fn clashes_if_set(alloc: Global, facts: &Facts) -> Result<Vec<Fault>, AllocError>
+fn clashes_if_set(alloc: Global, facts: &Facts) -> Result<Vec<Fault>, AllocError>
     ensures { IfOk result (λ faults.
         AreFaultsOf facts.now (IsSoughtClash facts.now.options.clashes) faults.items) }
 {
-    let is_asked = facts.options.clashes;
+    let is_asked = facts.options().clashes;
     if is_asked {
         clash_faults(alloc, facts)
     } else {

@@ -6,7 +6,7 @@ ghost use Rattle.bag_facts.specs.FaultOrder.{fault_cmp};
 ghost use Rattle.bag_facts.specs.FactsOfBag.{IsFactsOf};
 ghost use Rattle.bag_stages.specs.DeclarationStage.{IsOfDeclaration};
 
-use crate::tag_file::{faults_in_file, whole_file};
+use crate::tag_file::faults_in_file;
 use bag_facts::{Facts, Fault};
 use bag_read::TagName;
 use bag_text::Code;
@@ -20,6 +20,6 @@ pub fn declaration_faults(alloc: Global, facts: &Facts) -> Result<Vec<Fault>, Al
     let path = TagName::Declaration.path(alloc)?;
     match facts.declaration() {
         Some(declaration) => faults_in_file(alloc, &path, None, declaration.faults.as_slice()),
-        None => Ok(vec![in alloc; whole_file(alloc, Code::NoDeclaration, &path, "")?]?),
+        None => Ok(vec![in alloc; Fault::new(alloc, Code::NoDeclaration, path)]?),
     }
 }

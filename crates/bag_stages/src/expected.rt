@@ -1,28 +1,23 @@
 //! What manifests give for a file.
 ghost use Rattle.std.specs.Prelude.{◌≡◌, ℕ, List, Some, IfOk, Contains, MatchOption, length, map};
+ghost use Rattle.std.specs.Prelude.{option_map};
 ghost use Rattle.std.specs.Option.{option_copied};
 ghost use Rattle.bag_text.specs.Order.{IsListOf};
 ghost use Rattle.bag_tree.specs.Bag.{file};
 ghost use Rattle.bag_facts.specs.FaultOrder.{fault_cmp};
 ghost use Rattle.bag_facts.specs.FactsOfBag.{IfBagRead};
 ghost use Rattle.bag_facts.specs.TagFacts.{entry_paths, AreByPath};
+ghost use Rattle.bag_stages.specs.Expected.{given};
 ghost use Rattle.bag_stages.specs.Given.{AreNaming, IsGivenBy, kind_of};
+ghost use Rattle.bag_stages.specs.Packed.{packed};
 ghost use Rattle.bag_stages.specs.SumFaults.{faults_of_bytes, IsFaultOfFile};
 
-use crate::{GivenDigest, Places};
+use crate::packed::push_packed;
+use crate::{Packed, Places};
 use bag_facts::Facts;
 use bag_read::{Kind, ManifestEntry};
-use bag_text::{Alg, Items, Text, is_payload};
+use bag_text::{Alg, Text, is_payload};
 use std::alloc::{AllocError, Global};
-
-/// The digest that a manifest gives for a file.
-#[derive(Debug, Drop)]
-pub struct Expected {
-    /// The algorithm of the manifest.
-    pub alg: Alg,
-    /// The bytes that it spells.
-    pub digest: GivenDigest,
-}
 
 /// The digests that manifests give for a file (RFC 8493, 2.1.3 and 2.2.1), in the order of their
 /// algorithms, of facts read for more than the declaration: none exactly where no manifest names
@@ -34,43 +29,44 @@ pub fn expected_of(
     facts: &Facts,
     path: &Text,
     places: &mut Places,
-) -> Result<Items<Expected>, AllocError>
+) -> Result<Packed, AllocError>
     ensures algs { IfOk result (λ expected.
         IfBagRead facts.now (λ bag. AreNaming bag path.now (map (λ one. one.alg) expected))) }
     ensures faults { IfOk result (λ expected.
         IfBagRead facts.now (λ bag. (content : List ℕ) → file bag path.now ≡ Some content
         → IsListOf fault_cmp (IsFaultOfFile bag path.now)
         (faults_of_bytes path.now content expected))) }
-    ensures count { IfOk result (λ expected. places.new.count ≡ length expected) }
+    ensures room { IfOk result (λ expected. places.new.room ≡ length (packed expected)) }
 {
     let kind = kind_of(path.as_str());
-    let mut expected = Vec::with_capacity(alloc, places.count)?;
+    let mut bytes = Vec::with_capacity(alloc, places.room)?;
     for alg in Alg::ALL {
-        let Some(one) = expected_by(facts, path, kind, alg, places.of(alg)) else {
+        let Some(digest) = digest_by(facts, path, kind, alg, places.of(alg)) else {
             continue;
         };
-        expected.push(one)?;
+        push_packed(&mut bytes, alg, digest)?;
     }
-    expected.shrink_to_fit();
-    places.count = expected.len();
-    Ok(Items::from_vec(expected))
+    bytes.shrink_to_fit();
+    places.room = bytes.len();
+    Ok(Packed::of(bytes))
 }
 
-/// The digest that the manifest of a kind and an algorithm gives for a file, where it names it.
-fn expected_by(
-    facts: &Facts,
+/// The bytes of the digest that the manifest of a kind and an algorithm gives for a file, where it
+/// names it.
+fn digest_by<'a>(
+    facts: &'a Facts,
     path: &Text,
     kind: Kind,
     alg: Alg,
     place: &mut usize,
-) -> Option<Expected>
-    ensures { IfBagRead facts.now (λ bag. IsGivenBy bag path.now kind alg result) }
+) -> Option<&'a [u8]>
+    ensures { IfBagRead facts.now (λ bag.
+        IsGivenBy bag path.now kind alg (option_map (λ digest. given alg digest.now) result)) }
 {
     let Some(entry) = entry_near(facts.entries(kind, alg), path, place) else {
         return None;
     };
-    let digest = GivenDigest::new(entry.digest.bytes());
-    Some(Expected { alg, digest })
+    Some(entry.digest.bytes())
 }
 
 /// The entry of a path among entries in the order of their paths. It is looked for at a place

@@ -159,6 +159,6 @@ fn left_out_fault(
     ensures { IfOk result (λ fault. fault ≡ not_in_manifest path.now alg entry.now) }
 {
     let detail = entry.path.copy(alloc)?;
-    let code = Code::FetchNotInManifest;
-    Ok(Fault::of_line(code, path.copy(alloc)?, alg, entry.line, detail))
+    let fault = Fault::about(alloc, Code::FetchNotInManifest, path)?;
+    Ok(fault.of(alg).at(entry.line).with(detail))
 }

@@ -16,7 +16,6 @@ ghost use Rattle.bag_stages.specs.CompletenessFaults.{IsV10LeftOutByOne};
 ghost use Rattle.bag_stages.specs.PayloadNamed.{IsNamedExactly};
 ghost use Rattle.bag_stages.specs.Found.{AreFaultsOf};
 
-use crate::file_fault::file_fault;
 use crate::named::is_named;
 use crate::payload_named::is_exact;
 use crate::seek::seek;
@@ -29,7 +28,11 @@ use std::alloc::{AllocError, Global};
 /// The faults that the payload manifest of an algorithm doesn't name payload files, where it is
 /// there, in the order of their paths; none by the rules of 0.97, which don't ask each manifest for
 /// each file. The facts are read for more than the declaration. Fails only where memory runs out.
-pub fn left_out_by_one(alloc: Global, facts: &Facts, alg: Alg) -> Result<Vec<Fault>, AllocError>
+pub(crate) fn left_out_by_one(
+    alloc: Global,
+    facts: &Facts,
+    alg: Alg,
+) -> Result<Vec<Fault>, AllocError>
     ensures { IfOk result (λ faults.
         AreFaultsOf facts.now (λ bag. IsV10LeftOutByOne bag alg) faults.items) }
 {
@@ -47,7 +50,7 @@ fn faults_of_one(alloc: Global, facts: &Facts, alg: Alg) -> Result<Vec<Fault>, A
     ensures { IfOk result (λ faults.
         AreFaultsOf facts.now (λ bag. IsFileLeftOutByOne bag alg) faults.items) }
 {
-    let files = facts.listing.files.as_slice();
+    let files = facts.files();
     match facts.manifest(Kind::Payload, alg) {
         Some(manifest) => left_out_of(alloc, files, manifest),
         None => Ok(Vec::new(alloc)),
@@ -72,7 +75,8 @@ fn left_out_of(
         rest = after;
         if is_left_out(&entry.path, is_named) {
             let code = Code::PayloadFileNotListed;
-            faults.push(file_fault(alloc, code, Some(manifest.alg), &entry.path)?)?;
+            let fault = Fault::about(alloc, code, &entry.path)?;
+            faults.push(fault.of(Some(manifest.alg)))?;
         }
     }
     Ok(faults)
@@ -89,7 +93,7 @@ fn is_left_out(path: &Text, is_named: bool) -> bool
 /// The faults that no payload manifest names payload files, where there is one, in the order of
 /// their paths: what the rules of 0.97 ask, and none by those of 1.0. The facts are read for more
 /// than the declaration. Fails only where memory runs out.
-pub fn left_out_by_all(alloc: Global, facts: &Facts) -> Result<Vec<Fault>, AllocError>
+pub(crate) fn left_out_by_all(alloc: Global, facts: &Facts) -> Result<Vec<Fault>, AllocError>
     ensures { IfOk result (λ faults. AreFaultsOf facts.now IsV097LeftOutByAll faults.items) }
 {
     let is_asked = facts.rules() == Rules::V097;
@@ -138,7 +142,7 @@ fn named_by_none_among(alloc: Global, facts: &Facts) -> Result<Vec<Fault>, Alloc
     for entry in facts.files() {
         if is_named_by_none(facts, &entry.path) {
             let code = Code::PayloadFileNotListed;
-            faults.push(file_fault(alloc, code, None, &entry.path)?)?;
+            faults.push(Fault::about(alloc, code, &entry.path)?)?;
         }
     }
     Ok(faults)

@@ -19,13 +19,12 @@
 //! exactly the expected ones, and of its digests the seventh stage's faults are found exactly.
 #![tactic(auto)]
 
+mod appended;
 mod clashes;
 mod completeness;
 mod declaration;
 mod expected;
 mod fetch;
-mod file_fault;
-mod given_digest;
 pub mod laws;
 mod left_out;
 mod manifests;
@@ -43,17 +42,13 @@ mod seek;
 mod sum_faults;
 mod tag_file;
 
-pub use completeness::{clashes_if_set, completeness_faults};
+pub use completeness::completeness_faults;
 pub use declaration::declaration_faults;
-pub use expected::{Expected, expected_of};
+pub use expected::expected_of;
 pub use fetch::fetch_faults;
-pub use given_digest::GivenDigest;
-pub use left_out::{left_out_by_all, left_out_by_one};
 pub use manifests::manifest_faults;
 pub use metadata::metadata_faults;
-pub use missing::missing_of;
 pub use packed::{Packed, Unpacking};
 pub use parts::parts_faults;
-pub use payload_named::is_exact;
 pub use places::Places;
 pub use sum_faults::faults_by;

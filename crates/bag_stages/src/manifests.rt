@@ -128,11 +128,7 @@ fn not_listed(
 ) -> Result<Fault, AllocError>
     ensures { IfOk result (λ fault. fault ≡ unnamed path.now manifest.now.alg file.now) }
 {
-    let code = Code::PayloadManifestNotListed;
-    Ok(Fault::of_path(
-        code,
-        path.copy(alloc)?,
-        Some(manifest.alg),
-        file.copy(alloc)?,
-    ))
+    let detail = file.copy(alloc)?;
+    let fault = Fault::about(alloc, Code::PayloadManifestNotListed, path)?;
+    Ok(fault.of(Some(manifest.alg)).with(detail))
 }

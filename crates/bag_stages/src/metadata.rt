@@ -26,7 +26,7 @@ pub fn metadata_faults(alloc: Global, facts: &Facts) -> Result<Vec<Fault>, Alloc
 {
     let path = TagName::Info.path(alloc)?;
     match facts.metadata() {
-        Some(metadata) => faults_of(alloc, &path, metadata, facts.listing.files.as_slice()),
+        Some(metadata) => faults_of(alloc, &path, metadata, facts.files()),
         None => no_oxum(alloc, &path),
     }
 }

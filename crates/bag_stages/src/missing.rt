@@ -11,7 +11,7 @@ ghost use Rattle.bag_stages.specs.CompletenessFaults.{missing_code, IsMissing};
 ghost use Rattle.bag_stages.specs.CompletenessFaults.{IsMissingFromSome, IsMissingAmong};
 ghost use Rattle.bag_stages.specs.Found.{AreFaultsOf, AreEachOnceOf};
 
-use crate::file_fault::file_fault;
+use crate::appended::appended;
 use crate::seek::seek;
 use bag_facts::{Facts, Fault};
 use bag_read::{Kind, ManifestEntry};
@@ -26,8 +26,8 @@ pub(crate) fn missing_tag_files(alloc: Global, facts: &Facts) -> Result<Vec<Faul
 {
     let mut faults = Vec::new(alloc);
     for alg in Alg::ALL {
-        let mut of_alg = missing_of(alloc, facts, Kind::Tag, alg)?;
-        faults.append(&mut of_alg)?;
+        let of_alg = missing_of(alloc, facts, Kind::Tag, alg)?;
+        faults = appended(faults, of_alg)?;
     }
     Ok(faults)
 }
@@ -35,7 +35,7 @@ pub(crate) fn missing_tag_files(alloc: Global, facts: &Facts) -> Result<Vec<Faul
 /// The faults that the manifest of an algorithm names files that aren't there, where it is there
 /// itself, in the order of their paths. The facts are read for more than the declaration. Fails
 /// only where memory runs out.
-pub fn missing_of(
+pub(crate) fn missing_of(
     alloc: Global,
     facts: &Facts,
     kind: Kind,
@@ -45,7 +45,7 @@ pub fn missing_of(
         AreFaultsOf facts.now (λ bag. IsMissing bag kind alg) faults.items) }
 {
     let code = missing_code(kind);
-    let files = facts.listing.files.as_slice();
+    let files = facts.files();
     match facts.manifest(kind, alg) {
         Some(manifest) => missing_in(alloc, code, alg, manifest.entries.as_slice(), files),
         None => Ok(Vec::new(alloc)),
@@ -70,7 +70,7 @@ fn missing_in(
         let (after, is_listed) = seek(rest, &entry.path);
         rest = after;
         if !is_listed {
-            faults.push(file_fault(alloc, code, Some(alg), &entry.path)?)?;
+            faults.push(Fault::about(alloc, code, &entry.path)?.of(Some(alg)))?;
         }
     }
     Ok(faults)

@@ -24,7 +24,7 @@ pub(crate) fn payload_names(alloc: Global, facts: &Facts) -> Result<Vec<&str>, A
     ensures { IfOk result (λ names. IfBagRead facts.now (λ bag.
         (path : List ℕ) → Contains (texts_of names.items) path ↔ IsPayloadName bag path)) }
 {
-    let mut names = payload_files(alloc, facts.listing.files.as_slice())?;
+    let mut names = payload_files(alloc, facts.files())?;
     for alg in Alg::ALL {
         push_named(&mut names, facts, alg)?;
     }

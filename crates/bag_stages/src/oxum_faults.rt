@@ -4,7 +4,6 @@ ghost use Rattle.bag_stages.specs.OxumFaults as reported;
 ghost use Rattle.bag_stages.specs.PayloadSize.{listed_oxum};
 
 use crate::payload_size::{PayloadSize, payload_size};
-use crate::tag_file::whole_file;
 use bag_facts::Fault;
 use bag_read::{Element, oxum_of};
 use bag_text::{Code, Text, same_label};
@@ -49,7 +48,7 @@ fn is_oxum(element: &Element) -> bool
 pub(crate) fn no_oxum(alloc: Global, path: &Text) -> Result<Vec<Fault>, AllocError>
     ensures { IfOk result (λ faults. faults.items ≡ reported.no_oxum path.now ∷ []) }
 {
-    Ok(vec![in alloc; whole_file(alloc, Code::NoOxum, path, "")?]?)
+    Ok(vec![in alloc; Fault::about(alloc, Code::NoOxum, path)?]?)
 }
 
 /// The fault of the first element that gives the payload's size, if it has one.
@@ -97,7 +96,8 @@ fn value_fault(
         fault ≡ reported.of_element path.now code element.now element.now.value) }
 {
     let detail = element.value.copy(alloc)?;
-    Ok(Fault::of_line(code, path.copy(alloc)?, None, element.line, detail))
+    let fault = Fault::about(alloc, code, path)?;
+    Ok(fault.at(element.line).with(detail))
 }
 
 /// The fault of an element that gives another size than the payload has.
@@ -111,12 +111,6 @@ fn size_fault(
 {
     let PayloadSize { octets, streams } = found;
     let detail = format!(in alloc; "{}:{octets}.{streams}", element.value)?;
-    let detail = Text::from_string(detail);
-    Ok(Fault::of_line(
-        Code::OxumDiffers,
-        path.copy(alloc)?,
-        None,
-        element.line,
-        detail,
-    ))
+    let fault = Fault::about(alloc, Code::OxumDiffers, path)?;
+    Ok(fault.at(element.line).with(Text::from_string(detail)))
 }

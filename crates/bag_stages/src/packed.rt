@@ -1,12 +1,15 @@
 //! What manifests give for a file, in one piece of memory.
-ghost use Rattle.std.specs.Prelude.{◌≡◌, ◌++◌, [], ◌∷◌, ◌≤◌, IfOk, MatchOption, length};
-ghost use Rattle.std.specs.Iterator.{YieldsFirst, item_count};
+ghost use Rattle.std.specs.Prelude.{◌≡◌, ◌↔◌, ◌++◌, [], ◌∷◌, IsTrue, MatchOption, OnOk, take};
+ghost use Rattle.std.specs.Iterator.{YieldsFirstBy, item_count};
+ghost use Rattle.bag_stages.specs.Expected.{given};
 ghost use Rattle.bag_stages.specs.Packed.{alg_ranked, packed_one, unpacked};
 
-use crate::{Expected, GivenDigest};
 use bag_text::Alg;
-use std::alloc::{AllocError, Global};
+use std::alloc::AllocError;
 use std::marker::Model;
+
+/// How many bytes a digest may have.
+const MOST_BYTES: usize = 255;
 
 /// What manifests give for a file, seen by contracts as the list of it. Each digest takes as much
 /// memory as it has bytes, and two bytes more.
@@ -17,8 +20,8 @@ pub struct Packed {
 }
 
 impl Model for Packed {
-    ghost use Rattle.bag_stages.specs.declared.expected.Expected.{Expected};
     ghost use Rattle.std.specs.Prelude.{List};
+    ghost use Rattle.bag_stages.specs.Expected.{Expected};
     ghost use Rattle.bag_stages.specs.Packed.{unpacked};
 
     ghost Value = { List Expected };
@@ -29,18 +32,21 @@ impl Model for Packed {
 impl Packed {
     ghost use Rattle.bag_stages.specs.Unpacking.{still_packed};
 
-    /// The same as a list. Takes memory once.
-    pub fn of(alloc: Global, expected: &[Expected]) -> Result<Packed, AllocError>
-        ensures { IfOk result (λ packed. packed ≡ expected.now) }
+    /// What these bytes give.
+    pub(crate) fn of(bytes: Vec<u8>) -> Packed
+        ensures { result ≡ unpacked bytes.items }
     {
-        let mut bytes = Vec::with_capacity(alloc, packed_len(expected))?;
-        for one in expected {
-            push_packed(&mut bytes, one)?;
-        }
-        Ok(Packed { bytes })
+        Packed { bytes }
     }
 
-    /// What they give, in its order, one by one. It takes no memory.
+    /// Whether no manifest names the file.
+    pub fn is_empty(&self) -> bool
+        ensures { IsTrue result ↔ (self.now ≡ []) }
+    {
+        split_packed(self.bytes.as_slice()).is_none()
+    }
+
+    /// The algorithm of each manifest and the bytes of its digest, in the order of the algorithms.
     pub fn iter(&self) -> Unpacking<'_>
         ensures { still_packed result ≡ self.now }
     {
@@ -57,59 +63,47 @@ pub struct Unpacking<'a> {
 }
 
 impl<'a> Iterator for Unpacking<'a> {
-    type Item = Expected;
+    type Item = (Alg, &'a [u8]);
 
     ghost use Rattle.bag_stages.specs.Unpacking.{still_packed};
 
-    ghost next_gives = { YieldsFirst still_packed };
+    ghost next_gives = { YieldsFirstBy (λ item. given item.0 item.1.now) still_packed };
 
     ghost remaining = { item_count still_packed };
 
-    fn next(&mut self) -> Option<Expected> {
-        let Some((one, rest)) = split_packed(self.rest) else {
+    fn next(&mut self) -> Option<(Alg, &'a [u8])> {
+        let Some((alg, digest, rest)) = split_packed(self.rest) else {
             return None;
         };
         self.rest = rest;
-        Some(one)
+        Some((alg, digest))
     }
 }
 
-/// How many bytes these take.
-fn packed_len(expected: &[Expected]) -> usize {
-    let mut len: usize = 0;
-    for one in expected {
-        len = len.saturating_add(one.digest.as_slice().len() + 2);
-    }
-    len
-}
-
-/// Puts what a manifest gives after what others give.
-fn push_packed(bytes: &mut Vec<u8>, one: &Expected) -> Result<(), AllocError>
-    ensures items { IfOk result (λ _. bytes.new.items ≡ bytes.old.items ++ packed_one one.now) }
-    ensures short { length one.now.digest ≤ 64 }
+/// Puts what a manifest gives after what others give: of more bytes than a digest may have, the
+/// first.
+pub(crate) fn push_packed(bytes: &mut Vec<u8>, alg: Alg, digest: &[u8]) -> Result<(), AllocError>
+    ensures { OnOk result
+        (bytes.new.items ≡ bytes.old.items ++ packed_one (given alg (take 255 digest.now))) }
 {
-    let digest = one.digest.as_slice();
-    bytes.push(one.alg.rank())?;
-    bytes.push(digest.len() as u8)?;
-    bytes.extend_from_slice(digest)?;
+    let count = digest.len().min(MOST_BYTES);
+    bytes.push(alg.rank())?;
+    bytes.push(count as u8)?;
+    bytes.extend_from_slice(&digest[..count])?;
     Ok(())
 }
 
 /// The first of what manifests give, and what follows it.
-fn split_packed(bytes: &[u8]) -> Option<(Expected, &[u8])>
+fn split_packed(bytes: &[u8]) -> Option<(Alg, &[u8], &[u8])>
     ensures { MatchOption result (unpacked bytes.now ≡ [])
-        (λ split. unpacked bytes.now ≡ split.0 ∷ unpacked split.1.now) }
+        (λ split. unpacked bytes.now ≡ given split.0 split.1.now ∷ unpacked split.2.now) }
 {
     let [rank, count, rest @ ..] = bytes else {
         return None;
     };
     let count = usize::from(*count).min(rest.len());
     let (digest, after) = rest.split_at(count);
-    let one = Expected {
-        alg: alg_ranked(*rank),
-        digest: GivenDigest::new(digest),
-    };
-    Some((one, after))
+    Some((alg_ranked(*rank), digest, after))
 }
 
 /// The algorithm of a rank; MD5 of what is none.

@@ -9,17 +9,16 @@ ghost use Rattle.bag_text.specs.declared.code.Code.TheVariants.{NoPayloadFolder,
 ghost use Rattle.bag_read.specs.ManifestName.{is_alg_text, manifest_name};
 ghost use Rattle.bag_read.specs.declared.kind.Kind.{Kind};
 ghost use Rattle.bag_tree.specs.Bag.{Bag};
+ghost use Rattle.bag_facts.specs.FaultAt.{of_bag};
 ghost use Rattle.bag_facts.specs.FaultOrder.{fault_cmp};
 ghost use Rattle.bag_facts.specs.TagFacts.{name_of, text_test};
 ghost use Rattle.bag_facts.specs.Wanted.{paths_of};
 ghost use Rattle.bag_stages.specs.FileFaults.{AreTagsOf, ListsPayloadManifest, HasTextless};
 ghost use Rattle.bag_stages.specs.FileFaults.{IsUnsupported, IsFileFault, IsFaultAmong};
 ghost use Rattle.bag_stages.specs.PartsStage.{IsOfParts};
-ghost use Rattle.bag_stages.specs.FaultPlaces.{of_bag};
 ghost use Rattle.bag_stages.specs.TagFiles.{HasNoText};
 ghost use Rattle.bag_stages.specs.Found.{AreFaultsOf};
 
-use crate::tag_file::whole_file;
 use bag_facts::{Facts, Fault, TagFacts};
 use bag_read::{Kind, TagName, manifest_alg};
 use bag_text::{Alg, Code, Text};
@@ -31,7 +30,7 @@ use std::alloc::{AllocError, Global};
 pub fn parts_faults(alloc: Global, facts: &Facts) -> Result<Vec<Fault>, AllocError>
     ensures { IfOk result (λ faults. AreFaultsOf facts.now IsOfParts faults.items) }
 {
-    let files = facts.listing.files.as_slice();
+    let files = facts.files();
     let mut faults = missing_parts(alloc, facts.listing.has_data, has_payload_manifest(files))?;
     let mut of_files = file_faults(alloc, files, facts.tags.as_slice())?;
     faults.append(&mut of_files)?;
@@ -50,19 +49,12 @@ fn missing_parts(
 {
     let mut faults = Vec::new(alloc);
     if !has_data {
-        faults.push(missing_part(alloc, Code::NoPayloadFolder))?;
+        faults.push(Fault::of_bag(alloc, Code::NoPayloadFolder))?;
     }
     if !has_manifest {
-        faults.push(missing_part(alloc, Code::NoPayloadManifest))?;
+        faults.push(Fault::of_bag(alloc, Code::NoPayloadManifest))?;
     }
     Ok(faults)
-}
-
-/// A fault that is about no file.
-fn missing_part(alloc: Global, code: Code) -> Fault
-    ensures { result ≡ of_bag code }
-{
-    Fault::of_path(code, Text::empty(alloc), None, Text::empty(alloc))
 }
 
 /// Whether a payload manifest is listed, of any algorithm.
@@ -99,10 +91,12 @@ fn file_fault(alloc: Global, tags: &[TagFacts], path: &Text) -> Result<Option<Fa
         → IsOnly (λ f. (f.path ≡ path.now) × IsFileFault bag f) fault) }
 {
     if let Some(alg) = unsupported(path.as_str()) {
-        return Ok(Some(whole_file(alloc, Code::AlgorithmUnsupported, path, alg)?));
+        let detail = Text::from_str(alloc, alg)?;
+        let fault = Fault::about(alloc, Code::AlgorithmUnsupported, path)?;
+        return Ok(Some(fault.with(detail)));
     }
     if has_no_text(tags, path.as_str()) {
-        return Ok(Some(whole_file(alloc, Code::NotUtf8, path, "")?));
+        return Ok(Some(Fault::about(alloc, Code::NotUtf8, path)?));
     }
     Ok(None)
 }

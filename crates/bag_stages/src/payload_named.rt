@@ -8,6 +8,7 @@ ghost use Rattle.bag_stages.specs.PayloadNamed.{RestStartsAfter, IsExact, payloa
 ghost use Rattle.bag_stages.specs.PayloadNamed.{IsPayloadNotFirst};
 ghost use Rattle.bag_stages.specs.Found.{AreEachOnceOf};
 
+use crate::appended::appended;
 use crate::left_out::left_out_by_one;
 use crate::missing::missing_of;
 use bag_facts::{Facts, Fault};
@@ -23,8 +24,8 @@ pub(crate) fn payload_faults(alloc: Global, facts: &Facts) -> Result<Vec<Fault>,
 {
     let mut faults = Vec::new(alloc);
     for alg in Alg::ALL {
-        let mut of_alg = faults_of(alloc, facts, alg)?;
-        faults.append(&mut of_alg)?;
+        let of_alg = faults_of(alloc, facts, alg)?;
+        faults = appended(faults, of_alg)?;
     }
     Ok(faults)
 }
@@ -38,20 +39,19 @@ fn faults_of(alloc: Global, facts: &Facts, alg: Alg) -> Result<Vec<Fault>, Alloc
     if is_exact(facts, alg) {
         return Ok(Vec::new(alloc));
     }
-    let mut faults = missing_of(alloc, facts, Kind::Payload, alg)?;
-    let mut of_files = left_out_by_one(alloc, facts, alg)?;
-    faults.append(&mut of_files)?;
-    Ok(faults)
+    let missing = missing_of(alloc, facts, Kind::Payload, alg)?;
+    let left_out = left_out_by_one(alloc, facts, alg)?;
+    appended(missing, left_out)
 }
 
 /// Whether the payload manifest of an algorithm is there and names the payload's files and no
 /// other, so that it has no fault of completeness. The facts are read for more than the
 /// declaration.
-pub fn is_exact(facts: &Facts, alg: Alg) -> bool
+pub(crate) fn is_exact(facts: &Facts, alg: Alg) -> bool
     ensures { IfBagRead facts.now (λ bag. IsTrue result ↔ IsExact bag alg) }
 {
     match facts.manifest(Kind::Payload, alg) {
-        Some(manifest) => are_named(manifest.entries.as_slice(), facts.listing.files.as_slice()),
+        Some(manifest) => are_named(manifest.entries.as_slice(), facts.files()),
         None => false,
     }
 }

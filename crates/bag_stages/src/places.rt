@@ -9,19 +9,19 @@ use bag_text::Alg;
 #[derive(Debug, Drop)]
 pub struct Places {
     next: [usize; Alg::ALL.len()],
-    /// How many manifests named the file before.
-    pub(crate) count: usize,
+    /// How many bytes what they gave for the file before takes.
+    pub(crate) room: usize,
 }
 
 impl Places {
     /// At the front of all manifests.
     pub fn new() -> Places
         ensures next { All (λ place. place ≡ 0) result.next }
-        ensures count { result.count ≡ 0 }
+        ensures room { result.room ≡ 0 }
     {
         Places {
             next: [0; Alg::ALL.len()],
-            count: 0,
+            room: 0,
         }
     }
 

@@ -1,37 +1,11 @@
 //! Searches that go on where the last one ended.
-ghost use Rattle.std.specs.Prelude.{◌≡◌, ℕ, List, map};
+ghost use Rattle.std.specs.Prelude.{map};
 ghost use Rattle.std.specs.List.Sorted.{IsStrictlySortedBy};
 ghost use Rattle.bag_text.specs.Text.{text_cmp};
 ghost use Rattle.bag_stages.specs.Sought.{IsSought};
 
-use bag_read::ManifestEntry;
-use bag_text::Text;
-use bag_tree::FileEntry;
+use bag_text::{HasPath, Text};
 use std::cmp::Ordering;
-
-/// What stands at a path.
-pub(crate) trait HasPath {
-    ghost path_of: { Self → List ℕ };
-
-    fn path(&self) -> &Text
-        ensures { result.now ≡ path_of self.now };
-}
-
-impl HasPath for FileEntry {
-    ghost path_of = { λ entry. entry.path };
-
-    fn path(&self) -> &Text {
-        &self.path
-    }
-}
-
-impl HasPath for ManifestEntry {
-    ghost path_of = { λ entry. entry.path };
-
-    fn path(&self) -> &Text {
-        &self.path
-    }
-}
 
 /// Those of items in the order of their paths that come after a path, and whether one stands at it.
 /// Looks at no item after the first of those.

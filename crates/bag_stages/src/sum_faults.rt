@@ -2,15 +2,16 @@
 ghost use Rattle.std.specs.Prelude.{◌≡◌, ℕ, List, Some, IfOk};
 ghost use Rattle.bag_tree.specs.Digest.{digest};
 ghost use Rattle.bag_tree.specs.DigestsOf.{sum_at};
+ghost use Rattle.bag_stages.specs.Expected.{given};
 ghost use Rattle.bag_stages.specs.SumFaults.{differing, differing_code, faults_of_bytes};
 ghost use Rattle.bag_stages.specs.SumFaults.{sum_differs, AreSumsBy};
 ghost use Rattle.bag_stages.specs.ValidityStage.{expected_and_found};
 
+use crate::Packed;
 use crate::expected::kind_of;
-use crate::{Expected, Packed};
 use bag_facts::Fault;
 use bag_read::Kind;
-use bag_text::{Code, Text};
+use bag_text::{Alg, Code, Text};
 use bag_tree::{HexFault, Sums};
 use std::alloc::{AllocError, Global};
 
@@ -27,8 +28,8 @@ pub fn faults_by(
         → faults.items ≡ faults_of_bytes path.now content expected.now) }
 {
     let mut faults = Vec::new(alloc);
-    for one in expected.iter() {
-        let Some(fault) = fault_by(alloc, path, &one, sums)? else {
+    for (alg, digest) in expected.iter() {
+        let Some(fault) = fault_by(alloc, path, alg, digest, sums)? else {
             continue;
         };
         faults.push(fault)?;
@@ -41,18 +42,19 @@ pub fn faults_by(
 fn fault_by(
     alloc: Global,
     path: &Text,
-    expected: &Expected,
+    alg: Alg,
+    expected: &[u8],
     sums: &Sums,
 ) -> Result<Option<Fault>, AllocError>
     ensures { IfOk result (λ fault. (content : List ℕ)
-        → sum_at sums.now expected.now.alg ≡ Some (digest expected.now.alg content)
-        → fault ≡ differing path.now content expected.now) }
+        → sum_at sums.now alg ≡ Some (digest alg content)
+        → fault ≡ differing path.now content (given alg expected.now)) }
 {
-    if sums.is_digest(expected.alg, expected.digest.as_slice()) {
+    if sums.is_digest(alg, expected) {
         return Ok(None);
     }
-    match sums.hex(alloc, expected.alg) {
-        Ok(found) => Ok(Some(sum_differs(alloc, path, expected, found.as_str())?)),
+    match sums.hex(alloc, alg) {
+        Ok(found) => Ok(Some(sum_differs(alloc, path, alg, expected, found.as_str())?)),
         Err(HexFault::NotAsked) => Ok(None),
         Err(HexFault::Memory) => Err(AllocError),
     }
@@ -62,15 +64,18 @@ fn fault_by(
 fn sum_differs(
     alloc: Global,
     path: &Text,
-    expected: &Expected,
+    alg: Alg,
+    expected: &[u8],
     found: &str,
 ) -> Result<Fault, AllocError>
-    ensures { IfOk result (λ fault. fault ≡ sum_differs path.now expected.now found.now) }
+    ensures { IfOk result (λ fault.
+        fault ≡ sum_differs path.now (given alg expected.now) found.now) }
 {
-    let given = hex::encode(alloc, expected.digest.as_slice())?;
+    let expected = hex::encode(alloc, expected)?;
     let code = differing_code(kind_of(path.as_str()));
-    let detail = expected_and_found(alloc, given.as_str(), found)?;
-    Ok(Fault::of_path(code, path.copy(alloc)?, Some(expected.alg), detail))
+    let detail = expected_and_found(alloc, expected.as_str(), found)?;
+    let fault = Fault::about(alloc, code, path)?;
+    Ok(fault.of(Some(alg)).with(detail))
 }
 
 /// What a file is whose digest isn't the one that a manifest of a kind gives.

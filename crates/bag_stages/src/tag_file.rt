@@ -1,11 +1,10 @@
-//! Faults of one tag file: of its lines, and of it as a whole.
+//! Faults of the lines of one tag file.
 ghost use Rattle.std.specs.Prelude.{◌≡◌, [], IfOk, map, if◌then◌else◌};
-ghost use Rattle.bag_facts.specs.FaultAt.{of_path};
 ghost use Rattle.bag_stages.specs.FaultPlaces.{in_file};
 
 use bag_facts::Fault;
 use bag_read::LineFault;
-use bag_text::{Alg, Code, Text};
+use bag_text::{Alg, Text};
 use std::alloc::{AllocError, Global};
 
 /// The faults of a tag file's lines as faults of the bag, in their order.
@@ -51,18 +50,6 @@ fn fault_in_file(
     ensures { IfOk result (λ one. one ≡ in_file path.now alg fault.now) }
 {
     let detail = fault.detail.copy(alloc)?;
-    Ok(Fault::of_line(fault.code, path.copy(alloc)?, alg, fault.line, detail))
-}
-
-/// A fault of a whole file.
-pub(crate) fn whole_file(
-    alloc: Global,
-    code: Code,
-    path: &Text,
-    detail: &str,
-) -> Result<Fault, AllocError>
-    ensures { IfOk result (λ fault. fault ≡ of_path code path.now None detail.now) }
-{
-    let detail = Text::from_str(alloc, detail)?;
-    Ok(Fault::of_path(code, path.copy(alloc)?, None, detail))
+    let of_file = Fault::about(alloc, fault.code, path)?;
+    Ok(of_file.of(alg).at(fault.line).with(detail))
 }

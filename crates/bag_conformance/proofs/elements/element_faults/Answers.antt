@@ -9,16 +9,16 @@ pub returns : goal.returns
 returns c = λ bag of deep.
     let elements = c.elements_of.result.now in
     let sorted = c.in_ok-sorted.sorted.items in
-    let all = c.in_ok-faults.faults.items in
+    let all = c.append.new.self.items in
     let list = labelled_are bag elements (c.elements_of.ensures bag of deep) in
     permuted_all (IsOfElements bag c.args.profile.now) all c.sort_by_key.new.self.items
     c.sort_by_key.ensures.permutation
     (elements_are bag c.args.profile.now (reported.lent sorted)
     (λ label. subst (AreOf bag label) (sym (c.in_ok-sorted.ensures.labelled label)) (list label)) all
-    (c.in_ok-faults.ensures
+    (c.in_ok-append.ensures.items
     ∙ rw (
-      c.in_ok-of_name.ensures,
-      c.in_ok-of_rules.ensures,
+      c.in_ok-faults.ensures,
+      c.in_ok-rules_faults.ensures,
       c.labelled-naming.ensures,
       c.as_slice.ensures.value,
       c.as_slice-2.ensures.value,

@@ -13,10 +13,10 @@ loop-name-preserved c = λ bag facts.
     c.loop-name.faults.items
     c.loop-name-test.true c.name-item.is (c.loop-name.invariant bag facts) c.if-not-has_manifest.faults.items
     (elim c.if-not-has_manifest.branch [
-      | goal.then-not-has_manifest+in_ok-file_fault+in_ok-push w ↦ inl (
-        w.in_ok-file_fault.field-0,
+      | goal.then-not-has_manifest+in_ok-about+in_ok-push w ↦ inl (
+        w.in_ok-about.field-0,
         rw w.faults-is w.in_ok-push.ensures.items,
-        w.in_ok-file_fault.ensures ∙ ap (λ path. of_path c.required_code-code.result path None []) c.in_ok-path.ensures
+        w.in_ok-about.ensures ∙ ap (λ path. of_path c.required_code-code.result path None []) c.in_ok-path.ensures
             ∙ ap (λ code. of_path code (manifest_name c.args.kind name) None []) c.required_code-code.ensures,
         λ has. both_ways _ w.if-not-has_manifest.true (tells.1 has),
       )

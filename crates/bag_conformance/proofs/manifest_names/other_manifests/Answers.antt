@@ -15,10 +15,10 @@ loop-entry-preserved c =
     c.loop-entry.faults.items
     c.loop-entry-test.true c.entry-item.is c.loop-entry.invariant c.if-is_other_manifest.faults.items
     (elim c.if-is_other_manifest.branch [
-      | goal.then-is_other_manifest+in_ok-file_fault+in_ok-push w ↦ inl (
-        w.in_ok-file_fault.field-0,
+      | goal.then-is_other_manifest+in_ok-about+in_ok-push w ↦ inl (
+        w.in_ok-about.field-0,
         rw w.faults-is w.in_ok-push.ensures.items,
-        w.in_ok-file_fault.ensures ∙ ap (λ code. of_path code entry.path None []) c.other_code-code.ensures,
+        w.in_ok-about.ensures ∙ ap (λ code. of_path code entry.path None []) c.other_code-code.ensures,
         tells.0 w.if-is_other_manifest.true,
       )
       | goal.else-is_other_manifest w ↦ inr (

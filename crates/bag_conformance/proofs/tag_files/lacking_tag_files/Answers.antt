@@ -3,7 +3,7 @@ use Rattle.std.proofs.lemmas.Bool.{both_ways}
 use Rattle.bag_conformance.proofs.FaultSets.{all_items, one_next}
 use Rattle.bag_conformance.proofs.TagFiles.{lacking_all, lacking_fault, IsLacking}
 use Rattle.bag_conformance.proofs.tag_files.lacking_tag_files.Goals as goal
-use Rattle.bag_conformance.proofs.tag_files.lacking_tag_files.Goals.{then-not-has_file+in_ok-file_fault+in_ok-push}
+use Rattle.bag_conformance.proofs.tag_files.lacking_tag_files.Goals.{then-not-has_file+in_ok-about+in_ok-push}
 use Rattle.bag_conformance.proofs.tag_files.lacking_tag_files.Goals.{else-not-has_file}
 
 pub loop-path-preserved : goal.loop-path-preserved
@@ -14,8 +14,8 @@ loop-path-preserved c = λ bag facts.
     c.loop-path.faults.items
     c.loop-path-test.true c.path-item.is (c.loop-path.invariant bag facts) c.if-not-has_file.faults.items
     (elim c.if-not-has_file.branch [
-      | then-not-has_file+in_ok-file_fault+in_ok-push w ↦
-          let fault = w.in_ok-file_fault in
+      | then-not-has_file+in_ok-about+in_ok-push w ↦
+          let fault = w.in_ok-about in
           inl (
             fault.field-0,
             rw w.faults-is w.in_ok-push.ensures.items,

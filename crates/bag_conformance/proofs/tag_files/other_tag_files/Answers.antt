@@ -4,7 +4,7 @@ use Rattle.bag_conformance.proofs.FaultSets.{all_items, one_next}
 use Rattle.bag_conformance.proofs.FilesThere.{fault_of, HoldsOf}
 use Rattle.bag_conformance.proofs.TagFiles.{other_all}
 use Rattle.bag_conformance.proofs.tag_files.other_tag_files.Goals as goal
-use Rattle.bag_conformance.proofs.tag_files.other_tag_files.Goals.{then-is_other_tag_file+in_ok-file_fault+in_ok-push}
+use Rattle.bag_conformance.proofs.tag_files.other_tag_files.Goals.{then-is_other_tag_file+in_ok-about+in_ok-push}
 use Rattle.bag_conformance.proofs.tag_files.other_tag_files.Goals.{else-is_other_tag_file}
 
 pub loop-entry-preserved : goal.loop-entry-preserved
@@ -16,11 +16,11 @@ loop-entry-preserved c =
     c.loop-entry.faults.items
     c.loop-entry-test.true c.entry-item.is c.loop-entry.invariant c.if-is_other_tag_file.faults.items
     (elim c.if-is_other_tag_file.branch [
-      | then-is_other_tag_file+in_ok-file_fault+in_ok-push w ↦
+      | then-is_other_tag_file+in_ok-about+in_ok-push w ↦
           inl (
-            w.in_ok-file_fault.field-0,
+            w.in_ok-about.field-0,
             rw w.faults-is w.in_ok-push.ensures.items,
-            w.in_ok-file_fault.ensures,
+            w.in_ok-about.ensures,
             tells.0 w.if-is_other_tag_file.true,
           )
       | else-is_other_tag_file w ↦ inr (

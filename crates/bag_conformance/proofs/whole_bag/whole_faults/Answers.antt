@@ -10,9 +10,9 @@ returns c = λ bag facts deep.
     elim c.if-eq.branch [
       | then-eq+in_ok-push w ↦ (
           let asks : c.serialization.result ≡ Required = search rules in
-          serialized_all bag c.args.profile.now of_version c.if-eq.faults.items w.serialization_fault.result
+          serialized_all bag c.args.profile.now of_version c.if-eq.faults.items w.of_bag.result
           (c.in_ok-faults.ensures bag facts)
-          w.serialization_fault.ensures (rw w.faults-is w.in_ok-push.ensures.items)
+          w.of_bag.ensures (rw w.faults-is w.in_ok-push.ensures.items)
           (sym c.serialization.ensures ∙ asks))
       | else-eq w ↦ folder_all bag c.args.profile.now of_version c.if-eq.faults.items (c.in_ok-faults.ensures bag facts)
           (rw w.faults-is refl) (λ same.

@@ -69,6 +69,5 @@ returns-then-is_err-clause-stop g c = λ are.
     let old = g.T.Tree.state c.args.tree.now in
     let mid = g.T.Tree.state c.loop-entry.tree in
     let new = g.T.Tree.state c.read_wanted.new.tree in
-    stop_of_memory c.args.options old new c.without_path.result
-    (c.without_path.ensures.cause, c.without_path.ensures.path)
+    stop_of_memory c.args.options old new c.out_of_memory.result c.out_of_memory.ensures
     (nothing_then old mid new c.loop-entry.invariant.no_failure c.in_ok-file.ensures.no_failure)

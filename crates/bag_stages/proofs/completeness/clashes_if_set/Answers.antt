@@ -2,12 +2,15 @@ use Rattle.bag_stages.proofs.Common.{◌≡◌, false, true, sym, ◌∙◌, IfO
 use Rattle.bag_stages.proofs.completeness.clashes_if_set.Goals as goal
 
 pub returns-then-is_asked : goal.returns-then-is_asked
-returns-then-is_asked c = IfOk-weaker c.clash_faults.result _ _
+returns-then-is_asked c =
+    let asked = rw c.options-is_asked.ensures at c.if-is_asked.true in
+    IfOk-weaker c.clash_faults.result _ _
     (λ faults list bag facts deep.
-    same_members fault_cmp _ _ faults.items (λ f h. (h, c.if-is_asked.true)) (λ f h. h.0) (list bag facts deep))
+    same_members fault_cmp _ _ faults.items (λ f h. (h, asked)) (λ f h. h.0) (list bag facts deep))
     c.clash_faults.ensures
 
 pub returns-else-is_asked : goal.returns-else-is_asked
 returns-else-is_asked c = λ bag facts deep.
+    let other = rw c.options-is_asked.ensures at c.if-is_asked.false in
     rw c.new.ensures.items
-    (nothing_listed fault_cmp _ (λ f h. let clash : false ≡ true = sym c.if-is_asked.false ∙ h.1 in cc))
+    (nothing_listed fault_cmp _ (λ f h. let clash : false ≡ true = sym other ∙ h.1 in cc))

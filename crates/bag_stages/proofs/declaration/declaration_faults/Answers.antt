@@ -12,7 +12,7 @@ returns-in-Some c = IfOk-weaker c.faults_in_file.result _ _
     rw is (declared_listed bag read.0 c.in-Some.declaration.now.faults read.1 read.2.faults))
     c.faults_in_file.ensures
 
-pub returns : goal.returns
-returns c bag facts =
-    rw (c.in_ok-vec-in-None.ensures.items, rw c.in_ok-path.ensures at c.in_ok-whole_file-in-None.ensures)
+pub returns-in_ok-vec-in-None : goal.returns-in_ok-vec-in-None
+returns-in_ok-vec-in-None c bag facts =
+    rw (c.in_ok-vec-in-None.ensures.items, rw c.in_ok-path.ensures at c.new.ensures)
     (missing_listed bag (not_there IsDeclarationOf (file bag bagit_txt) (c.in-None.ensures bag facts)))

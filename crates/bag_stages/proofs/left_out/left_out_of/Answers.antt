@@ -5,7 +5,7 @@ use Rattle.bag_stages.proofs.ByPath.{all_wrong_paths, one_path_more}
 use Rattle.bag_stages.proofs.HasLists.{false_unless}
 use Rattle.bag_stages.proofs.Sought.{sought_next, whole_rest}
 use Rattle.bag_stages.proofs.left_out.left_out_of.Goals as goal
-use Rattle.bag_stages.proofs.left_out.left_out_of.Goals.{then-is_left_out+in_ok-file_fault+in_ok-push, else-is_left_out}
+use Rattle.bag_stages.proofs.left_out.left_out_of.Goals.{then-is_left_out+in_ok-fault+in_ok-push, else-is_left_out}
 
 pub loop-entry-init : goal.loop-entry-init
 loop-entry-init c = λ ordered ascending.
@@ -28,11 +28,11 @@ loop-entry-preserved c = λ ordered ascending.
           (λ e. e.path) files i entry c.loop-entry.faults.items _ in_order c.loop-entry-test.true c.entry-item.is
           so_far.0
           (elim c.if-is_left_out.branch [
-            | then-is_left_out+in_ok-file_fault+in_ok-push
+            | then-is_left_out+in_ok-fault+in_ok-push
                 w ↦ (let is = c.is_left_out.ensures.0 w.if-is_left_out.true in
                 inl (
                   (is.0, λ has. let clash : false ≡ true = sym is.1 ∙ next.0.1 has in cc),
-                  rw (w.faults-is, w.in_ok-push.ensures.items, w.in_ok-file_fault.ensures),
+                  rw (w.faults-is, w.in_ok-push.ensures.items, w.of.ensures, w.in_ok-fault.ensures),
                 ))
             | else-is_left_out w ↦ inr (
               (λ wrong. let clash : false ≡ true = sym w.if-is_left_out.false

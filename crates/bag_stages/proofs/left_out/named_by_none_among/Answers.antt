@@ -4,7 +4,7 @@ use Rattle.bag_stages.proofs.ByItem.{no_items}
 use Rattle.bag_stages.proofs.ByPath.{all_wrong_paths, one_path_more}
 use Rattle.bag_stages.proofs.PathFaults.{files_named_by_none}
 use Rattle.bag_stages.proofs.left_out.named_by_none_among.Goals as goal
-use Rattle.bag_stages.proofs.left_out.named_by_none_among.Goals.{then-is_named_by_none+in_ok-file_fault+in_ok-push}
+use Rattle.bag_stages.proofs.left_out.named_by_none_among.Goals.{then-is_named_by_none+in_ok-about+in_ok-push}
 use Rattle.bag_stages.proofs.left_out.named_by_none_among.Goals.{else-is_named_by_none}
 
 pub loop-entry-init : goal.loop-entry-init
@@ -18,9 +18,9 @@ loop-entry-preserved c = λ bag facts deep.
     c.loop-entry-test.true c.entry-item.is
     (c.loop-entry.invariant bag facts deep)
     (elim c.if-is_named_by_none.branch [
-      | then-is_named_by_none+in_ok-file_fault+in_ok-push w ↦ inl (
+      | then-is_named_by_none+in_ok-about+in_ok-push w ↦ inl (
         c.is_named_by_none.ensures.yes bag facts deep w.if-is_named_by_none.true,
-        rw (w.faults-is, w.in_ok-push.ensures.items, w.in_ok-file_fault.ensures),
+        rw (w.faults-is, w.in_ok-push.ensures.items, w.in_ok-about.ensures),
       )
       | else-is_named_by_none w ↦ inr (
         (λ wrong. let clash : false ≡ true = sym w.if-is_named_by_none.false

@@ -9,7 +9,7 @@ pub returns-in-Some : goal.returns-in-Some
 returns-in-Some c = IfOk-weaker c.faults_of.result _ _
     (λ faults are bag of deep.
     are bag c.in_ok-path.ensures
-    (ap listed_oxum c.as_slice.ensures ∙ listed_size bag c.args.facts.now.listing of.ordered of.listing)
+    (ap listed_oxum c.files.ensures ∙ listed_size bag c.args.facts.now.listing of.ordered of.listing)
     (read_bytes (IsMetadataOf (rules_in bag)) (file bag bag_info_txt) c.in-Some.metadata.now
     (c.in-Some.ensures bag of deep)))
     c.faults_of.ensures

@@ -3,7 +3,7 @@ use Rattle.bag_stages.proofs.ByItem.{no_items}
 use Rattle.bag_stages.proofs.ByPath.{all_wrong_paths, one_path_more}
 use Rattle.bag_stages.proofs.Sought.{sought_next, whole_rest}
 use Rattle.bag_stages.proofs.missing.missing_in.Goals as goal
-use Rattle.bag_stages.proofs.missing.missing_in.Goals.{then-not-is_listed+in_ok-file_fault+in_ok-push}
+use Rattle.bag_stages.proofs.missing.missing_in.Goals.{then-not-is_listed+in_ok-about+in_ok-push}
 use Rattle.bag_stages.proofs.missing.missing_in.Goals.{else-not-is_listed}
 
 pub loop-entry-init : goal.loop-entry-init
@@ -23,9 +23,9 @@ loop-entry-preserved c = λ ordered listed.
           (λ e. e.path) entries i entry c.loop-entry.faults.items _ ordered c.loop-entry-test.true c.entry-item.is
           so_far.0
           (elim c.if-not-is_listed.branch [
-            | then-not-is_listed+in_ok-file_fault+in_ok-push w ↦ inl (
+            | then-not-is_listed+in_ok-about+in_ok-push w ↦ inl (
               (λ has. let clash : false ≡ true = sym w.if-not-is_listed.true ∙ next.0.1 has in cc),
-              rw (w.faults-is, w.in_ok-push.ensures.items, w.in_ok-file_fault.ensures),
+              rw (w.faults-is, w.in_ok-push.ensures.items, w.of.ensures, w.in_ok-about.ensures),
             )
             | else-not-is_listed w ↦ inr ((λ lacks. lacks (next.0.0 w.if-not-is_listed.false)), rw w.faults-is)
           ]),

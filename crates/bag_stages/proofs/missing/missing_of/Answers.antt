@@ -6,10 +6,10 @@ pub returns-in-Some : goal.returns-in-Some
 returns-in-Some c = IfOk-weaker c.missing_in.result _ _
     (λ faults list bag facts deep.
     read_missing bag c.args.kind c.args.alg c.in-Some.manifest.now c.missing_code-code.result c.as_slice.result.now
-    c.as_slice-files.result.now faults.items
+    c.files-files.result.now faults.items
     (c.in-Some.ensures bag facts deep) c.missing_code-code.ensures c.as_slice.ensures
-    (rw c.as_slice-files.ensures facts.listing.files)
-    (λ ordered. list ordered (rw c.as_slice-files.ensures facts.ordered.ascending)))
+    (rw c.files-files.ensures facts.listing.files)
+    (λ ordered. list ordered (rw c.files-files.ensures facts.ordered.ascending)))
     c.missing_in.ensures
 
 pub returns-in-None : goal.returns-in-None

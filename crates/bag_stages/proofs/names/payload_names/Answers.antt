@@ -5,7 +5,7 @@ use Rattle.bag_stages.proofs.names.payload_names.Goals as goal
 pub loop-alg-init : goal.loop-alg-init
 loop-alg-init c = λ bag facts deep.
     files_first bag c.args.facts.now.listing.files (texts_of c.in_ok-names.names.items) facts.listing.files
-    (rw c.as_slice.ensures at c.in_ok-names.ensures)
+    (rw c.files.ensures at c.in_ok-names.ensures)
 
 pub loop-alg-preserved : goal.loop-alg-preserved
 loop-alg-preserved c = λ bag facts deep.

@@ -5,7 +5,7 @@ pub returns : goal.returns
 returns c = λ bag facts deep.
     rw (c.in_ok-append.ensures.items, c.in_ok-faults.ensures)
     (parts_listed bag c.args.facts.now c.has_payload_manifest.result facts
-    (rw c.as_slice-files.ensures at c.has_payload_manifest.ensures.listed)
-    (rw c.as_slice-files.ensures at c.has_payload_manifest.ensures.not_listed)
+    (rw c.files-files.ensures at c.has_payload_manifest.ensures.listed)
+    (rw c.files-files.ensures at c.has_payload_manifest.ensures.not_listed)
     c.in_ok-of_files.of_files.items deep
-    (rw (c.as_slice-files.ensures, c.as_slice.ensures) at (c.in_ok-of_files.ensures bag)))
+    (rw (c.files-files.ensures, c.as_slice.ensures) at (c.in_ok-of_files.ensures bag)))

@@ -1,4 +1,4 @@
-use Rattle.bag_stages.proofs.Common.{[], fault_cmp, nothing_listed}
+use Rattle.bag_stages.proofs.Common.{[], IfOk-weaker, fault_cmp, nothing_listed}
 use Rattle.bag_stages.proofs.PayloadNamed.{apart, nothing_wrong}
 use Rattle.bag_stages.proofs.Sorted.{both_once, once_listed}
 use Rattle.bag_stages.proofs.payload_named.faults_of.Goals as goal
@@ -11,8 +11,10 @@ returns-then-is_exact c = λ bag facts deep.
     (nothing_wrong bag c.args.alg ((c.is_exact.ensures bag facts deep).0 c.if-is_exact.true).1)))
 
 pub returns : goal.returns
-returns c = λ bag facts deep.
-    rw c.in_ok-append.ensures.items
-    (both_once _ _ c.in_ok-faults.faults.items c.in_ok-of_files.of_files.items (apart bag c.args.alg)
-    (once_listed _ c.in_ok-faults.faults.items (c.in_ok-faults.ensures bag facts deep))
-    (once_listed _ c.in_ok-of_files.of_files.items (c.in_ok-of_files.ensures bag facts deep)))
+returns c = IfOk-weaker c.appended.result _ _
+    (λ faults is bag facts deep.
+    rw is
+    (both_once _ _ c.in_ok-missing.missing.items c.in_ok-left_out.left_out.items (apart bag c.args.alg)
+    (once_listed _ c.in_ok-missing.missing.items (c.in_ok-missing.ensures bag facts deep))
+    (once_listed _ c.in_ok-left_out.left_out.items (c.in_ok-left_out.ensures bag facts deep))))
+    c.appended.ensures

@@ -7,7 +7,7 @@ returns-in-Some c = λ bag facts deep.
     let m = c.in-Some.manifest.now in
     let files = c.args.facts.now.listing.files in
     let read = c.in-Some.ensures bag facts deep in
-    let same = rw (c.as_slice.ensures, c.as_slice-in-Some.ensures) at c.are_named.ensures in (
+    let same = rw (c.as_slice.ensures, c.files.ensures) at c.are_named.ensures in (
       λ holds. read_exactly bag c.args.alg m files read facts.listing.files (same.0 holds),
       λ exact. same.1 (exactly_read bag c.args.alg m files read facts.listing.files facts.ordered exact),
     )

@@ -8,7 +8,7 @@ loop-alg-init c = λ bag facts deep. rw c.new-faults.ensures.items (no_alg_yet (
 
 pub loop-alg-preserved : goal.loop-alg-preserved
 loop-alg-preserved c = λ bag facts deep.
-    rw c.in_ok-append.ensures.items
+    rw c.in_ok-faults.ensures
     (one_alg_more (IsWrong bag) (told bag) c.loop-alg.alg-index Md5 c.loop-alg.faults.items c.in_ok-of_alg.of_alg.items
     c.loop-alg-test.true (c.loop-alg.invariant bag facts deep)
     (c.in_ok-of_alg.ensures bag facts deep))

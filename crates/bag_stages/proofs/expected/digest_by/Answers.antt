@@ -1,7 +1,6 @@
-use Rattle.bag_stages.proofs.Common.{◌≡◌, ◌∙◌, ap, refl, sym, encode_lower}
-use Rattle.bag_stages.proofs.GivenDigests.{all_bytes}
+use Rattle.bag_stages.proofs.Common.{refl, sym}
 use Rattle.bag_stages.proofs.SumFaults.{listed, not_named}
-use Rattle.bag_stages.proofs.expected.expected_by.Goals as goal
+use Rattle.bag_stages.proofs.expected.digest_by.Goals as goal
 
 pub returns-in_default : goal.returns-in_default
 returns-in_default c = λ bag facts deep.
@@ -15,16 +14,12 @@ returns c = λ bag facts deep.
     listed bag c.args.path.now c.args.kind c.args.alg c.entries.result.now
     (c.entries.ensures.entries bag facts deep) in
     let found = c.in-Some.ensures all.ascending in
-    let entry = c.in-Some.entry.now in
-    let inside = (all.members entry).0 found.0 in
-    let copied : c.new-digest.result ≡ c.bytes.result.now =
-    c.new-digest.ensures ∙ all_bytes bag c.args.kind c.args.alg entry inside c.bytes.result.now c.bytes.ensures in (
+    let entry = c.in-Some.entry.now in (
       refl,
       record {
         entry = entry;
-        listed = inside;
+        listed = (all.members entry).0 found.0;
         path_is = found.1;
-        digest_is = sym c.bytes.ensures
-            ∙ ap encode_lower (sym copied);
+        digest_is = sym c.bytes.ensures;
       },
     )

@@ -1,7 +1,7 @@
 use Rattle.bag_facts.proofs.Common.{sym, ap, ◌∙◌, percent_encode, ESCAPED}
 use Rattle.bag_facts.proofs.Escapes.{same_escapes, other_field, nonempty}
 use Rattle.bag_facts.proofs.FieldPieces.{empty_field, hyphen_field, plain_hyphen, escaped_hyphen}
-use Rattle.bag_facts.proofs.fault.field_pieces.Goals as goal
+use Rattle.bag_facts.proofs.field.field_pieces.Goals as goal
 
 pub returns-then-is_empty : goal.returns-then-is_empty
 returns-then-is_empty c = c.percent_encode.ensures.text ∙ plain_hyphen

@@ -1,0 +1,81 @@
+-- Files in lists and in maps.
+use Rattle.bag_facts.proofs.Common.{arith, ◌≡◌, ◌∷◌, ℕ, true, List, [], map, Option, None, Some, is_some, refl}
+use Rattle.bag_facts.proofs.Common.{sym, ap, ◌∙◌, Contains, and_parts, find, eq_by_cmp, any_from, contains_behind}
+use Rattle.bag_facts.proofs.Common.{contains_cases, contains_first, contains_nothing, text_cmp}
+use Rattle.bag_facts.proofs.Mapped.{mapped_contains}
+use Rattle.std.specs.FinMap as fin
+use Rattle.std.specs.FinMap.{entries_sorted, get-entries, is_sorted}
+use Rattle.std.specs.FinMap.Entries.{below_all, is_some-find}
+use Rattle.bag_tree.proofs.PathEntries.{none_below, t_true}
+use Rattle.bag_tree.proofs.SameText.{one_text, text_itself}
+use Rattle.bag_tree.specs.Bag.{Bag, file}
+use Rattle.bag_tree.specs.Listing.{entry_of_file}
+use Rattle.bag_tree.specs.Steps.{Files}
+use Rattle.bag_tree.specs.declared.listing.FileEntry.{FileEntry}
+
+abbrev File : Type 0
+File = List ℕ × List ℕ
+
+-- what is found in a list stands in it
+pub found : (q c : List ℕ) (es : List File) → find text_cmp q es ≡ Some c → Contains es (q, c)
+found q c [] e = cc
+found q c ((k, v) ∷ es) e =
+    grind (arith, one_text q k, found q c es, contains_first (k, v) es, contains_behind (k, v) es (q, c))
+
+pub content_of : (o : Option (List ℕ)) → is_some o ≡ true → (c : List ℕ) × (o ≡ Some c)
+content_of None e = cc
+content_of (Some c) e = (c, refl)
+
+-- and what stands in it is found, where no other has its path
+pub found_alone : (q c : List ℕ) (es : List File) → Contains es (q, c)
+    → ((d : List ℕ) → find text_cmp q es ≡ Some d → d ≡ c) → find text_cmp q es ≡ Some c
+found_alone q c es h one =
+    let key = λ (e : File). e.0 in
+    let some = content_of (find text_cmp q es)
+    (is_some-find text_cmp q es
+    ∙ any_from (eq_by_cmp text_cmp q) (map key es) q (mapped_contains key es (q, c) h) (text_itself q)) in
+    some.1 ∙ ap Some (one some.0 some.1)
+
+in_order : (p c : List ℕ) (es : List File) → is_sorted text_cmp es ≡ true → Contains es (p, c)
+    → find text_cmp p es ≡ Some c
+in_order p c [] up h = absurd (contains_nothing (p, c) h)
+in_order p c ((k, v) ∷ es) up h =
+    let two = and_parts (below_all text_cmp k es) (is_sorted text_cmp es) up in
+    grind (arith, contains_cases (k, v) es (p, c) h, none_below k es, one_text p k, text_itself p, in_order p c es)
+
+-- the files of a map are those of its list
+pub listed : (files : Files) (p c : List ℕ) → fin.get files p ≡ Some c → Contains (fin.entries files) (p, c)
+listed files p c e = found p c (fin.entries files) (sym (get-entries files p) ∙ e)
+
+pub held_at : (files : Files) (p c : List ℕ) → Contains (fin.entries files) (p, c) → fin.get files p ≡ Some c
+held_at files p c h = get-entries files p ∙ in_order p c (fin.entries files) (t_true _ (entries_sorted files)) h
+
+pub same_option : (a b : Option (List ℕ)) → ((c : List ℕ) → a ≡ Some c → b ≡ Some c)
+    → ((c : List ℕ) → b ≡ Some c → a ≡ Some c) → a ≡ b
+same_option None None to from = refl
+same_option None (Some c) to from = from c refl
+same_option (Some c) b to from = sym (to c refl)
+
+abbrev first_path : List FileEntry → List ℕ
+first_path [] = []
+first_path (e ∷ es) = e.path
+
+abbrev others_of : List FileEntry → List FileEntry
+others_of [] = []
+others_of (e ∷ es) = es
+
+-- files that are listed alike, and hold what the bag holds, are the same
+pub same_files : (bag : Bag) (xs ys : List File) → map entry_of_file xs ≡ map entry_of_file ys
+    → ((e : File) → Contains xs e → file bag e.0 ≡ Some e.1) → ((e : File) → Contains ys e → file bag e.0 ≡ Some e.1)
+    → xs ≡ ys
+same_files bag [] [] same h k = refl
+same_files bag (x ∷ xs) (y ∷ ys) same h k =
+    let path : x.0 ≡ y.0 = ap first_path same in
+    let content : Some x.1 ≡ Some y.1 =
+    sym (h x (contains_first x xs)) ∙ ap (file bag) path ∙ k y (contains_first y ys) in
+    let bytes : x.1 ≡ y.1 = cc in
+    let rest : map entry_of_file xs ≡ map entry_of_file ys = ap others_of same in
+    let others =
+    same_files bag xs ys rest (λ e c. h e (contains_behind x xs e c)) (λ e c. k e (contains_behind y ys e c)) in
+    λ i. (path i, bytes i) ∷ others i
+same_files bag _ _ same h k = cc

@@ -1,5 +1,0 @@
-use Rattle.bag_facts.proofs.Common.{IsPermutation-trans}
-use Rattle.bag_facts.proofs.arrangement.move_to.Goals as goal
-
-pub loop-preserved : goal.loop-preserved
-loop-preserved g c = IsPermutation-trans _ _ _ c.loop.invariant c.move_from-at.ensures
