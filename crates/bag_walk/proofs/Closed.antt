@@ -8,7 +8,7 @@ use Rattle.bag_walk.proofs.Common.{written_line, lines_of_run, ReachesEnd, Wrote
 use Rattle.bag_walk.specs.declared.outcome.Outcome.TheVariants as outcome
 use Rattle.bag_walk.specs.declared.segment.SegmentEnd.TheVariants.{Full, Unread, Unwritten}
 use Rattle.bag_walk.proofs.RunLines.{concat-append_one, cut_at, place_behind}
-use Rattle.bag_walk.proofs.Writing.{Appends-append}
+use Rattle.bag_tree.proofs.Writing.{Appends-append}
 
 -- what a run wrote whose lines are followed by a closing line
 module _ (request : Request) (Stops : Stop → Type 0) where

@@ -10,7 +10,7 @@ pub use Rattle.std.proofs.lemmas.Bool.{lt-ltb, ltb-true, not-true, or_cases, or_
 pub use Rattle.std.proofs.lemmas.Bool.Decides.{nat_tests}
 pub use Rattle.std.proofs.lemmas.Grind.{common_steps}
 pub use Rattle.std.proofs.lemmas.List.{append_cancel_left, drop-drop, drop-map, drop-take, drop_all, drop_at, drop_more}
-pub use Rattle.std.proofs.lemmas.List.{get_or_default, length-append, length-map, length-take-le, map-append}
+pub use Rattle.std.proofs.lemmas.List.{length-append, length-map, length-take-le, map-append}
 pub use Rattle.std.proofs.lemmas.List.{nil_from_length, same_from_push, take-map, take-take, take_all, take_at}
 pub use Rattle.std.proofs.lemmas.List.Elements.{All-append, All-contains, All-filter, All-from_recursion, All-get_or}
 pub use Rattle.std.proofs.lemmas.List.Elements.{All-nil, All-take, Contains-push, Contains-push_cases, filter-append}
@@ -29,8 +29,8 @@ pub use Rattle.std.specs.Cmp.Lexicographic.{nat_list_cmp_total}
 pub use Rattle.std.specs.Io.KnownBytes.{Appends}
 pub use Rattle.std.specs.List.{All, AllByRecursion, concat, sum}
 pub use Rattle.std.specs.List.Sorted.{IsStrictlySortedBy}
-pub use Rattle.std.specs.Option.{option_copied, option_map, option_to_list}
-pub use Rattle.std.specs.Ordering.{is_gt, is_lt, ordering_reverse}
+pub use Rattle.std.specs.Option.{option_copied, option_map}
+pub use Rattle.std.specs.Ordering.{is_lt, ordering_reverse}
 pub use Rattle.std.specs.Prelude.{Err, IfErr, IfOk, MatchResult, Ok, OnErr, OnOk, Result, flat_map, if◌then◌else◌, ⊤}
 pub use Rattle.std.specs.declared.cmp.Ordering.{Ordering}
 pub use Rattle.std.specs.declared.cmp.Ordering.TheVariants.{Equal, Greater, Less}
@@ -40,13 +40,14 @@ pub use Rattle.bag_facts.proofs.Opens.{all_along, front_ascends, opens_all_first
 pub use Rattle.bag_facts.proofs.Ordered.{fault_cmp_total}
 pub use Rattle.bag_facts.proofs.Reading.{keeps_itself, keeps_on, later_refusal}
 pub use Rattle.bag_facts.proofs.Refusing.{came_from, has_entry, path_some, refused_file, told_memory}
-pub use Rattle.bag_facts.specs.FactsOfBag.{IsFactsOf, IfBagRead}
+pub use Rattle.bag_facts.specs.FactsOfBag.{IsFactsOf}
 pub use Rattle.bag_facts.specs.FaultLine.{field}
 pub use Rattle.bag_facts.specs.LineOf.{IsLineOf}
 pub use Rattle.bag_facts.specs.FaultOrder.{fault_cmp}
 pub use Rattle.bag_facts.specs.Options.{reaches}
-pub use Rattle.bag_facts.specs.Stops.{IsOutOfMemory, MayRefuseFacts}
-pub use Rattle.bag_facts.specs.TagReader.{IsRefusalOf, MayStopReading, OpensAll}
+pub use Rattle.bag_tree.specs.Stop.{IsOutOfMemory, IsRefusalOf}
+pub use Rattle.bag_facts.specs.Stops.{MayRefuseFacts}
+pub use Rattle.bag_facts.specs.TagReader.{MayStopReading, OpensAll}
 pub use Rattle.bag_facts.specs.Wanted.{AreWanted, ForListing, IsWanted, OpensUpTo, OpensWanted}
 pub use Rattle.bag_facts.specs.Wanted.{paths_of}
 pub use Rattle.bag_facts.specs.declared.facts.Facts.{Facts}
@@ -62,23 +63,20 @@ pub use Rattle.bag_report.proofs.Filtered.{filtered_list}
 pub use Rattle.bag_report.proofs.Found.{is_of_completeness, is_of_validity, of_completeness, of_validity}
 pub use Rattle.bag_report.specs.Report.{Check, IsReport, IsReported, above, first, is_above}
 pub use Rattle.bag_report.specs.Stages.{IsStageOf}
-pub use Rattle.bag_stages.proofs.ByItem.{OfSome, before_next, of_last_or_before, of_one_more}
+pub use Rattle.bag_stages.proofs.ByItem.{before_next}
 pub use Rattle.bag_stages.proofs.InFile.{less_by_path}
 pub use Rattle.bag_stages.proofs.NamesByKind.{names_by_kind}
 pub use Rattle.bag_stages.proofs.ValidityFaults.{validity_of_stage_seven}
-pub use Rattle.bag_stages.specs.ClashStage.{IsSoughtClash}
-pub use Rattle.bag_stages.specs.CompletenessFaults.{IsIncomplete, IsMissing, IsV10LeftOutByOne, IsV097LeftOutByAll}
-pub use Rattle.bag_stages.specs.CompletenessFaults.{IsWrong}
+pub use Rattle.bag_stages.specs.LeftOut.{IsNamedBySome}
+pub use Rattle.bag_stages.specs.Expected.{Expected}
 pub use Rattle.bag_stages.specs.SumFaults.{AreSumsBy, differing, differing_code, faults_of_bytes}
 pub use Rattle.bag_stages.specs.SumFaults.{sum_differs, IsFaultOfFile}
 pub use Rattle.bag_stages.specs.SummedFiles.{IsNamed, IsSummed}
 pub use Rattle.bag_stages.specs.TagFiles.{Names, named_in}
 pub use Rattle.bag_stages.specs.ValidityStage.{IsOfValidity}
-pub use Rattle.bag_stages.specs.declared.expected.Expected.{Expected}
 pub use Rattle.bag_text.proofs.ListOf.{contains_back, contains_behind, contains_cases, contains_either, contains_first}
 pub use Rattle.bag_text.proofs.ListOf.{contains_front, contains_nothing, each_from_members, joined, member_has}
 pub use Rattle.bag_text.proofs.ListOf.{nothing_listed, one_list, one_listed, same_lists, same_members}
-pub use Rattle.bag_text.specs.Alg.{algs}
 pub use Rattle.bag_text.specs.Code.{stage}
 pub use Rattle.bag_text.specs.Order.{IsListOf}
 pub use Rattle.bag_text.specs.Path.{is_path, is_payload_path}
@@ -87,7 +85,7 @@ pub use Rattle.bag_text.specs.declared.code.Code.{Code}
 pub use Rattle.bag_text.specs.declared.code.Code.TheVariants.{NameClash}
 pub use Rattle.bag_tree.proofs.Calm.{memory_then, nothing_asked, nothing_then}
 pub use Rattle.bag_tree.specs.Bag.{Bag, HasFile, IsBag, file, has_file}
-pub use Rattle.bag_tree.specs.Out.{OutState}
+pub use Rattle.bag_tree.specs.Out.{IsCut, OutState}
 pub use Rattle.bag_tree.specs.Tree.{Keeps, TreeState, MayReportMemory, NothingFailed, IsRefusedAt}
 pub use Rattle.bag_tree.specs.FileReads.{IsEntryOf, OpensAtMost}
 pub use Rattle.bag_tree.specs.Whole.{MayRefuseWhole}
@@ -96,26 +94,26 @@ pub use Rattle.bag_tree.specs.declared.tree_fault.Stop.{Stop}
 pub use Rattle.bag_tree.specs.declared.tree_fault.TreeFault.{TreeFault}
 pub use Rattle.bag_tree.specs.declared.tree_fault.TreeFault.TheVariants.{Changed, Memory}
 pub use Rattle.bag_walk.specs.Closing.{closing, count_of}
-pub use Rattle.bag_walk.specs.Completeness.{AreAbove, IsAbove, IsOfAlg, IsOfSomeAlg, IsStageAbove, TakesLeast}
+pub use Rattle.bag_walk.specs.Completeness.{AreAbove, IsAbove, IsStageAbove}
 pub use Rattle.bag_walk.specs.Ending.{IsAnswered, IsCutAt, MayEnd, ReachesEnd, Wrote, ended, ideal, limit_of}
 pub use Rattle.bag_walk.specs.Ending.{lines_of_run, written, written_line}
 pub use Rattle.bag_walk.specs.Files.{AreToSum, IsNamedAhead, IsToSum, HasItsFaults}
 pub use Rattle.bag_walk.specs.Filled.{awaits_second, is_both}
 pub use Rattle.bag_walk.specs.Lines.{IsLastLine, IsLastOf, cursor_after}
-pub use Rattle.bag_walk.specs.Merge.{fronts, least_of, union, union_is}
+pub use Rattle.bag_walk.specs.Merge.{fronts, least_of, union}
 pub use Rattle.bag_walk.specs.Openings.{IsBeforeFile, NoFaultBefore, IsToOpen, is_passed}
 pub use Rattle.bag_walk.specs.SourceOpenings.{IsReached, NoFaultBeforeStop, Opens, OpensAgain}
 pub use Rattle.bag_walk.specs.SourceOpenings.{OpensNoFileEarly, StillWait}
-pub use Rattle.bag_walk.specs.Run.{AreFirst, EndsAt, IsAsked, IsRun, IsRunByReport, SeesOneBag, check_of}
-pub use Rattle.bag_walk.specs.RunOpenings.{AreEarly, IsListed, LooksNoFurther, OpensInRun, OpensInTurn, OpensListed}
+pub use Rattle.bag_walk.specs.Run.{AreFirst, EndsAt, IsAsked, IsRun, IsRunByReport, IsHonestOrReadOnce, check_of}
+pub use Rattle.bag_walk.specs.RunOpenings.{AreEarly, LooksNoFurther, OpensInRun, OpensInTurn, OpensNamed}
 pub use Rattle.bag_walk.specs.RunOpenings.{OpensNonePassed, OpensUpToSummed, StopsInTurn, written_before}
 pub use Rattle.bag_walk.specs.Segment.{MayStopRun}
 pub use Rattle.bag_walk.specs.SegmentEnds.{ClosesSegment, EndsSegment, IfUnread, IsRead, IsSegment}
-pub use Rattle.bag_walk.specs.SegmentEnds.{MayStopWalk, StopsAt, WroteFirst, looked_past}
+pub use Rattle.bag_walk.specs.SegmentEnds.{StopsAt, WroteFirst, looked_past}
 pub use Rattle.bag_walk.specs.SegmentEnds.{still_to_come}
 pub use Rattle.bag_walk.specs.Segment.{WritesWithoutFailure}
-pub use Rattle.bag_walk.specs.SegmentOpenings.{AreListed, EachBagHasListedFiles, IsListedFile, OpensFew, OpensInSegment}
-pub use Rattle.bag_walk.specs.SegmentOpenings.{not_passed}
+pub use Rattle.bag_walk.specs.SegmentOpenings.{AreCompared, EachBagHasComparedFiles, IsComparedFile, OpensFew}
+pub use Rattle.bag_walk.specs.SegmentOpenings.{OpensInSegment, not_passed}
 pub use Rattle.bag_walk.specs.SegmentChain.{Chain, Progress, RunsInSegments, RunsSegment, before_segments}
 pub use Rattle.bag_walk.specs.Segments.{AreSegments, ForReport, ForReportFrom, ContinuesReport, IsStopped, MayLose}
 pub use Rattle.bag_walk.specs.Segments.{RunsOfSegments, SegmentsFrom, SegmentsJoin, WroteSegments, cost, is_last}
@@ -130,8 +128,7 @@ pub use Rattle.bag_walk.specs.Stops.{IfRunUnread, MayStop}
 pub use Rattle.bag_walk.specs.ToSum.{faults_at, faults_in, faults_of_files, paths_to_sum}
 pub use Rattle.bag_walk.specs.Union.{first_of_union, rest_alone, rest_equal, rest_greater, rest_less, rest_other}
 pub use Rattle.bag_walk.specs.Validity.{AreFilesOf, IsOfBag}
-pub use Rattle.bag_walk.specs.Write.{IsCut}
-pub use Rattle.bag_walk.specs.Pieces.{IsTaken, Writes, joined_pieces}
+pub use Rattle.bag_tree.specs.Pieces.{IsTaken, Writes, joined_pieces}
 pub use Rattle.bag_walk.specs.Writer.{Closes, WritesReport}
 pub use Rattle.bag_walk.specs.declared.outcome.Outcome.{Outcome}
 pub use Rattle.bag_walk.specs.declared.outcome.Outcome.TheVariants.{Stopped, Unread, Unwritten}

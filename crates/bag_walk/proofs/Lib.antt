@@ -3,9 +3,9 @@ pub mod Chosen
 pub mod ChosenWithin
 pub mod Closed
 pub mod Common
+pub mod ComparedFiles
 pub mod Filling
 pub mod RunLines
-pub mod ListedFiles
 pub mod Merging
 pub mod OneList
 pub mod Openings
@@ -29,6 +29,4 @@ pub mod StageSix
 pub mod Stages
 pub mod StartPart
 pub mod Summing
-pub mod UnitedLists
 pub mod Within
-pub mod Writing

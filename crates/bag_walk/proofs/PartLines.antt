@@ -9,8 +9,8 @@ use Rattle.bag_walk.proofs.OneList.{one_list_of_files}
 use Rattle.bag_walk.proofs.Parts.{parts_join}
 use Rattle.bag_walk.proofs.Places.{cursor_cuts_list}
 use Rattle.bag_walk.proofs.RunLines.{concat_joined}
-use Rattle.bag_walk.proofs.UnitedLists.{above_none}
-use Rattle.bag_walk.proofs.Writing.{Appends-append}
+use Rattle.bag_walk.proofs.Positions.{above_none}
+use Rattle.bag_tree.proofs.Writing.{Appends-append}
 use Rattle.bag_walk.specs.PartRuns.{CursorCutsPart, DonePartIsWritten, IsRunOfPart, OneListIsTold, PartsWriteReport}
 use Rattle.bag_walk.specs.PartRuns.{PutsPartClosing, done_line, first_counts, first_lines, part_outcome}
 use Rattle.bag_walk.specs.Parts.{AreFilesIn, bounds_of, first_parts, is_within, listed_of, part_of}

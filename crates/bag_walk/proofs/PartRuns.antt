@@ -8,7 +8,8 @@ use Rattle.bag_walk.proofs.Common.{AreWanted, ForListing, Full, OpensAll, OpensU
 use Rattle.bag_walk.proofs.Common.{IsReport, IsSummed, above, IsAsked, IsListOf, IsReached, OpensAgain, Sees, MayStopRun}
 use Rattle.bag_walk.proofs.Common.{MayStop, IfUnread, IsSegment, Segment, SegmentEnd, front_ascends, limit_of}
 use Rattle.bag_walk.proofs.Common.{IsToOpen, NoFaultBefore, NoFaultBeforeStop, OpensNoFileEarly, Request, check_of}
-use Rattle.bag_walk.proofs.Common.{EndsSegment, IsRefusedAt, still_to_come, looked_past}
+use Rattle.bag_walk.proofs.Common.{EndsSegment, IsRefusedAt, still_to_come, looked_past, false, refl, All-nil}
+use Rattle.bag_walk.proofs.Common.{all_along, each_from_members, is_passed, IsBag}
 use Rattle.std.specs.List.Sorted.{IsStrictlySortedBy}
 use Rattle.bag_facts.specs.Part.{Part}
 use Rattle.bag_walk.proofs.Filling.{again_within, opened_front}
@@ -17,7 +18,7 @@ use Rattle.bag_walk.proofs.Openings.{early_at, none_of}
 use Rattle.bag_walk.proofs.Running.{memory_may_stop}
 use Rattle.bag_walk.proofs.SegmentStart.{asking_of}
 use Rattle.bag_walk.proofs.Shown.{above_report}
-use Rattle.bag_walk.specs.PartRuns.{LooksNoFurtherInPart, OpensInPart, OpensPartUpTo}
+use Rattle.bag_walk.specs.PartRuns.{ForPart, LooksNoFurtherInPart, OpensInPart, OpensPartUpTo, WritesPart}
 use Rattle.bag_walk.specs.Parts.{AreFilesIn, bounds_of, is_file_within, is_within, part_of}
 use Rattle.bag_walk.specs.StartPart.{AreToOpenWithin, IsPartStarted, IsWithin}
 use Rattle.bag_walk.specs.declared.part.Bounds.{Bounds}
@@ -34,6 +35,8 @@ part_reads profile request part segment old new (paths, opened, ascending, wante
   read_in_order = ascending;
   wanted = wanted;
   summed_in_order = tt;
+  only_at_full = λ below. refl;
+  none_passed = All-nil (λ path. is_passed request.after path ≡ false);
   of_part = λ honest files are path c. absurd (contains_nothing path c);
   in_turn = λ honest report is files are f path c d. absurd (contains_nothing path d);
 }
@@ -77,6 +80,19 @@ module _ {old mid : TreeState} (new : TreeState) {profile : Option Profile} {opt
   }
   stop_of_part no_failure other stops = tt
 
+  -- what is left is the part of the report of what was seen
+  pub left_of : (report : List Fault)
+      → IsReport (record { bag = started.seen; profile = profile; options = options }) report
+      → (files : List FileEntry) → AreFilesIn started.seen files
+      → left started.seen ≡ part_of files part (above after report)
+  left_of report is files are =
+      one_list fault_cmp fault_cmp_total (IsWithin bounds (IsAsked started.seen profile (asking_of options after)))
+      (left started.seen) (part_of started.listing part (above after report)) started.stands
+      (filtered_list fault_cmp (IsAsked started.seen profile (asking_of options after)) (is_within bounds)
+      (above after report) (above_report started.seen profile (asking_of options after) report is))
+      ∙ ap (λ list. part_of list part (above after report))
+      (one_list_of_files started.seen started.listing files started.listed are)
+
   module _ (honest : IsTrue old.honest) where
     pub sees_of : Sees mid todo started.seen
     sees_of = inl (k.honest ∙ honest, k.bag ∙ sym (started.honest honest))
@@ -93,24 +109,52 @@ module _ {old mid : TreeState} (new : TreeState) {profile : Option Profile} {opt
         → (files : List FileEntry) → AreFilesIn old.bag files
         → left started.seen ≡ part_of files part (above after report)
     left_is report is files are =
-        one_list fault_cmp fault_cmp_total (IsWithin bounds (IsAsked started.seen profile (asking_of options after)))
-        (left started.seen) (part_of started.listing part (above after report)) started.stands
-        (filtered_list fault_cmp (IsAsked started.seen profile (asking_of options after)) (is_within bounds)
-        (above after report)
-        (above_report started.seen profile (asking_of options after) report
+        left_of report
         (subst (λ bag. IsReport (record { bag = bag; profile = profile; options = options }) report)
-        (sym (started.honest honest)) is)))
-        ∙ ap (λ list. part_of list part (above after report)) (same_files files are)
+        (sym (started.honest honest)) is)
+        files (subst (λ bag. AreFilesIn bag files) (sym (started.honest honest)) are)
 
-    pub segment_is : (limit : ℕ) (before then : OutState) (segment : Segment)
-        → ((bag : Bag) → IsOf bag → Sees mid todo bag → IsSegment (left bag) limit before then segment)
-        → (report : List Fault)
-        → IsReport (record { bag = old.bag; profile = profile; options = options }) report
-        → (files : List FileEntry) → AreFilesIn old.bag files
-        → IsSegment (part_of files part (above after report)) limit before then segment
-    segment_is limit before then segment seen report is files are =
-        subst (λ faults. IsSegment faults limit before then segment) (left_is report is files are)
-        (seen started.seen started.of sees_of)
+  pub sees_one : IsTrue old.honest ⊎ (options.depth ≢ Full) → Sees mid todo started.seen
+  sees_one (inl honest) = sees_of honest
+  sees_one (inr below) = inr (none_of todo (λ path c. below ((started.files.members path).0 c).0.0))
+
+-- a part is of the bag that was seen
+pub part_written : {old mid : TreeState} (new : TreeState) {profile : Option Profile} (request : Request) {part : Part}
+    {IsOf : Bag → Type 0} {left : Bag → List Fault} {todo : List (List ℕ)}
+    → (started : IsPartStarted old profile request.options request.after part IsOf left todo) → Keeps old mid
+    → (before lines : OutState) (segment : Segment)
+    → ((bag : Bag) → IsOf bag → Sees mid todo bag → IsSegment (left bag) (limit_of request) before lines segment)
+    → WritesPart old profile request part before lines segment
+part_written new request started k before lines segment seen = record {
+  seen = started.seen;
+  is_bag = started.is_bag;
+  honest = started.honest;
+  faults = λ one report is files are.
+      subst (λ faults. IsSegment faults (limit_of request) before lines segment)
+      (left_of new started k report is files are)
+      (seen started.seen started.of (sees_one new started k one));
+}
+
+-- where nothing was looked at, of the tree's
+pub none_written : (old : TreeState) (profile : Option Profile) (request : Request) (part : Part) (before : OutState)
+    (segment : Segment) → IsBag old.bag
+    → ((faults : List Fault) → IsSegment faults (limit_of request) before before segment)
+    → WritesPart old profile request part before before segment
+none_written old profile request part before segment is_bag all = record {
+  seen = old.bag;
+  is_bag = is_bag;
+  honest = λ honest. refl;
+  faults = λ one report is files are. all (part_of files part (above request.after report));
+}
+
+-- over an honest tree it is of its bag
+pub part_faults : (old : TreeState) (profile : Option Profile) (request : Request) (part : Part)
+    (before lines : OutState) (segment : Segment) → WritesPart old profile request part before lines segment
+    → ForPart old profile request part (λ faults. IsSegment faults (limit_of request) before lines segment)
+part_faults old profile request part before lines segment writes honest report is files are =
+    let same = sym (writes.honest honest) in
+    writes.faults (inl honest) report (subst (λ bag. IsReport (check_of bag profile request) report) same is) files
+    (subst (λ bag. AreFilesIn bag files) same are)
 
 -- how many faults were passed when the last was looked for is less than the limit
 looked_within : (faults : List Fault) (limit n : ℕ) (end : SegmentEnd) → 0 < limit → EndsSegment faults limit n end
@@ -133,6 +177,12 @@ module _ {old mid : TreeState} (new : TreeState) {profile : Option Profile} (req
     joins : (xs : List (List ℕ)) → mid.openings ++ xs ≡ old.openings ++ (read.0 ++ xs)
     joins xs = ap (λ o. o ++ xs) read.1 ∙ append_assoc old.openings read.0 xs
 
+    -- each of the files is to be opened
+    each : (path : List ℕ) → Contains paths path
+        → IsToOpen (check_of started.seen profile request) request.after path
+        × (is_file_within (bounds_of started.listing part) path ≡ true)
+    each path c = (started.files.members path).0 (again_within again paths (opened_front again).2 path c)
+
     pub part_opens : OpensInPart profile request part segment old new
     part_opens = record {
       read = read.0;
@@ -143,9 +193,12 @@ module _ {old mid : TreeState} (new : TreeState) {profile : Option Profile} (req
       summed_in_order =
           front_ascends paths (opened_front again).1
           (subst (IsStrictlySortedBy text_cmp) (opened_front again).3 started.files.ascending);
+      only_at_full = λ below. none_of paths (λ path c. below (each path c).0.0);
+      none_passed =
+          let none : List ℕ → Type 0 = λ path. is_passed request.after path ≡ false in
+          all_along none paths (each_from_members none paths (λ path c. (each path c).0.2));
       of_part = λ honest files are path c.
-          let both =
-          (started.files.members path).0 (again_within again paths (opened_front again).2 path c) in (
+          let both = each path c in (
             subst (λ bag. IsToOpen (check_of bag profile request) request.after path) (started.honest honest) both.0,
             subst (λ list. is_file_within (bounds_of list part) path ≡ true)
                 (same_files new started k honest files are) both.1,

@@ -2,12 +2,17 @@
 use Rattle.bag_walk.proofs.Common.{arith, ◌≡◌, ◌++◌, ◌∷◌, inl, inr, ℕ, List, [], true, Option, None, Some, Contains, ap}
 use Rattle.bag_walk.proofs.Common.{subst, is_lt, Less, contains_behind, contains_cases, contains_either, contains_first}
 use Rattle.bag_walk.proofs.Common.{contains_front, contains_nothing, member_has, TreeState, fault_cmp, Fault}
-use Rattle.bag_walk.proofs.Common.{not_less_than_itself, fault_cmp_total, Check, is_above, Opens, OpensAgain}
+use Rattle.bag_walk.proofs.Common.{not_less_than_itself, fault_cmp_total, Check, above, is_above, Opens, OpensAgain}
 use Rattle.bag_walk.proofs.Common.{OpensNoFileEarly, StillWait, first_of, rest_of, Gives, IsReportAfter, Result, Ok}
 use Rattle.bag_walk.proofs.Common.{Err, IfErr, IfOk, MatchResult, OnErr, OnOk, Bor, option_copied, Keeps, Stop}
-use Rattle.bag_walk.proofs.Common.{MayStopAnyway, MayStopFilling, went, IsNextOf, MayStopStep}
+use Rattle.bag_walk.proofs.Common.{MayStopAnyway, MayStopFilling, went, IsNextOf, MayStopStep, refl}
 use Rattle.std.specs.List.Sorted.{IsStrictlySortedBy}
 use Rattle.bag_walk.proofs.Chosen.{less_is}
+
+-- without a position each fault is
+pub above_none : (faults : List Fault) → faults ≡ above None faults
+above_none [] = refl
+above_none (f ∷ faults) = ap (λ fs. f ∷ fs) (above_none faults)
 
 -- what is above a fault that is above a position is above the position
 above_on : (position : Option Fault) (f g : Fault) → is_above position f ≡ true → fault_cmp f g ≡ Less

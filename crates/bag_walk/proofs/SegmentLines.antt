@@ -6,12 +6,12 @@ use Rattle.bag_walk.proofs.Common.{take-append-drop, take-append_seam, contains_
 use Rattle.bag_walk.proofs.Common.{NothingFailed, TreeState, Keeps, Stop, Memory, memory_then, IsOutOfMemory, Fault}
 use Rattle.bag_walk.proofs.Common.{written, written_line, IsCut, IsReached, NoFaultBeforeStop, Opens, OpensAgain}
 use Rattle.bag_walk.proofs.Common.{OpensNoFileEarly, first_of, rest_of, MayStopFilling, Sees, front_is, none_is}
-use Rattle.bag_walk.proofs.Common.{IsLastOf, IsSegment, MayStopWalk, AtEnd, drop-drop, drop_at, take_at, slice_get-map}
+use Rattle.bag_walk.proofs.Common.{IsLastOf, IsSegment, MayStopRun, AtEnd, drop-drop, drop_at, take_at, slice_get-map}
 use Rattle.bag_walk.proofs.Common.{option_map, true}
 use Rattle.bag_walk.proofs.RunLines.{concat-append_one, cut_at, place_behind}
-use Rattle.bag_walk.proofs.Writing.{Appends-append}
+use Rattle.bag_tree.proofs.Writing.{Appends-append}
 use Rattle.bag_walk.proofs.Filling.{behind_on, once, reached_on, sees_later, sees_parts, stop_later}
-use Rattle.bag_walk.specs.declared.segment.SegmentEnd.TheVariants.{Unread, Unwritten}
+use Rattle.bag_walk.specs.declared.segment.SegmentEnd.TheVariants.{Full, Unread, Unwritten}
 
 pub opens_nothing : (old : TreeState) (xs : List (List ℕ)) → Opens xs xs old old
 opens_nothing old xs = record { opened = []; openings = sym (append-nil old.openings); left = refl }
@@ -81,11 +81,17 @@ module _ {limit count : ℕ} {IsOf IsOfNow : Bag → Type 0} {left left_now : Ba
       → IsOutOfMemory stop ⊎ IsReached todo_now now new stop.path
       → (stop.cause ≡ Memory → MayReportMemory now new)
       → ((IsTrue now.honest → IsOfNow now.bag) → MayStopFilling todo_new now new stop)
-      → MayStopWalk (IsTrue old.honest → IsOf old.bag) todo todo_new old new stop
+      → MayStopRun (IsTrue old.honest → IsOf old.bag) todo old new stop
   stops_now new todo_new stop (inl memory) tells h =
       inl (memory, memory_then old now new has.no_failure (tells memory.0))
-  stops_now new todo_new stop (inr reached) tells h =
-      inr (reached_on has.opens new stop.path reached, λ of. stop_later has.keeps has.no_failure (h (of_now of)))
+  stops_now new todo_new stop (inr reached) tells h = inr (λ of.
+      let filling = stop_later has.keeps has.no_failure (h (of_now of)) in record {
+        cause = filling.cause;
+        answered = filling.answered;
+        path = inr (reached_on has.opens new stop.path reached);
+        memory = filling.memory;
+        out_of_memory = filling.out_of_memory;
+      })
 
   -- so many lines were written
   pub lines_written : (rest : List Fault)
@@ -94,6 +100,13 @@ module _ {limit count : ℕ} {IsOf IsOfNow : Bag → Type 0} {left left_now : Ba
 
   size : (rest : List Fault) → length (has.given ++ rest) ≡ count + length rest
   size rest = length-append has.given rest ∙ ap (λ n. n + length rest) has.count_is
+
+  pub ends_full : (rest : List Fault) → limit ≤ count
+      → IsSegment (has.given ++ rest) limit before mid (record { written = count; end = Full })
+  ends_full rest past = record {
+    ends = (omega (arith, past, has.within), omega (arith, size rest));
+    wrote = lines_written rest;
+  }
 
   pub ends_at_end : count < limit
       → IsSegment (has.given ++ []) limit before mid (record { written = count; end = AtEnd })

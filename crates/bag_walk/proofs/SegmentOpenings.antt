@@ -5,7 +5,7 @@ use Rattle.bag_walk.proofs.Common.{append_assoc, arith, IsStrictlySortedBy, leng
 use Rattle.bag_walk.proofs.Common.{is_payload_path, text_cmp, contains_either, contains_front, contains_nothing}
 use Rattle.bag_walk.proofs.Common.{same_members, TreeState, Fault, OpensWanted, Options, kept, Check, filtered_list}
 use Rattle.bag_walk.proofs.Common.{NoFaultBefore, OpensAgain, OpensNoFileEarly, IsListedToOpen, is_passed, EndsSegment}
-use Rattle.bag_walk.proofs.Common.{looked_past, still_to_come, AreListed, IsListedFile, OpensFew, OpensInSegment}
+use Rattle.bag_walk.proofs.Common.{looked_past, still_to_come, AreCompared, IsComparedFile, OpensFew, OpensInSegment}
 use Rattle.bag_walk.proofs.Common.{not_passed, cursor_after, Segment, not-true, append_cancel_left, cases_lt}
 use Rattle.bag_walk.specs.declared.segment.SegmentEnd.TheVariants.{Full}
 use Rattle.bag_walk.proofs.Filling.{opened_front}
@@ -37,15 +37,15 @@ opens_no_payload options {listed} {report} {n} {segment} {old} {new} read =
 
 -- the listed files that a cursor hasn't passed are those of the payload that are still to be opened
 pub not_passed_listed : (check : Check) (cursor : Option Fault) (listed : List (List ℕ))
-    → AreListed check.options check.bag listed
+    → AreCompared check.options check.bag listed
     → IsListOf text_cmp (IsListedToOpen check cursor) (not_passed cursor listed)
 not_passed_listed check cursor listed are =
     let ahead : List ℕ → Bool = λ path. not (is_passed cursor path) in
-    same_members text_cmp (λ path. IsListedFile check.options check.bag path × (ahead path ≡ true))
+    same_members text_cmp (λ path. IsComparedFile check.options check.bag path × (ahead path ≡ true))
     (IsListedToOpen check cursor) (not_passed cursor listed)
     (λ path h. (h.0.0, h.0.1, h.0.2, h.0.3, not-true (is_passed cursor path) h.1)) (λ path h.
     ((h.0, h.1, h.2, h.3), ap not h.4))
-    (filtered_list text_cmp (IsListedFile check.options check.bag) ahead listed are)
+    (filtered_list text_cmp (IsComparedFile check.options check.bag) ahead listed are)
 
 -- tag files were read, and then files were opened that were to be
 module _ (old mid new : TreeState) (options : Options) (todo left : List (List ℕ)) (read : OpensWanted options old mid)
@@ -118,7 +118,7 @@ pub record OpenedSoFar (listed : List (List ℕ)) (i unread : ℕ) (cursor : Opt
   where
     pub opened : List (List ℕ)
     pub openings : now.openings ≡ old.openings ++ opened
-    pub only_listed : (path : List ℕ) → Contains (filter is_payload_path opened) path → Contains listed path
+    pub only_compared : (path : List ℕ) → Contains (filter is_payload_path opened) path → Contains listed path
     pub few : length (filter is_payload_path opened) ≤ (unread + 1) * length listed + (i - 1)
     pub room : length (filter is_payload_path opened) + length (not_passed cursor listed)
         ≤ (unread + 1) * length listed + i
@@ -130,7 +130,7 @@ pub few_of : (listed : List (List ℕ)) (i unread segments : ℕ) (cursor : Opti
     → OpenedSoFar listed i unread cursor old now → i ≤ segments
     → OpensFew listed segments unread old now
 few_of listed i unread segments cursor old now so le =
-    record { opened = so.opened; openings = so.openings; only_listed = so.only_listed; few = omega (arith, so.few, le) }
+    record { opened = so.opened; openings = so.openings; only_compared = so.only_compared; few = omega (arith, so.few, le) }
 
 module _ (listed : List (List ℕ)) (report : List Fault) (n i unread : ℕ) (segment : Segment) {old now new : TreeState}
     (so : OpenedSoFar listed i unread (cursor_after n report) old now)
@@ -142,7 +142,7 @@ module _ (listed : List (List ℕ)) (report : List Fault) (n i unread : ℕ) (se
   only path c =
       elim (contains_either (filter is_payload_path so.opened) (filter is_payload_path opens.opened) path
       (rw (← filter-append) c)) [
-        | inl a ↦ so.only_listed path a
+        | inl a ↦ so.only_compared path a
         | inr b ↦ (kept (λ p. not (is_passed (cursor_after n report) p)) listed path
             (subst (λ l. Contains l path) (sym opens.first)
             (contains_front (filter is_payload_path opens.opened) opens.rest path b))).1

@@ -1,7 +1,7 @@
 -- The segment of one limit as a run of its own, and what a chain of segments gains by it.
 use Rattle.bag_walk.proofs.Common.{◌≡◌, ◌≤◌, ◌+◌, ◌∙◌, ◌∷◌, inl, inr, ℕ, List, Option, length, drop, true, false}
 use Rattle.bag_walk.proofs.Common.{refl, sym, arith, length-drop, OutState, NothingFailed, TreeState, Keeps, Fault}
-use Rattle.bag_walk.proofs.Common.{Options, Profile, IsLastLine, IsRead, IfUnread, EndsSegment, IsSegment, AreListed}
+use Rattle.bag_walk.proofs.Common.{Options, Profile, IsLastLine, IsRead, IfUnread, EndsSegment, IsSegment, AreCompared}
 use Rattle.bag_walk.proofs.Common.{OpensInSegment, ForReport, ForReportFrom, ContinuesReport, MayStop, Outcome, Chain}
 use Rattle.bag_walk.proofs.Common.{Progress, RunsSegment, Segment, SegmentEnd, cursor_after, is_last, outcome_at}
 
@@ -39,7 +39,7 @@ module _ (profile : Option Profile) (options : Options) {start now : TreeState} 
         (stop : IfUnread segment.end (MayStop options now new))
         (unseen : (faults : List Fault) × IsSegment faults limit before after segment)
         (opens : ForReportFrom now profile options line
-        (λ report n. (listed : List (List ℕ)) → AreListed options now.bag listed
+        (λ report n. (listed : List (List ℕ)) → AreCompared options now.bag listed
         → OpensInSegment listed report n segment now new)) where
       abbrev from_now : Progress
       from_now = record { tree = now; out = before; count = n; outcome = outcome }
@@ -67,7 +67,7 @@ module _ (profile : Option Profile) (options : Options) {start now : TreeState} 
             (from_here (λ report n. ContinuesReport report n limit before after next segment) goes honest report
             is).writes;
         opens =
-            from_here (λ report n. (listed : List (List ℕ)) → AreListed options now.bag listed
+            from_here (λ report n. (listed : List (List ℕ)) → AreCompared options now.bag listed
             → OpensInSegment listed report n segment now new) opens;
       }
 

@@ -4,7 +4,7 @@ use Rattle.bag_walk.proofs.Common.{sym, ap, ◌∙◌, subst, nat_list_cmp_total
 use Rattle.bag_walk.proofs.Common.{OutState, Bag, NothingFailed, TreeState, Keeps, fault_cmp, Fault, fault_cmp_total}
 use Rattle.bag_walk.proofs.Common.{OpensWanted, Options, Profile, Check, IsReport, above, Request, OpensAgain}
 use Rattle.bag_walk.proofs.Common.{OpensNoFileEarly, Sees, IsListedToOpen, IsStarted, IsLastLine, IsLastOf, IsAsked}
-use Rattle.bag_walk.proofs.Common.{IfUnread, IsSegment, MayStopRun, still_to_come, AreListed, OpensInSegment}
+use Rattle.bag_walk.proofs.Common.{IfUnread, IsSegment, MayStopRun, still_to_come, AreCompared, OpensInSegment}
 use Rattle.bag_walk.proofs.Common.{not_passed, cursor_after, ContinuesReport, MayStop, Segment, SegmentEnd}
 use Rattle.bag_walk.specs.declared.segment.SegmentEnd.TheVariants.{Unread}
 use Rattle.bag_walk.proofs.Running.{sees_of, stop_of_walk}
@@ -52,19 +52,19 @@ module _ {old mid : TreeState}
     check_seen = record { bag = started.seen; profile = profile; options = options }
 
     -- of the payload those files are still to be opened that are listed and that the cursor hasn't passed
-    payload_left : (listed : List (List ℕ)) → AreListed options old.bag listed
+    payload_left : (listed : List (List ℕ)) → AreCompared options old.bag listed
         → filter is_payload_path todo ≡ not_passed (cursor_after n report) listed
     payload_left listed are =
         one_list text_cmp nat_list_cmp_total (IsListedToOpen check_seen after) (filter is_payload_path todo)
         (not_passed after listed) started.payload
         (not_passed_listed check_seen after listed
-        (subst (λ bag. AreListed options bag listed) (sym (started.honest honest)) are))
+        (subst (λ bag. AreCompared options bag listed) (sym (started.honest honest)) are))
         ∙ ap (λ cursor. not_passed cursor listed) behind
 
     pub opens_behind : OpensWanted options old mid → (others : List (List ℕ)) → OpensAgain todo others mid new
         → (segment : Segment)
         → ((bag : Bag) → IsOf bag → Sees mid todo bag → OpensNoFileEarly (still_to_come segment (left bag)) mid new)
-        → (listed : List (List ℕ)) → AreListed options old.bag listed → OpensInSegment listed report n segment old new
+        → (listed : List (List ℕ)) → AreCompared options old.bag listed → OpensInSegment listed report n segment old new
     opens_behind read others again segment none listed are =
         let sees = sees_of new (asking_of options after) started k (inl honest) in
         let b =

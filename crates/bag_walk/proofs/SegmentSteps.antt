@@ -5,17 +5,17 @@ use Rattle.bag_walk.proofs.Common.{take-append-drop, length-drop, take-map, conc
 use Rattle.bag_walk.proofs.Common.{append_cancel_left, OutState, TreeState, Keeps, Stop, TreeFault, fault_cmp, Fault}
 use Rattle.bag_walk.proofs.Common.{MayRefuseFacts, Options, keeps_itself, keeps_on, later_refusal, above, first, ended}
 use Rattle.bag_walk.proofs.Common.{written, written_line, Outcome, Stopped, IsLastLine, IsLastOf, EndsSegment, IfUnread}
-use Rattle.bag_walk.proofs.Common.{WroteFirst, AreListed, OpensInSegment, cursor_after, SegmentsJoin, cost}
+use Rattle.bag_walk.proofs.Common.{WroteFirst, AreCompared, OpensInSegment, cursor_after, SegmentsJoin, cost}
 use Rattle.bag_walk.proofs.Common.{SegmentsFrom, AreSegments, WroteSegments, MayLose, IsStopped, RunsOfSegments}
 use Rattle.bag_walk.proofs.Common.{is_last, outcome_at, MayStop, SegmentEnd, drop-map, drop-take, take-take, Option}
 use Rattle.bag_walk.proofs.Common.{IsTrue, sum_by-cons, MayReportMemory, Profile, IsReport, Chain, Progress}
 use Rattle.bag_walk.proofs.Common.{RunsInSegments, RunsSegment, before_segments, IsSegment, Segment, Unread}
-use Rattle.bag_walk.proofs.Writing.{Appends-append, Appends-nil}
+use Rattle.bag_tree.proofs.Writing.{Appends-append, Appends-nil}
 use Rattle.bag_walk.specs.declared.segment.SegmentEnd.TheVariants as end_of
 use Rattle.bag_walk.proofs.Closed.{end_has_no_stop}
 use Rattle.bag_walk.proofs.Passed.{passed_later}
 use Rattle.bag_walk.proofs.RunLines.{concat_joined}
-use Rattle.bag_walk.proofs.UnitedLists.{above_none}
+use Rattle.bag_walk.proofs.Positions.{above_none}
 use Rattle.bag_walk.proofs.Places.{at_later, at_place, cursor_cuts_list}
 use Rattle.bag_walk.proofs.SegmentOpenings.{OpenedSoFar, few_of, few_with_last, full_more, none_behind_last}
 use Rattle.bag_walk.proofs.SegmentOpenings.{opened_none, unread_more}
@@ -177,7 +177,7 @@ record SoFar (options : Options) (report : List Fault) (limits rest : List ℕ) 
   pub follows : (new : TreeState) → Keeps now new → (u r n : ℕ) (last : Outcome)
       → SegmentsFrom report (MayLose options old new) lost unread count outcome rest u r n last
       → AreSegments report (MayLose options old new) limits u r n last
-  pub opens : (listed : List (List ℕ)) → AreListed options old.bag listed
+  pub opens : (listed : List (List ℕ)) → AreCompared options old.bag listed
       → OpenedSoFar listed i unread (cursor_after count report) old now
 
 so_far_none : (options : Options) (report : List Fault) (limits : List ℕ) (old : TreeState) (before : OutState)
@@ -216,7 +216,7 @@ module _ {options : Options} {report : List Fault} {limits : List ℕ} {i : ℕ}
   module _ {m : ℕ} {rest : List ℕ} {now new : TreeState} {count : ℕ} {after : OutState} {outcome : Outcome}
       (so : SoFar options report limits (m ∷ rest) i old now count before after outcome) (then : OutState)
       (segment : Segment) (keeps : Keeps now new) (untouched : m ≡ 0 → new ≡ now)
-      (front : (listed : List (List ℕ)) → AreListed options old.bag listed
+      (front : (listed : List (List ℕ)) → AreCompared options old.bag listed
       → OpensInSegment listed report count segment now new) where
     abbrev k : ℕ
     k = segment.written
@@ -314,7 +314,7 @@ module _ (profile : Option Profile) {options : Options} {report : List Fault} (l
     segment_next : IsSegment (drop now.count report) m now.out mid.out run.segment
     segment_next = run.next (so.kept.honest ∙ honest) report (rw so.kept.bag is)
 
-    opens_next : (listed : List (List ℕ)) → AreListed options old.bag listed
+    opens_next : (listed : List (List ℕ)) → AreCompared options old.bag listed
         → OpensInSegment listed report now.count run.segment now.tree mid.tree
     opens_next listed are = run.opens (so.kept.honest ∙ honest) report (rw so.kept.bag is) listed (rw so.kept.bag are)
 

@@ -1,22 +1,15 @@
--- What is left of a bag's completeness above a cursor, and how two lists of faults become one.
-use Rattle.std.specs.Prelude.{ℕ, ◌≡◌, ◌⊎◌, true, List, Option}
-use Rattle.std.specs.List.Sorted.{IsStrictlySortedBy}
+-- What is left of a bag's completeness above a cursor.
+use Rattle.std.specs.Prelude.{ℕ, ◌≡◌, true, List, Option}
 use Rattle.bag_text.specs.Code.{stage}
 use Rattle.bag_text.specs.Order.{IsListOf}
-use Rattle.bag_text.specs.declared.alg.Alg.{Alg}
-use Rattle.bag_read.specs.declared.kind.Kind.TheVariants.{Tag}
-use Rattle.bag_tree.specs.Bag.{Bag}
 use Rattle.bag_facts.specs.FaultOrder.{fault_cmp}
 use Rattle.bag_facts.specs.Options.{reaches}
 use Rattle.bag_facts.specs.declared.facts.Facts.{Facts}
 use Rattle.bag_facts.specs.declared.fault.Fault.{Fault}
-use Rattle.bag_stages.specs.CompletenessFaults.{IsMissing, IsWrong, IsSoughtInStageSix}
+use Rattle.bag_stages.specs.CompletenessFaults.{IsSoughtInStageSix}
 use Rattle.bag_profile.specs.Profile.{Profile}
 use Rattle.bag_report.specs.Report.{Check, IsReported, is_above}
 use Rattle.bag_walk.specs.FactsOf.{ForBagOf, ForCheckOf}
-use Rattle.bag_walk.specs.Merge.{union}
-use Rattle.bag_walk.specs.Source.{rest_of}
-use Rattle.bag_walk.specs.Filling.{first_of}
 
 -- one of these faults, above a cursor
 abbrev pub IsAbove : Option Fault → (Fault → Type 0) → Fault → Type 0
@@ -25,14 +18,6 @@ IsAbove after IsOne f = IsOne f × (is_above after f ≡ true)
 -- these are those of this kind that stand above a cursor, in their order
 abbrev pub AreAbove : Option Fault → (Fault → Type 0) → List Fault → Type 0
 AreAbove after IsOne faults = IsListOf fault_cmp (IsAbove after IsOne) faults
-
--- a manifest of an algorithm is wrong about a file
-abbrev pub IsOfAlg : Bag → Alg → Fault → Type 0
-IsOfAlg bag alg f = IsWrong bag alg f ⊎ IsMissing bag Tag alg f
-
--- a manifest of some algorithm is
-abbrev pub IsOfSomeAlg : Bag → Fault → Type 0
-IsOfSomeAlg bag f = (alg : Alg) × IsOfAlg bag alg f
 
 -- where the depth has stage 6: the faults that are looked for in it, of completeness or of names,
 -- above a cursor
@@ -50,11 +35,3 @@ IsStageAbove check k after faults =
 abbrev pub AreOfStageSix : Facts → Option Fault → List Fault → Type 0
 AreOfStageSix facts after faults = (profile : Option Profile)
     → ForCheckOf facts profile (λ check. IsStageAbove check 6 after faults)
-
--- The least fault of two ascending lists, and what they leave.
-pub record TakesLeast (faults others : List Fault) (least : Option Fault)
-    (left others_left : List Fault) : Type 0 where
-  pub first : first_of (union faults others) ≡ least
-  pub rest : union left others_left ≡ rest_of (union faults others)
-  pub ascends : IsStrictlySortedBy fault_cmp left
-  pub others_ascend : IsStrictlySortedBy fault_cmp others_left

@@ -1,5 +1,6 @@
 -- The choice of the files whose digests are to be compared.
-use Rattle.std.specs.Prelude.{ℕ, ◌≡◌, false, List, Option, Contains, MatchOption}
+use Rattle.std.specs.Prelude.{◌≡◌, false, List, Option, Contains, MatchOption}
+use Rattle.bag_text.specs.Bytes.{Path}
 use Rattle.bag_text.specs.Order.{IsListOf}
 use Rattle.bag_text.specs.Text.{text_cmp}
 use Rattle.bag_tree.specs.Bag.{Bag}
@@ -14,7 +15,7 @@ use Rattle.bag_walk.specs.Openings.{is_passed}
 use Rattle.bag_walk.specs.declared.to_sum.ToSum.{ToSum}
 
 -- a manifest names the path, and a cursor hasn't passed it
-abbrev pub IsNamedAhead : Bag → Option Fault → List ℕ → Type 0
+abbrev pub IsNamedAhead : Bag → Option Fault → Path → Type 0
 IsNamedAhead bag after path = IsNamed bag path × (is_passed after path ≡ false)
 
 -- the faults that its digests have are those of the file in the bag

@@ -13,7 +13,6 @@ pub mod Merge
 pub mod Openings
 pub mod Parts
 pub mod PartRuns
-pub mod Pieces
 pub mod Run
 pub mod RunOpenings
 pub mod Segment
@@ -32,6 +31,6 @@ pub mod Stops
 pub mod ToSum
 pub mod Union
 pub mod Validity
+pub mod WalkRuns
 pub mod WholeRun
-pub mod Write
 pub mod Writer

@@ -1,5 +1,5 @@
 -- Two lists of faults, one after the other.
-use Rattle.std.proofs.Common.{◌≡◌, ◌++◌, ◌∷◌, Bool, true, false, List, [], Option, None, Some, refl}
+use Rattle.std.proofs.Common.{◌≡◌, ◌++◌, ◌∷◌, Bool, true, false, List, [], Option, None, Some}
 use Rattle.std.specs.Prelude.{if◌then◌else◌}
 use Rattle.std.specs.List.Sorted.{IsStrictlySortedBy}
 use Rattle.bag_text.proofs.ListOf.{ascending_joined}
@@ -22,7 +22,3 @@ pub front_ascends : (in_first : Bool) (fs gs : List Fault) (IsOf Behind : Type 0
     → IsStrictlySortedBy fault_cmp ((if in_first then fs else []) ++ gs)
 front_ascends true fs gs IsOf Behind p q h = ascending_joined fault_cmp fs gs (p h.0) q h.1
 front_ascends false fs gs IsOf Behind p q h = q
-
-pub nothing_left : (fs : List Fault) → None ≡ first_of fs → fs ≡ []
-nothing_left [] e = refl
-nothing_left (f ∷ fs) e = cc

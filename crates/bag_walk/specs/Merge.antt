@@ -2,7 +2,6 @@
 use Rattle.std.proofs.Common.{◌∙◌, ap}
 use Rattle.std.specs.Prelude.{ℕ, Bool, true, false, List, [], ◌≡◌, ◌++◌, Contains}
 use Rattle.std.specs.Prelude.{Option, None, Some, if◌then◌else◌}
-use Rattle.std.specs.List.Sorted.{IsStrictlySortedBy}
 use Rattle.std.specs.Ordering.{is_gt}
 use Rattle.std.specs.declared.cmp.Ordering.{Ordering}
 use Rattle.std.specs.declared.cmp.Ordering.TheVariants.{Less, Equal, Greater}
@@ -21,11 +20,6 @@ pub union_is : (faults others : List Fault)
 unfolding union
 union_is faults others =
     (ascending_list fault_cmp fault_cmp_total fault_cmp_same (faults ++ others)).1
-
--- so it is where both lists ascend
-abbrev pub IfBothAscend : List Fault → List Fault → Type 0 → Type 0
-IfBothAscend faults others Holds =
-    IsStrictlySortedBy fault_cmp faults → IsStrictlySortedBy fault_cmp others → Holds
 
 -- which of two faults comes first: one that is there before one that isn't
 abbrev pub fronts : Option Fault → Option Fault → Ordering

@@ -1,15 +1,17 @@
 -- A run over a part of a report.
 use Rattle.std.specs.Prelude.{ℕ, zero, suc, ◌+◌, ◌<◌, ◌≤◌, ◌≡◌, ◌≢◌, ◌⊎◌, ◌++◌, ◌∷◌, true, List, []}
 use Rattle.std.specs.Prelude.{Option, None, Some, slice_get, All, Contains, IsTrue, codes, decimal}
-use Rattle.std.specs.Prelude.{drop, length}
+use Rattle.std.specs.Prelude.{drop, false, length}
 use Rattle.std.specs.List.{concat}
 use Rattle.std.specs.List.Sorted.{IsStrictlySortedBy}
 use Rattle.std.specs.Io.KnownBytes.{Appends}
+use Rattle.bag_text.specs.Bytes.{Path}
 use Rattle.bag_text.specs.Code.{stage}
 use Rattle.bag_text.specs.Order.{IsListOf}
 use Rattle.bag_text.specs.Text.{text_cmp}
+use Rattle.bag_tree.specs.Bag.{Bag, IsBag}
 use Rattle.bag_tree.specs.Listing.{IsOrdered}
-use Rattle.bag_tree.specs.Out.{OutState}
+use Rattle.bag_tree.specs.Out.{IsCut, OutState}
 use Rattle.bag_tree.specs.Tree.{IsRefusedAt, Keeps, NothingFailed, TreeState}
 use Rattle.bag_tree.specs.declared.listing.FileEntry.{FileEntry}
 use Rattle.bag_facts.specs.FaultLine.{field}
@@ -17,17 +19,17 @@ use Rattle.bag_facts.specs.FaultOrder.{fault_cmp}
 use Rattle.bag_facts.specs.Part.{Part}
 use Rattle.bag_facts.specs.Wanted.{AreWanted, ForListing, IsWanted, OpensUpTo, OpensWanted}
 use Rattle.bag_facts.specs.declared.fault.Fault.{Fault}
+use Rattle.bag_facts.specs.declared.options.Depth.TheVariants.{Full}
 use Rattle.bag_profile.specs.Profile.{Profile}
-use Rattle.bag_report.specs.Report.{above, first}
+use Rattle.bag_report.specs.Report.{IsReport, above, first}
 use Rattle.bag_walk.specs.Closing.{about_count, closing, unread_line}
 use Rattle.bag_walk.specs.Ending.{ReachesEnd, ended, limit_of, written}
 use Rattle.bag_walk.specs.Parts.{AreFilesIn, bounds_of, is_file_within, listed_of, part_of}
-use Rattle.bag_walk.specs.Run.{ForReportAsked, IsAsked, IsRunByReport, check_of}
-use Rattle.bag_walk.specs.Openings.{IsToOpen, NoFaultBefore}
+use Rattle.bag_walk.specs.Run.{ForReportAsked, IsAsked, IsRunByReport, IsHonestOrReadOnce, check_of}
+use Rattle.bag_walk.specs.Openings.{IsToOpen, NoFaultBefore, is_passed}
 use Rattle.bag_walk.specs.SegmentEnds.{IfUnread, IsRead, IsSegment, still_to_come}
 use Rattle.bag_walk.specs.StartPart.{AreToOpenWithin, IsWithin}
 use Rattle.bag_walk.specs.Stops.{MayStop}
-use Rattle.bag_walk.specs.Write.{IsCut}
 use Rattle.bag_walk.specs.declared.outcome.Outcome.{Outcome}
 use Rattle.bag_walk.specs.declared.outcome.Request.{Request}
 use Rattle.bag_walk.specs.declared.part.Listed.{Listed}
@@ -108,20 +110,36 @@ ForPart old profile request part Holds =
     (files : List FileEntry) → AreFilesIn old.bag files
     → Holds (part_of files part (above request.after report)))
 
+-- What a part writes is of one bag, which is an honest tree's: where the tree is honest, or below
+-- depth Full, where each file is read once at most, it is the lines of the faults of the part that
+-- the request asks for.
+pub record WritesPart (old : TreeState) (profile : Option Profile) (request : Request) (part : Part)
+    (before lines : OutState) (segment : Segment) : Type 0 where
+  pub seen : Bag
+  pub is_bag : IsBag seen
+  pub honest : IsTrue old.honest → seen ≡ old.bag
+  pub faults : IsHonestOrReadOnce old request
+      → (report : List Fault) → IsReport (check_of seen profile request) report
+      → (files : List FileEntry) → AreFilesIn seen files
+      → IsSegment (part_of files part (above request.after report)) (limit_of request)
+      before lines segment
+
 -- Tag files were read, each once at most and in path order, and then at depth Full files were
--- summed, each once at most and in path order: where the tree is honest, files of the part that are
--- there, that manifests name and that the cursor hasn't passed. Each fault of the part that stands
--- before one of them had its line written.
+-- summed that the cursor hasn't passed, each once at most and in path order: where the tree is
+-- honest, files of the part that are there and that manifests name. Each fault of the part that
+-- stands before one of them had its line written.
 pub record OpensInPart (profile : Option Profile) (request : Request) (part : Part)
     (segment : Segment) (old new : TreeState) : Type 0 where
-  pub read : List (List ℕ)
-  pub summed : List (List ℕ)
+  pub read : List Path
+  pub summed : List Path
   pub opened : new.openings ≡ old.openings ++ (read ++ summed)
   pub read_in_order : IsStrictlySortedBy text_cmp read
   pub wanted : All (IsWanted request.options) read
   pub summed_in_order : IsStrictlySortedBy text_cmp summed
+  pub only_at_full : request.options.depth ≢ Full → summed ≡ []
+  pub none_passed : All (λ path. is_passed request.after path ≡ false) summed
   pub of_part : IsTrue old.honest → (files : List FileEntry) → AreFilesIn old.bag files
-      → (path : List ℕ) → Contains summed path
+      → (path : Path) → Contains summed path
       → IsToOpen (check_of old.bag profile request) request.after path
       × (is_file_within (bounds_of files part) path ≡ true)
   pub in_turn : ForPart old profile request part (λ faults.
@@ -132,10 +150,10 @@ pub record OpensInPart (profile : Option Profile) (request : Request) (part : Pa
 -- part the ones before it had been opened, each once and in path order, and no other; and each
 -- fault of the part that stands before it had been written.
 pub record OpensPartUpTo (profile : Option Profile) (request : Request) (part : Part) (n : ℕ)
-    (path : List ℕ) (old new : TreeState) : Type 0 where
-  pub read : List (List ℕ)
-  pub before : List (List ℕ)
-  pub later : List (List ℕ)
+    (path : Path) (old new : TreeState) : Type 0 where
+  pub read : List Path
+  pub before : List Path
+  pub later : List Path
   pub read_in_order : IsStrictlySortedBy text_cmp read
   pub wanted : All (IsWanted request.options) read
   pub all_read : ForListing old (λ files. AreWanted request.options files read)
@@ -169,7 +187,7 @@ LooksNoFurtherInPart profile request part old new =
 -- A run over a part. It changes nothing, opens no payload file but those of its part and only in
 -- their turn, and stops at its device only where that failed. What it writes is the lines of a
 -- segment and a closing line, and over an honest tree they are the lines of the faults of the part
--- that the request asks for.
+-- that the request asks for; below depth Full they are those of some bag over any tree.
 pub record IsRunOfPart (old new : TreeState) (profile : Option Profile) (part : Part)
     (request : Request) (before after : OutState) (outcome : PartOutcome) : Type 0 where
   pub keeps : Keeps old new
@@ -190,6 +208,7 @@ pub record IsRunOfPart (old new : TreeState) (profile : Option Profile) (part : 
       × IsSegment faults (limit_of request) before lines segment
   pub faults : ForPart old profile request part (λ faults.
       IsSegment faults (limit_of request) before lines segment)
+  pub of_one_bag : WritesPart old profile request part before lines segment
   -- where the end was reached, of what files the part was cut
   pub listed : Listed
   pub counts : segment.end ≡ end_of.AtEnd → ForListing old (λ files. listed ≡ listed_of files)

@@ -7,6 +7,7 @@ use Rattle.std.specs.List.{sum_by}
 use Rattle.std.specs.List.Sorted.{IsStrictlySortedBy}
 use Rattle.std.specs.Option.{option_map}
 use Rattle.std.specs.Ordering.{is_lt}
+use Rattle.bag_text.specs.Bytes.{Path}
 use Rattle.bag_text.specs.Code.{stage}
 use Rattle.bag_text.specs.Text.{text_cmp}
 use Rattle.bag_tree.specs.Bag.{Bag, file}
@@ -21,7 +22,7 @@ use Rattle.bag_walk.specs.declared.part.Bounds.{Bounds}
 use Rattle.bag_walk.specs.declared.part.Listed.{Listed}
 
 -- a fault stands before a file: it is of an earlier stage than the seventh, or of an earlier file
-abbrev pub is_before_file : List ℕ → Fault → Bool
+abbrev pub is_before_file : Path → Fault → Bool
 is_before_file path f =
     nat_lt (stage f.code) 7 || (stage f.code == 7 && is_lt (text_cmp f.path path))
 
@@ -32,7 +33,7 @@ is_before (File path) f = is_before_file path f
 is_before End f = true
 
 -- and so does a file
-abbrev pub is_file_before : Bound → List ℕ → Bool
+abbrev pub is_file_before : Bound → Path → Bool
 is_file_before Start path = false
 is_file_before (File first) path = is_lt (text_cmp path first)
 is_file_before End path = true
@@ -42,7 +43,7 @@ abbrev pub is_within : Bounds → Fault → Bool
 is_within bounds f = not (is_before bounds.from f) && is_before bounds.until f
 
 -- and so does a file
-abbrev pub is_file_within : Bounds → List ℕ → Bool
+abbrev pub is_file_within : Bounds → Path → Bool
 is_file_within bounds path =
     not (is_file_before bounds.from path) && is_file_before bounds.until path
 
@@ -124,7 +125,7 @@ PartsJoin =
 -- the files of a bag with their sizes, in path order
 pub record AreFilesIn (bag : Bag) (files : List FileEntry) : Type 0 where
   pub ordered : IsOrdered files
-  pub sizes : (path : List ℕ) → size_at files path ≡ option_map length (file bag path)
+  pub sizes : (path : Path) → size_at files path ≡ option_map length (file bag path)
 
 -- The law: a bag has one such list, so that whoever lists it finds the same bounds.
 abbrev pub OneListOfFiles : Type 0

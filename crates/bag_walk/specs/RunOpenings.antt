@@ -2,12 +2,11 @@
 use Rattle.std.specs.Prelude.{ℕ, ◌≡◌, ◌≢◌, ◌++◌, ◌∷◌, ◌⊎◌, ◌-◌, ◌<◌, ◌≤◌, List, [], Option}
 use Rattle.std.specs.Prelude.{All, IsTrue, true, false, drop, filter, length, min}
 use Rattle.std.specs.List.Sorted.{IsStrictlySortedBy}
+use Rattle.bag_text.specs.Bytes.{Path}
 use Rattle.bag_text.specs.Code.{stage}
 use Rattle.bag_text.specs.Order.{IsListOf}
 use Rattle.bag_text.specs.Path.{is_payload_path}
 use Rattle.bag_text.specs.Text.{text_cmp}
-use Rattle.bag_text.specs.declared.alg.Alg.{Alg}
-use Rattle.bag_read.specs.declared.kind.Kind.TheVariants.{Payload}
 use Rattle.bag_tree.specs.Bag.{Bag}
 use Rattle.bag_tree.specs.Tree.{TreeState, IsRefusedAt}
 use Rattle.bag_facts.specs.FaultOrder.{fault_cmp}
@@ -16,7 +15,7 @@ use Rattle.bag_facts.specs.Wanted.{AreWanted, ForListing, IsWanted, OpensUpTo, O
 use Rattle.bag_facts.specs.declared.options.Depth.TheVariants.{Full}
 use Rattle.bag_facts.specs.declared.options.Options.{Options}
 use Rattle.bag_profile.specs.Profile.{Profile}
-use Rattle.bag_stages.specs.TagFiles.{Names}
+use Rattle.bag_stages.specs.LeftOut.{IsNamedBySome}
 use Rattle.bag_stages.specs.SummedFiles.{IsSummed}
 use Rattle.bag_report.specs.Report.{above}
 use Rattle.bag_walk.specs.Closing.{count_of}
@@ -31,8 +30,8 @@ use Rattle.bag_walk.specs.Stops.{IfRunUnread}
 -- summed, each once at most and in path order: files that are there and that manifests name, where
 -- the tree is honest.
 pub record OpensInRun (options : Options) (old new : TreeState) : Type 0 where
-  pub read : List (List ℕ)
-  pub summed : List (List ℕ)
+  pub read : List Path
+  pub summed : List Path
   pub opened : new.openings ≡ old.openings ++ (read ++ summed)
   pub read_in_order : IsStrictlySortedBy text_cmp read
   pub wanted : All (IsWanted options) read
@@ -40,19 +39,15 @@ pub record OpensInRun (options : Options) (old new : TreeState) : Type 0 where
   pub only_at_full : options.depth ≢ Full → summed ≡ []
   pub are_summed : IsTrue old.honest → All (IsSummed old.bag) summed
 
--- a payload manifest names the path
-abbrev pub IsListed : Bag → List ℕ → Type 0
-IsListed bag path = (alg : Alg) × Names bag Payload alg path
-
 -- Of the payload those files were opened that payload manifests name, each once at most and in path
 -- order, and no other; below depth Full none (RFC 8493, 2.1.2).
-pub record OpensListed (options : Options) (old new : TreeState) : Type 0 where
-  pub paths : List (List ℕ)
+pub record OpensNamed (options : Options) (old new : TreeState) : Type 0 where
+  pub paths : List Path
   pub opened : new.openings ≡ old.openings ++ paths
   pub in_order : IsStrictlySortedBy text_cmp (filter is_payload_path paths)
   pub only_at_full : options.depth ≢ Full → filter is_payload_path paths ≡ []
-  pub are_listed : IsTrue old.honest
-      → All (λ path. is_payload_path path ≡ true → IsListed old.bag path) paths
+  pub are_named : IsTrue old.honest
+      → All (λ path. is_payload_path path ≡ true → IsNamedBySome old.bag path) paths
 
 -- of the payload no file was opened that the cursor has passed: none before the file of a fault of
 -- the seventh stage, and where it is of a later stage none
@@ -61,8 +56,8 @@ OpensNonePassed after old new =
     (opened : List (List ℕ)) → new.openings ≡ old.openings ++ opened
     → All (λ path. is_passed after path ≡ false) (filter is_payload_path opened)
 
--- how many faults were written when a run looked for the last: all that it wrote, but fewer than
--- its limit
+-- How many faults were written when a run last looked for one: all that it wrote, but at most the
+-- limit less 1, since it looks for none once it has written as many as its limit.
 abbrev pub written_before : Request → Outcome → ℕ
 written_before request outcome = min (count_of outcome) (limit_of request - 1)
 
@@ -75,27 +70,30 @@ OpensInTurn old new profile request outcome = ForReportAsked old profile request
     × IsStrictlySortedBy text_cmp read × All (IsWanted request.options) read
     × NoFaultBefore (drop (written_before request outcome) (above request.after report)) summed)
 
--- The run stopped at a file whose digests were to be compared, when n faults had been written: it
--- was refused when all the tag files that are wanted had been read, and then of those files the
--- ones before it had been opened, each once and in path order, and no other; and each fault that
--- stands before it had been written, as those of earlier stages.
+-- The run stopped at a file whose digests were to be compared, when n faults had been written.
 pub record OpensUpToSummed (old new : TreeState) (profile : Option Profile) (request : Request)
-    (n : ℕ) (path : List ℕ) : Type 0 where
-  pub read : List (List ℕ)
-  pub before : List (List ℕ)
-  pub later : List (List ℕ)
+    (n : ℕ) (path : Path) : Type 0 where
+  -- the tag files that it opened, the other files that it opened before this one, and those that it
+  -- would have opened after it
+  pub read : List Path
+  pub before : List Path
+  pub later : List Path
+  -- the tag files are in path order, and all that are wanted
   pub read_in_order : IsStrictlySortedBy text_cmp read
   pub wanted : All (IsWanted request.options) read
   pub all_read : ForListing old (λ files. AreWanted request.options files read)
+  -- the others are in path order, and of an honest tree all whose digests are still to be compared
   pub in_order : IsStrictlySortedBy text_cmp (before ++ path ∷ later)
   pub to_open : IsTrue old.honest
       → AreToOpen (check_of old.bag profile request) request.after (before ++ path ∷ later)
+  -- it was refused after just these
   pub refused : IsRefusedAt (old.openings ++ (read ++ before)) path new
+  -- the line of each fault that stands before it was written, as those of earlier stages are
   pub written : ForReportAsked old profile request (λ report.
       NoFaultBefore (drop n (above request.after report)) (path ∷ []))
 
--- A run that is answered with the file at which it stopped has opened those before it: the tag
--- files that are read, or also those whose digests are compared.
+-- A run that stops at a file has opened those before it: tag files if it is one of them, and else
+-- all tag files, and files whose digests are compared.
 abbrev pub StopsInTurn : TreeState → TreeState → Option Profile → Request → Outcome → Type 0
 StopsInTurn old new profile request outcome =
     IfRunUnread outcome (λ stop. stop.path ≢ []

@@ -1,12 +1,13 @@
 -- Segments of a report, each a run of its own between two states of the tree and of the output.
 use Rattle.std.specs.Prelude.{ℕ, ◌≡◌, ◌⊎◌, ◌+◌, true, false, List, [], ◌∷◌, Option, drop}
+use Rattle.bag_text.specs.Bytes.{Path}
 use Rattle.bag_tree.specs.Out.{OutState}
 use Rattle.bag_tree.specs.Tree.{Keeps, TreeState, NothingFailed}
 use Rattle.bag_facts.specs.declared.fault.Fault.{Fault}
 use Rattle.bag_facts.specs.declared.options.Options.{Options}
 use Rattle.bag_profile.specs.Profile.{Profile}
 use Rattle.bag_walk.specs.SegmentEnds.{IfUnread, IsRead, IsSegment}
-use Rattle.bag_walk.specs.SegmentOpenings.{AreListed, OpensInSegment}
+use Rattle.bag_walk.specs.SegmentOpenings.{AreCompared, OpensInSegment}
 use Rattle.bag_walk.specs.Segments.{ForReport, is_last, outcome_at}
 use Rattle.bag_walk.specs.Stops.{MayStop}
 use Rattle.bag_walk.specs.declared.outcome.Outcome.{Outcome}
@@ -42,10 +43,10 @@ pub record RunsSegment (profile : Option Profile) (options : Options) (limit : �
   pub wrote : (faults : List Fault) × IsSegment faults limit old.out new.out segment
   pub next : ForReport old.tree profile options (λ report.
       IsSegment (drop old.count report) limit old.out new.out segment)
-  -- and of the payload it opened the next of the listed files, and no other
+  -- and of the payload it opened the next of the files to compare, and no other
   pub opens : ForReport old.tree profile options (λ report.
-      (listed : List (List ℕ)) → AreListed options old.tree.bag listed
-      → OpensInSegment listed report old.count segment old.tree new.tree)
+      (compared : List Path) → AreCompared options old.tree.bag compared
+      → OpensInSegment compared report old.count segment old.tree new.tree)
 
 -- Each limit in order has its segment, which begins where the one before it ended. After one that
 -- came to the end of the report, or whose output refused, none follows.

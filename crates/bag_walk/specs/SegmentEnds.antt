@@ -1,19 +1,15 @@
 -- How a segment of a report ends.
-use Rattle.std.specs.Prelude.{ℕ, ◌-◌, ◌<◌, ◌≤◌, ◌≡◌, ⊤, ◌⊎◌, List, length, take, drop}
-use Rattle.bag_tree.specs.Tree.{TreeState}
+use Rattle.std.specs.Prelude.{ℕ, ◌-◌, ◌<◌, ◌≤◌, ◌≡◌, ⊤, List, length, take, drop}
 use Rattle.bag_tree.specs.Out.{OutState}
 use Rattle.bag_tree.specs.declared.tree_fault.Stop.{Stop}
 use Rattle.bag_facts.specs.declared.fault.Fault.{Fault}
 use Rattle.bag_walk.specs.Ending.{written, IsAnswered, TookAll, TookPart}
-use Rattle.bag_walk.specs.SourceOpenings.{IsReached}
 use Rattle.bag_walk.specs.Writer.{WritesReport}
 use Rattle.bag_walk.specs.declared.outcome.Outcome.{Outcome}
 use Rattle.bag_walk.specs.declared.outcome.Request.{Request}
-use Rattle.bag_walk.specs.Filling.{MayStopFilling}
 use Rattle.bag_walk.specs.declared.segment.Segment.{Segment}
 use Rattle.bag_walk.specs.declared.segment.SegmentEnd.{SegmentEnd}
 use Rattle.bag_walk.specs.declared.segment.SegmentEnd.TheVariants.{Full, AtEnd, Unread, Unwritten}
-use Rattle.bag_walk.specs.Segment.{RanOutOfMemory}
 
 -- the segment ended at this stop
 abbrev pub StopsAt : Segment → Stop → Type 0
@@ -40,14 +36,6 @@ looked_past end n = n
 -- and at its limit the last that it wrote too.
 abbrev pub still_to_come : Segment → List Fault → List Fault
 still_to_come segment faults = drop (looked_past segment.end segment.written) faults
-
--- Why a walk stops: when out of memory, or at the next file to be opened, and more is said where
--- its source is of an honest tree's bag.
-abbrev pub MayStopWalk : Type 0 → List (List ℕ) → List (List ℕ)
-    → TreeState → TreeState → Stop → Type 0
-MayStopWalk IsOf todo left old new stop =
-    RanOutOfMemory old new stop
-    ⊎ (IsReached todo old new stop.path × (IsOf → MayStopFilling left old new stop))
 
 -- what refused them
 abbrev pub IfUnread : SegmentEnd → (Stop → Type 0) → Type 0

@@ -2,6 +2,7 @@
 use Rattle.std.specs.Prelude.{ℕ, ◌+◌, ◌-◌, ◌<◌, ◌≤◌, ◌≡◌, ◌⊎◌, ◌++◌, Bool, true, false, IsTrue}
 use Rattle.std.specs.Prelude.{List, [], ◌∷◌, length, drop, sum, Option, None}
 use Rattle.std.specs.List.Sorted.{IsStrictlySortedBy}
+use Rattle.bag_text.specs.Bytes.{Path}
 use Rattle.bag_tree.specs.Out.{OutState}
 use Rattle.bag_tree.specs.Tree.{TreeState, MayReportMemory}
 use Rattle.bag_tree.specs.declared.tree_fault.Stop.{Stop}
@@ -19,7 +20,7 @@ use Rattle.bag_walk.specs.declared.outcome.Outcome.{Outcome}
 use Rattle.bag_walk.specs.declared.outcome.Outcome.TheVariants.{Stopped, Unread, Unwritten}
 use Rattle.bag_walk.specs.Lines.{IsLastLine, cursor_after}
 use Rattle.bag_walk.specs.SegmentEnds.{IsSegment}
-use Rattle.bag_walk.specs.SegmentOpenings.{AreListed, OpensFew}
+use Rattle.bag_walk.specs.SegmentOpenings.{AreCompared, OpensFew}
 use Rattle.bag_walk.specs.Stops.{IfRunUnread, IsOfSummed}
 use Rattle.bag_walk.specs.declared.segment.Segment.{Segment}
 use Rattle.bag_walk.specs.declared.segment.SegmentEnd.{SegmentEnd}
@@ -97,8 +98,8 @@ pub record RunsOfSegments (options : Options) (report : List Fault) (limits : Li
   pub segments : AreSegments report (MayLose options old new) limits lost unread count outcome
   pub few_lost : old.failures + lost ≤ new.failures
   pub wrote : WroteSegments count report before after outcome
-  pub opens : (listed : List (List ℕ)) → AreListed options old.bag listed
-      → OpensFew listed (length limits) unread old new
+  pub opens : (compared : List Path) → AreCompared options old.bag compared
+      → OpensFew compared (length limits) unread old new
 
 -- whether no further segment follows
 abbrev pub is_last : SegmentEnd → Bool

@@ -1,5 +1,6 @@
 -- Lists of faults that are found as they are asked for.
 use Rattle.std.specs.Prelude.{ℕ, ◌≡◌, ◌⊎◌, ◌∷◌, IsTrue, List, []}
+use Rattle.bag_text.specs.Bytes.{Path}
 use Rattle.bag_tree.specs.Bag.{Bag}
 use Rattle.bag_tree.specs.Tree.{TreeState}
 
@@ -9,7 +10,7 @@ rest_of [] = []
 rest_of (x ∷ xs) = xs
 
 -- what is seen is this bag: that of an honest tree, and any where no file is to be opened
-abbrev pub Sees : TreeState → List (List ℕ) → Bag → Type 0
+abbrev pub Sees : TreeState → List Path → Bag → Type 0
 Sees state todo bag = (IsTrue state.honest × (state.bag ≡ bag)) ⊎ (todo ≡ [])
 
 -- by what a source is of and the files that it may still open

@@ -1,6 +1,7 @@
 -- A walk that was started.
 use Rattle.std.specs.Prelude.{ℕ, ◌≡◌, ◌≢◌, ◌⊎◌, ◌<◌, false, true, List, [], filter, Option, Result}
 use Rattle.std.specs.Prelude.{Ok, Err, IsTrue}
+use Rattle.bag_text.specs.Bytes.{Path}
 use Rattle.bag_text.specs.Code.{stage}
 use Rattle.bag_text.specs.Order.{IsListOf}
 use Rattle.bag_text.specs.Path.{is_payload_path}
@@ -34,12 +35,12 @@ AreAheadBefore check k after faults =
     IsListOf fault_cmp (λ f. IsAhead check after f × (stage f.code < k)) faults
 
 -- and of the payload one that a payload manifest names (RFC 8493, 2.1.3)
-abbrev pub IsListedToOpen : Check → Option Fault → List ℕ → Type 0
+abbrev pub IsListedToOpen : Check → Option Fault → Path → Type 0
 IsListedToOpen check after path =
     (check.options.depth ≡ Full) × (is_payload_path path ≡ true) × HasFile check.bag path
     × ((alg : Alg) × Names check.bag Payload alg path) × (is_passed after path ≡ false)
 
-abbrev pub AreListedToOpen : Check → Option Fault → List (List ℕ) → Type 0
+abbrev pub AreListedToOpen : Check → Option Fault → List Path → Type 0
 AreListedToOpen check after files = IsListOf text_cmp (IsListedToOpen check after) files
 
 -- A walk has given nothing yet: what its source holds is of a bag that was seen, which is an honest
@@ -47,7 +48,7 @@ AreListedToOpen check after files = IsListOf text_cmp (IsListedToOpen check afte
 -- are in path order those that it needs.
 pub record IsStarted (old : TreeState) (profile : Option Profile) (options : Options)
     (after : Option Fault) (IsOf : Bag → Type 0) (left : Bag → List Fault)
-    (todo : List (List ℕ)) : Type 0 where
+    (todo : List Path) : Type 0 where
   pub seen : Bag
   pub is_bag : IsBag seen
   pub honest : IsTrue old.honest → seen ≡ old.bag

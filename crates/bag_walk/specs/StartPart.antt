@@ -1,5 +1,6 @@
 -- A walk over a part of a report that was started.
 use Rattle.std.specs.Prelude.{ℕ, ◌≡◌, ◌<◌, false, true, List, Option, Result, Ok, Err, IsTrue}
+use Rattle.bag_text.specs.Bytes.{Path}
 use Rattle.bag_text.specs.Code.{stage}
 use Rattle.bag_text.specs.Order.{IsListOf}
 use Rattle.bag_text.specs.Text.{text_cmp}
@@ -52,13 +53,13 @@ AreEarlyWithin check after bounds faults =
 
 -- these are the files between two bounds whose digests are compared and that a cursor hasn't
 -- passed, in path order
-abbrev pub AreSummedWithin : Bag → Option Fault → Bounds → List (List ℕ) → Type 0
+abbrev pub AreSummedWithin : Bag → Option Fault → Bounds → List Path → Type 0
 AreSummedWithin bag after bounds paths =
     IsListOf text_cmp (λ path. (IsSummed bag path × (is_passed after path ≡ false))
     × (is_file_within bounds path ≡ true)) paths
 
 -- and that the check needs
-abbrev pub AreToOpenWithin : Check → Option Fault → Bounds → List (List ℕ) → Type 0
+abbrev pub AreToOpenWithin : Check → Option Fault → Bounds → List Path → Type 0
 AreToOpenWithin check after bounds paths =
     IsListOf text_cmp (λ path. IsToOpen check after path × (is_file_within bounds path ≡ true))
     paths
@@ -80,7 +81,7 @@ pub record AreSourcesWithin {T S : Type 0} (source : Source.Ghosts S T) (facts :
 -- part, which the files of that bag give.
 pub record IsPartStarted (old : TreeState) (profile : Option Profile) (options : Options)
     (after : Option Fault) (part : Part) (IsOf : Bag → Type 0) (left : Bag → List Fault)
-    (todo : List (List ℕ)) : Type 0 where
+    (todo : List Path) : Type 0 where
   pub seen : Bag
   pub is_bag : IsBag seen
   pub honest : IsTrue old.honest → seen ≡ old.bag

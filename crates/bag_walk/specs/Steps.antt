@@ -1,9 +1,10 @@
 -- A walk over the faults of a source.
-use Rattle.std.specs.Prelude.{ℕ, ◌≡◌, ◌⊎◌, Bool, true, List, [], Option, None, Some, Result, Ok}
+use Rattle.std.specs.Prelude.{◌≡◌, ◌⊎◌, Bool, true, List, [], Option, None, Some, Result, Ok}
 use Rattle.std.specs.Prelude.{Err, IfErr, IfOk, IsTrue, MatchResult, OnErr, OnOk, if◌then◌else◌}
 use Rattle.std.specs.Borrow.{Bor}
 use Rattle.std.specs.Option.{option_copied}
 use Rattle.std.specs.declared.cmp.Ordering.TheVariants.{Less}
+use Rattle.bag_text.specs.Bytes.{Path}
 use Rattle.bag_text.specs.Order.{IsListOf}
 use Rattle.bag_tree.specs.Bag.{Bag}
 use Rattle.bag_tree.specs.Tree.{TreeState, Keeps, NothingFailed}
@@ -12,7 +13,7 @@ use Rattle.bag_tree.specs.declared.tree_fault.Stop.{Stop}
 use Rattle.bag_facts.specs.FaultOrder.{fault_cmp}
 use Rattle.bag_facts.specs.declared.fault.Fault.{Fault}
 use Rattle.bag_report.specs.Report.{Check, IsReported, is_above}
-use Rattle.bag_facts.specs.Stops.{IsOutOfMemory}
+use Rattle.bag_tree.specs.Stop.{IsOutOfMemory}
 use Rattle.bag_walk.specs.SourceOpenings.{IsReached, NoFaultBeforeStop, Opens, OpensAgain}
 use Rattle.bag_walk.specs.SourceOpenings.{OpensNoFileEarly, StillWait}
 use Rattle.bag_walk.specs.Source.{rest_of, Sees}
@@ -62,10 +63,10 @@ went (Err stop) = Err stop
 
 -- A step of a walk may stop so: at one of the files that were to be opened, after those before it,
 -- or when out of memory. More is said where the source is of an honest tree's bag.
-pub record MayStopStep (todo : List (List ℕ)) (old : TreeState) (IsOf : Type 0) (stop : Stop)
+pub record MayStopStep (todo : List Path) (old : TreeState) (IsOf : Type 0) (stop : Stop)
     : Type 0 where
   pub new : TreeState
-  pub left : List (List ℕ)
+  pub left : List Path
   pub keeps : Keeps old new
   pub opened : OpensAgain todo left old new
   pub anyway : MayStopAnyway left old new stop
@@ -82,7 +83,7 @@ module _ {T S : Type 0} (source : Source.Ghosts S T) where
   left bag walk = to_give (shown walk) (source.remaining bag walk.source)
 
   -- the files that it may still open, the next one first
-  abbrev pub to_open : Steps T S → List (List ℕ)
+  abbrev pub to_open : Steps T S → List Path
   to_open walk = source.todo walk.source
 
   -- where it gives no fault any more, it has no file to open
@@ -167,7 +168,7 @@ module _ {T S : Type 0} (tree : Tree.Ghosts T) (source : Source.Ghosts S T) wher
     pub opens : OnOk answer (OpensNext old new)
     pub again : OnErr answer (MayReopenLast old new)
     pub ended : OnOk answer (IsDone source new)
-    pub waits : (bag : Bag) (files : List (List ℕ)) → IsOver bag old
+    pub waits : (bag : Bag) (files : List Path) → IsOver bag old
         → StillWait files (left source bag old) (to_open source old)
         → StillWait files (left source bag old) (to_open source new)
     pub stop : IfErr answer (MayStopHere old new)

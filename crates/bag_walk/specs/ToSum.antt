@@ -1,11 +1,12 @@
 -- Files whose digests are to be compared.
 use Rattle.std.specs.Prelude.{ℕ, ◌≡◌, ◌⊎◌, List, [], ◌∷◌, ◌++◌, map, flat_map}
 use Rattle.std.specs.Prelude.{Option, None, Some, IsTrue}
+use Rattle.bag_text.specs.Bytes.{Content, Path}
 use Rattle.bag_tree.specs.Bag.{Bag, file}
 use Rattle.bag_tree.specs.Tree.{TreeState, IsRefusedAt}
 use Rattle.bag_tree.specs.FileReads.{IsEntryOf}
 use Rattle.bag_tree.specs.declared.tree_fault.Stop.{Stop}
-use Rattle.bag_facts.specs.Stops.{IsOutOfMemory}
+use Rattle.bag_tree.specs.Stop.{IsOutOfMemory}
 use Rattle.bag_facts.specs.declared.fault.Fault.{Fault}
 use Rattle.bag_stages.specs.SumFaults.{faults_of_bytes}
 use Rattle.bag_report.specs.Report.{above}
@@ -13,7 +14,7 @@ use Rattle.bag_walk.specs.Filling.{MayStopAnyway, MayStopFilling}
 use Rattle.bag_walk.specs.declared.to_sum.ToSum.{ToSum}
 
 -- the faults of a file with these bytes, and none of one that isn't there
-abbrev pub faults_at : ToSum → Option (List ℕ) → List Fault
+abbrev pub faults_at : ToSum → Option Content → List Fault
 faults_at to_sum None = []
 faults_at to_sum (Some content) = faults_of_bytes to_sum.file.path content to_sum.expected
 
@@ -26,7 +27,7 @@ abbrev pub faults_of_files : Bag → Option Fault → List ToSum → List Fault
 faults_of_files bag after files = flat_map (λ to_sum. above after (faults_in bag to_sum)) files
 
 -- where they stand
-abbrev pub paths_to_sum : List ToSum → List (List ℕ)
+abbrev pub paths_to_sum : List ToSum → List Path
 paths_to_sum files = map (λ to_sum. to_sum.file.path) files
 
 -- a file whose digests are compared, between two states of a tree

@@ -4,7 +4,7 @@ use Rattle.bag_tree.specs.Out.{OutState}
 use Rattle.bag_tree.specs.Tree.{Keeps, TreeState}
 use Rattle.bag_profile.specs.Profile.{Profile}
 use Rattle.bag_walk.specs.Run.{IsRun, IsRunByReport}
-use Rattle.bag_walk.specs.RunOpenings.{LooksNoFurther, OpensInRun, OpensInTurn, OpensListed}
+use Rattle.bag_walk.specs.RunOpenings.{LooksNoFurther, OpensInRun, OpensInTurn, OpensNamed}
 use Rattle.bag_walk.specs.RunOpenings.{OpensNonePassed, StopsInTurn}
 use Rattle.bag_walk.specs.declared.outcome.Outcome.{Outcome}
 use Rattle.bag_walk.specs.declared.outcome.Request.{Request}
@@ -20,7 +20,7 @@ pub record IsRunOver (tree new : TreeState) (profile : Option Profile) (request 
   -- which files it opens: tag files and then, at depth Full, those whose digests are compared; of
   -- the payload those alone that payload manifests name, and none that the cursor has passed
   pub opens : OpensInRun request.options tree new
-  pub payload : OpensListed request.options tree new
+  pub payload : OpensNamed request.options tree new
   pub none_passed : OpensNonePassed request.after tree new
   -- and when: not before the lines of the faults that stand before them; where it stops at a file,
   -- those before that one; and where the faults of stages 1 to 6 reach the limit, tag files alone

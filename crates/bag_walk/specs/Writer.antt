@@ -1,12 +1,11 @@
 -- What a run writes of the faults of a report.
 use Rattle.std.specs.Prelude.{ℕ, ◌≡◌, ◌≤◌, ◌⊎◌, true, List, length, take}
 use Rattle.std.specs.Io.KnownBytes.{Appends}
-use Rattle.bag_tree.specs.Out.{OutState}
+use Rattle.bag_tree.specs.Out.{IsCut, OutState}
 use Rattle.bag_tree.specs.declared.tree_fault.Stop.{Stop}
 use Rattle.bag_facts.specs.declared.fault.Fault.{Fault}
 use Rattle.bag_walk.specs.Closing.{closing, count_of}
 use Rattle.bag_walk.specs.Ending.{MayEnd, ReachesEnd, Wrote}
-use Rattle.bag_walk.specs.Write.{IsCut}
 use Rattle.bag_walk.specs.declared.outcome.Outcome.{Outcome}
 use Rattle.bag_walk.specs.declared.outcome.Outcome.TheVariants.{Unwritten}
 use Rattle.bag_walk.specs.declared.outcome.Request.{Request}

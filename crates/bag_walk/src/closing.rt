@@ -2,11 +2,10 @@
 ghost use Rattle.std.specs.Prelude.{◌≡◌, ◌++◌};
 ghost use Rattle.bag_facts.specs.FaultLine.{field};
 ghost use Rattle.bag_walk.specs.Closing as spec;
-ghost use Rattle.bag_walk.specs.Pieces.{Writes, joined_pieces};
+ghost use Rattle.bag_tree.specs.Pieces.{Writes};
 
-use crate::segment::{put_all, put_pieces};
 use crate::{Outcome, Request};
-use bag_facts::{Depth, field_pieces};
+use bag_facts::{Depth, put_line};
 use bag_text::said;
 use bag_tree::{Out, Refused, Stop};
 use itoa::Buffer;
@@ -84,24 +83,4 @@ pub(crate) fn put_unread<W: Out>(
         ],
         out,
     )
-}
-
-/// Hands a text to the output as a field of a line, and then the pieces, with no line end of its
-/// own. It takes no memory.
-pub fn put_line<W: Out>(text: &str, pieces: &[&str], out: &mut W) -> Result<(), Refused>
-    ensures { Writes (W.state out.old) (W.state out.new)
-        (field text.now ++ joined_pieces pieces.now) result }
-{
-    put_field(text, out)?;
-    put_pieces(out, pieces)
-}
-
-/// Hands a text to the output as a field of a line.
-fn put_field<W: Out>(text: &str, out: &mut W) -> Result<(), Refused>
-    ensures { Writes (W.state out.old) (W.state out.new) (field text.now) result }
-{
-    for piece in field_pieces(text) {
-        put_all(out, piece.as_bytes())?;
-    }
-    Ok(())
 }

@@ -3,23 +3,18 @@ ghost use Rattle.std.specs.Prelude.{◌≡◌, ⊤, [], false, IfOk, Option};
 ghost use Rattle.std.specs.List.Sorted.{IsStrictlySortedBy};
 ghost use Rattle.std.specs.Option.{option_copied};
 ghost use Rattle.bag_facts.specs.FaultOrder.{fault_cmp};
-ghost use Rattle.bag_facts.specs.FactsOfBag.{IfBagRead};
 ghost use Rattle.bag_facts.specs.Options.{reaches};
-ghost use Rattle.bag_stages.specs.CompletenessFaults.{IsIncomplete, IsWrong};
-ghost use Rattle.bag_walk.specs.Completeness.{AreAbove, AreSought};
-ghost use Rattle.bag_walk.specs.Completeness.{AreOfStageSix, IsOfAlg, IsOfSomeAlg};
+ghost use Rattle.bag_walk.specs.Completeness.{AreOfStageSix, AreSought};
 ghost use Rattle.bag_walk.specs.FactsOf.{ForCheckOf};
 ghost use Rattle.bag_walk.specs.Filling.{first_of};
 ghost use Rattle.bag_walk.specs.StartPart.{IsStageWithin};
 ghost use Rattle.bag_profile.specs.Profile.{Profile};
 
-use crate::fixed::{above, merged};
+use crate::above_cursor::above;
 use crate::part::Bounds;
 use crate::{Fixed, InOrder, Quiet, Source};
 use bag_facts::{Facts, Fault};
-use bag_read::Kind;
-use bag_stages::{clashes_if_set, is_exact, left_out_by_all, left_out_by_one, missing_of};
-use bag_text::Alg;
+use bag_stages::completeness_faults;
 use bag_tree::{Stop, Tree};
 use std::alloc::{AllocError, Global};
 
@@ -82,67 +77,7 @@ fn sought(alloc: Global, facts: &Facts, after: Option<&Fault>) -> Result<Vec<Fau
     if !facts.options.depth.has_stage(6) {
         return Ok(Vec::new(alloc));
     }
-    let of_files = of_files(alloc, facts, after)?;
-    let of_names = above(clashes_if_set(alloc, facts)?, after);
-    merged(alloc, of_files, of_names)
-}
-
-/// The faults above a cursor that files are missing or aren't listed: those of each manifest, and
-/// those of all payload manifests at once, which a bag has by the rules of 0.97.
-fn of_files(alloc: Global, facts: &Facts, after: Option<&Fault>) -> Result<Vec<Fault>, AllocError>
-    ensures { IfOk result (λ faults. IfBagRead facts.now (λ bag.
-        AreAbove (option_copied after.entry) (IsIncomplete bag) faults.items)) }
-{
-    let of_algs = of_algs(alloc, facts, after)?;
-    let of_all = above(left_out_by_all(alloc, facts)?, after);
-    merged(alloc, of_algs, of_all)
-}
-
-/// Those of the manifests of each algorithm.
-fn of_algs(alloc: Global, facts: &Facts, after: Option<&Fault>) -> Result<Vec<Fault>, AllocError>
-    ensures { IfOk result (λ faults. IfBagRead facts.now (λ bag.
-        AreAbove (option_copied after.entry) (IsOfSomeAlg bag) faults.items)) }
-{
-    let mut faults = Vec::new(alloc);
-    for alg in Alg::ALL {
-        let of_alg = of_alg(alloc, facts, alg, after)?;
-        faults = merged(alloc, faults, of_alg)?;
-    }
-    Ok(faults)
-}
-
-/// Those of the manifests of an algorithm.
-fn of_alg(
-    alloc: Global,
-    facts: &Facts,
-    alg: Alg,
-    after: Option<&Fault>,
-) -> Result<Vec<Fault>, AllocError>
-    ensures { IfOk result (λ faults. IfBagRead facts.now (λ bag.
-        AreAbove (option_copied after.entry) (IsOfAlg bag alg) faults.items)) }
-{
-    let of_payload = of_payload(alloc, facts, alg, after)?;
-    let of_tags = above(missing_of(alloc, facts, Kind::Tag, alg)?, after);
-    merged(alloc, of_payload, of_tags)
-}
-
-/// Those of the payload manifest of an algorithm. Most have none, which one look at both lists
-/// shows.
-fn of_payload(
-    alloc: Global,
-    facts: &Facts,
-    alg: Alg,
-    after: Option<&Fault>,
-) -> Result<Vec<Fault>, AllocError>
-    ensures { IfOk result (λ faults. IfBagRead facts.now (λ bag.
-        AreAbove (option_copied after.entry) (IsWrong bag alg) faults.items)) }
-{
-    if is_exact(facts, alg) {
-        return Ok(Vec::new(alloc));
-    }
-    let missing = above(missing_of(alloc, facts, Kind::Payload, alg)?, after);
-    let unlisted = above(left_out_by_one(alloc, facts, alg)?, after);
-    merged(alloc, missing, unlisted)
+    Ok(above(completeness_faults(alloc, facts)?, after))
 }
 
 impl<T: Tree> Source<T> for Completeness {

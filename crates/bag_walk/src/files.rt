@@ -10,7 +10,7 @@ ghost use Rattle.bag_walk.specs.Parts.{files_within};
 use crate::part::Bounds;
 use crate::to_sum::ToSum;
 use bag_facts::{Depth, Facts, Fault};
-use bag_stages::{Packed, Places, expected_of};
+use bag_stages::{Places, expected_of};
 use bag_text::Text;
 use bag_tree::FileEntry;
 use std::alloc::{AllocError, Global};
@@ -68,10 +68,9 @@ fn to_sum_of(
     if expected.is_empty() {
         return Ok(None);
     }
-    let packed = Packed::of(alloc, expected.as_slice())?;
     Ok(Some(ToSum {
         file: copy_of_file(alloc, file)?,
-        expected: packed,
+        expected,
     }))
 }
 

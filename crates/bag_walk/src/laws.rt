@@ -4,7 +4,7 @@ ghost use Rattle.bag_walk.specs.PartRuns.{CursorCutsPart, DonePartIsWritten, One
 ghost use Rattle.bag_walk.specs.PartRuns.{PartsWriteReport, RunIsItsParts};
 ghost use Rattle.bag_walk.specs.Parts.{OneListOfFiles, PartsAreEven, PartsJoin};
 ghost use Rattle.bag_walk.specs.SegmentLaws.{AnswersReportUnread, ChainsAreSegments, SegmentsAddUp};
-ghost use Rattle.bag_walk.specs.SegmentOpenings.{EachBagHasListedFiles};
+ghost use Rattle.bag_walk.specs.SegmentOpenings.{EachBagHasComparedFiles};
 ghost use Rattle.bag_walk.specs.Segments.{SegmentsJoin};
 
 /// A list of faults is what stands up to one of them, and what is above it.
@@ -34,8 +34,8 @@ pub fn answers_report_unread()
 {}
 
 /// Every bag has a list of the payload files whose digests are compared, whatever is asked for.
-pub fn each_bag_has_listed_files()
-    ensures { EachBagHasListedFiles }
+pub fn each_bag_has_compared_files()
+    ensures { EachBagHasComparedFiles }
 {}
 
 /// The parts of a report, one after the other, are the report.

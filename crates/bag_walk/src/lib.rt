@@ -24,9 +24,9 @@
 //! algorithms, and none after the fault that is given. Segments add up to one report.
 #![tactic(auto)]
 
+mod above_cursor;
 mod closing;
 mod completeness;
-mod cursor;
 mod files;
 mod fixed;
 pub mod laws;
@@ -35,9 +35,11 @@ mod next;
 mod outcome;
 mod part;
 mod part_run;
+mod queue;
 mod runner;
 mod segment;
 mod segments;
+mod sequence;
 mod source;
 mod steps;
 mod to_sum;
@@ -45,16 +47,15 @@ mod validity;
 mod walk_run;
 
 pub use bag_facts::Part;
-pub use closing::put_line;
 pub use completeness::Completeness;
-pub use fixed::{Fixed, Then};
+pub use fixed::Fixed;
 pub use merge::Merge;
 pub use outcome::{Outcome, Request, status};
 pub use part::Listed;
 pub use part_run::{PartOutcome, run_part};
 pub use runner::run;
-pub use segment::{put_all, put_pieces};
 pub use segments::run_segments;
+pub use sequence::Then;
 pub use source::{InOrder, Quiet, Source};
 pub use steps::{Sources, Steps, Walk};
 pub use validity::Validity;

@@ -145,7 +145,7 @@ fn fill_unless<T: Tree, S: Source<T>>(
 }
 
 /// Which of two faults comes first: one that is there before one that isn't.
-pub(crate) fn order(first: Option<&Fault>, second: Option<&Fault>) -> Ordering
+fn order(first: Option<&Fault>, second: Option<&Fault>) -> Ordering
     ensures { result ≡ fronts (option_copied first.entry) (option_copied second.entry) }
 {
     match (first, second) {

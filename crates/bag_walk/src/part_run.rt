@@ -6,25 +6,24 @@ ghost use Rattle.bag_facts.specs.Wanted.{ForListing};
 ghost use Rattle.bag_facts.specs.declared.fault.Fault.{Fault as FaultValue};
 ghost use Rattle.bag_walk.specs.Ending.{limit_of};
 ghost use Rattle.bag_walk.specs.PartRuns as spec;
-ghost use Rattle.bag_walk.specs.PartRuns.{ForPart, IsRunOfPart, LooksNoFurtherInPart, OpensInPart};
-ghost use Rattle.bag_walk.specs.PartRuns.{PutsPartClosing, StopsInPartInTurn};
+ghost use Rattle.bag_walk.specs.PartRuns.{IsRunOfPart, LooksNoFurtherInPart, OpensInPart};
+ghost use Rattle.bag_walk.specs.PartRuns.{PutsPartClosing, StopsInPartInTurn, WritesPart};
 ghost use Rattle.bag_walk.specs.Parts.{listed_of};
-ghost use Rattle.bag_walk.specs.Pieces.{Writes};
+ghost use Rattle.bag_tree.specs.Pieces.{Writes};
 ghost use Rattle.bag_walk.specs.SegmentEnds.{IfUnread, IsRead, IsSegment};
 ghost use Rattle.bag_walk.specs.Stops.{MayStop};
 ghost use Rattle.bag_walk.specs.declared.segment.SegmentEnd.TheVariants as end_of;
 
-use crate::closing::{put_count, put_line, put_unread};
-use crate::cursor::copy_of_cursor;
+use crate::closing::{put_count, put_unread};
 use crate::part::Listed;
-use crate::segment::{Lines, Segment, SegmentEnd, out_of_memory, put_pieces};
+use crate::segment::{Lines, Segment, SegmentEnd};
 use crate::segments::segment_of_walk;
 use crate::walk_run::limit_of;
 use crate::{Request, Walk};
-use bag_facts::Part;
+use bag_facts::{Fault, Part, put_line};
 use bag_report::Profile;
 use bag_text::said;
-use bag_tree::{Out, Refused, Stop, Tree};
+use bag_tree::{Out, Refused, Stop, Tree, put_pieces};
 use itoa::Buffer;
 use std::alloc::Global;
 
@@ -155,16 +154,18 @@ fn lines_of_part<T: Tree, W: Out>(
         ForListing (T.state tree) (λ files. result.1.listed ≡ listed_of files) }
     ensures unseen { (faults : List FaultValue) × IsSegment faults (limit_of request.now)
         (W.state out.old) (W.state out.new) result.1.segment }
-    ensures segment { ForPart (T.state tree) (option_copied profile.entry) request.now part
-        (λ faults. IsSegment faults (limit_of request.now)
-        (W.state out.old) (W.state out.new) result.1.segment) }
+    ensures of_one_bag { WritesPart (T.state tree) (option_copied profile.entry) request.now part
+        (W.state out.old) (W.state out.new) result.1.segment }
 {
     let limit = limit_of(request);
     if limit == 0 {
         return (tree, not_begun(SegmentEnd::Full));
     }
-    let Ok(after) = copy_of_cursor(alloc, request.after.as_ref()) else {
-        return (tree, not_begun(SegmentEnd::Unread(out_of_memory(alloc))));
+    let Ok(after) = Fault::copied(alloc, request.after.as_ref()) else {
+        return (
+            tree,
+            not_begun(SegmentEnd::Unread(Stop::out_of_memory(alloc))),
+        );
     };
     match Walk::start_part(alloc, tree, profile, request.options, after, part) {
         Ok((walk, listed)) => {

@@ -4,12 +4,12 @@ ghost use Rattle.std.specs.Option.{option_copied};
 ghost use Rattle.bag_walk.specs.Ending.{limit_of};
 ghost use Rattle.bag_walk.specs.WholeRun.{IsRunOver};
 
-use crate::cursor::copy_of_cursor;
-use crate::segment::{close, out_of_memory};
+use crate::segment::close;
 use crate::walk_run::{limit_of, run_of_walk};
 use crate::{Outcome, Request, Walk};
+use bag_facts::Fault;
 use bag_report::Profile;
-use bag_tree::{Out, Tree};
+use bag_tree::{Out, Stop, Tree};
 use std::alloc::Global;
 
 /// Writes the faults of a tree's bag that the request asks for, one line each, and a closing line.
@@ -35,8 +35,8 @@ pub fn run<T: Tree, W: Out>(
     if limit_of(request) == 0 {
         return (tree, close(request, Outcome::Stopped(0), out));
     }
-    let Ok(after) = copy_of_cursor(alloc, request.after.as_ref()) else {
-        let outcome = Outcome::Unread(0, out_of_memory(alloc));
+    let Ok(after) = Fault::copied(alloc, request.after.as_ref()) else {
+        let outcome = Outcome::Unread(0, Stop::out_of_memory(alloc));
         return (tree, close(request, outcome, out));
     };
     match Walk::start(alloc, tree, profile, request.options, after) {

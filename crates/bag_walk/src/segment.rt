@@ -1,28 +1,23 @@
 //! The lines of a report's faults, each written when its fault is found.
-ghost use Rattle.std.specs.Prelude.{ℕ, ◌≡◌, List, [], drop, string_bytes};
+ghost use Rattle.std.specs.Prelude.{◌≡◌, List, [], string_bytes};
 ghost use Rattle.std.specs.Prelude.{IfOk, IsTrue, OnOk, Option};
 ghost use Rattle.std.specs.Option.{option_copied};
 ghost use Rattle.bag_tree.specs.Out.{OutState};
-ghost use Rattle.bag_tree.specs.Tree.{Keeps, NothingFailed};
 ghost use Rattle.bag_facts.specs.declared.fault.Fault.{Fault as FaultValue};
-ghost use Rattle.bag_facts.specs.Stops.{IsOutOfMemory};
 ghost use Rattle.bag_walk.specs.Closing.{count_of};
 ghost use Rattle.bag_walk.specs.Ending.{limit_of, written_line, ended};
-ghost use Rattle.bag_walk.specs.SourceOpenings.{NoFaultBeforeStop, OpensNoFileEarly};
-ghost use Rattle.bag_walk.specs.Steps.{left, to_open, ForEachBag, WalkIsOfHonest, MayReopenLast};
-ghost use Rattle.bag_walk.specs.Lines.{IsLastOf, IsLastLine};
-ghost use Rattle.bag_walk.specs.SegmentEnds.{ClosesSegment, IfUnread, IsRead, IsSegment};
-ghost use Rattle.bag_walk.specs.SegmentEnds.{MayStopWalk, StopsAt, still_to_come};
+ghost use Rattle.bag_walk.specs.Lines.{IsLastLine};
+ghost use Rattle.bag_walk.specs.SegmentEnds.{ClosesSegment, IsSegment, StopsAt};
 ghost use Rattle.bag_walk.specs.Stops.{IfRunUnread};
+ghost use Rattle.bag_walk.specs.WalkRuns.{WritesSegment};
 ghost use Rattle.bag_facts.specs.LineOf.{IsFault};
 ghost use Rattle.bag_walk.specs.Writer.{Closes};
-ghost use Rattle.bag_walk.specs.Pieces.{Writes, joined_pieces};
 
 use crate::closing::put_closing;
 use crate::{InOrder, Outcome, Request, Steps};
 use bag_facts::Fault;
 use bag_facts::laws::every_fault_is_one;
-use bag_tree::{Out, Refused, Stop, Tree, TreeFault};
+use bag_tree::{Out, Refused, Stop, Tree, put_all};
 use std::alloc::{AllocError, Global};
 use std::mem;
 
@@ -59,25 +54,9 @@ pub(crate) fn write_faults<T: Tree, S: InOrder<T>, W: Out>(
     limit: u64,
     out: &mut W,
 ) -> Segment
-    ensures keeps { Keeps (T.state walk.old.tree) (T.state walk.new.tree) }
-    ensures no_failure { IsRead result.end →
-        NothingFailed (T.state walk.old.tree) (T.state walk.new.tree) }
-    ensures opens { MayReopenLast T.Tree S.Source walk.old walk.new }
-    ensures none_early { ForEachBag T.Tree S.Source walk.old (λ bag.
-        OpensNoFileEarly (still_to_come result (left S.Source bag walk.old))
-        (T.state walk.old.tree) (T.state walk.new.tree)) }
-    ensures waits { IfUnread result.end (λ stop. ForEachBag T.Tree S.Source walk.old (λ bag.
-        NoFaultBeforeStop (drop result.written (left S.Source bag walk.old)) stop.path)) }
-    ensures seen { ForEachBag T.Tree S.Source walk.old (λ bag.
-        IsSegment (left S.Source bag walk.old) limit (W.state out.old) (W.state out.new) result) }
-    ensures last { ForEachBag T.Tree S.Source walk.old (λ bag.
-        IsLastOf (left S.Source bag walk.old) result.written
-        (string_bytes lines.old.last) (string_bytes lines.new.last)) }
-    ensures unseen { (faults : List FaultValue) ×
-        IsSegment faults limit (W.state out.old) (W.state out.new) result }
-    ensures stop { IfUnread result.end (MayStopWalk (WalkIsOfHonest T.Tree S.Source walk.old)
-        (to_open S.Source walk.old) (to_open S.Source walk.new)
-        (T.state walk.old.tree) (T.state walk.new.tree)) }
+    ensures { WritesSegment T.Tree S.Source walk.old (T.state walk.new.tree) limit
+        (W.state out.old) (W.state out.new)
+        (string_bytes lines.old.last) (string_bytes lines.new.last) result }
 {
     let mut written = 0;
     'given: while written < limit {
@@ -97,7 +76,7 @@ pub(crate) fn write_faults<T: Tree, S: InOrder<T>, W: Out>(
         let Ok(()) = lines.fill(fault) else {
             return Segment {
                 written,
-                end: SegmentEnd::Unread(out_of_memory(alloc)),
+                end: SegmentEnd::Unread(Stop::out_of_memory(alloc)),
             };
         };
         if let Err(Refused) = put_all(out, lines.next.as_bytes()) {
@@ -130,13 +109,6 @@ pub(crate) fn close_segment<W: Out>(request: &Request, segment: Segment, out: &m
         SegmentEnd::Unread(stop) => close(request, Outcome::Unread(written, stop), out),
         SegmentEnd::Unwritten => Outcome::Unwritten(written),
     }
-}
-
-/// The stop where memory ran out.
-pub(crate) fn out_of_memory(alloc: Global) -> Stop
-    ensures { IsOutOfMemory result }
-{
-    Stop::without_path(alloc, TreeFault::Memory)
 }
 
 /// The line that was written last, none at first, and a buffer for the next. Each ends in LF.
@@ -212,27 +184,4 @@ pub(crate) fn close<W: Out>(request: &Request, ending: Outcome, out: &mut W) -> 
         Ok(()) => ending,
         Err(Refused) => Outcome::Unwritten(ending.count()),
     }
-}
-
-/// Hands all bytes to the output, in one write where it takes them whole.
-pub fn put_all<W: Out>(out: &mut W, bytes: &[u8]) -> Result<(), Refused>
-    ensures { Writes (W.state out.old) (W.state out.new) bytes.now result }
-{
-    let mut rest = bytes;
-    while !rest.is_empty() {
-        let count = out.put(rest)?;
-        let (_, after) = rest.split_at(count);
-        rest = after;
-    }
-    Ok(())
-}
-
-/// Hands the pieces of a text to the output. It takes no memory.
-pub fn put_pieces<W: Out>(out: &mut W, pieces: &[&str]) -> Result<(), Refused>
-    ensures { Writes (W.state out.old) (W.state out.new) (joined_pieces pieces.now) result }
-{
-    for piece in pieces {
-        put_all(out, piece.as_bytes())?;
-    }
-    Ok(())
 }

@@ -1,23 +1,20 @@
 //! A report in segments, each with a limit of its own.
-ghost use Rattle.std.specs.Prelude.{◌≡◌, ◌<◌, ◌≤◌, ◌^◌, ℕ, List, drop, sum, string_bytes};
+ghost use Rattle.std.specs.Prelude.{◌≡◌, ◌<◌, ◌≤◌, ◌^◌, ℕ, List, sum, string_bytes};
 ghost use Rattle.std.specs.Option.{option_copied};
 ghost use Rattle.bag_tree.specs.Tree.{Keeps, NothingFailed};
 ghost use Rattle.bag_facts.specs.declared.fault.Fault.{Fault as FaultValue};
-ghost use Rattle.bag_walk.specs.SourceOpenings.{NoFaultBeforeStop, OpensAgain, OpensNoFileEarly};
-ghost use Rattle.bag_walk.specs.Steps.{left, to_open, ForEachBag, WalkIsOfHonest};
-ghost use Rattle.bag_walk.specs.Lines.{IsLastOf};
-ghost use Rattle.bag_walk.specs.Segment.{MayStopRun};
-ghost use Rattle.bag_walk.specs.SegmentEnds.{IfUnread, IsRead, IsSegment, still_to_come};
+ghost use Rattle.bag_walk.specs.SegmentEnds.{IfUnread, IsRead, IsSegment};
 ghost use Rattle.bag_walk.specs.SegmentChain.{RunsInSegments};
-ghost use Rattle.bag_walk.specs.SegmentOpenings.{AreListed, OpensInSegment};
+ghost use Rattle.bag_walk.specs.SegmentOpenings.{AreCompared, OpensInSegment};
 ghost use Rattle.bag_walk.specs.Stops.{MayStop};
 ghost use Rattle.bag_walk.specs.Segments as spec;
 ghost use Rattle.bag_walk.specs.Segments.{ForReportFrom};
+ghost use Rattle.bag_walk.specs.WalkRuns.{WritesSegment};
 
-use crate::segment::{Lines, Segment, SegmentEnd, end_of_report, out_of_memory, write_faults};
+use crate::segment::{Lines, Segment, SegmentEnd, end_of_report, write_faults};
 use crate::{InOrder, Outcome, Steps, Walk};
 use bag_report::{Options, Profile};
-use bag_tree::{Out, Tree};
+use bag_tree::{Out, Stop, Tree};
 use std::alloc::{AllocError, Global};
 
 impl SegmentEnd {
@@ -110,8 +107,8 @@ fn write_segment<T: Tree, W: Out>(
         (W.state out.old) (W.state out.new) (string_bytes lines.new.last) result.1) }
     ensures opens { ForReportFrom (T.state tree) (option_copied profile.entry) options
         (string_bytes lines.old.last) (λ report n.
-        (listed : List (List ℕ)) → AreListed options (T.state tree).bag listed
-        → OpensInSegment listed report n result.1 (T.state tree) (T.state result.0)) }
+        (compared : List (List ℕ)) → AreCompared options (T.state tree).bag compared
+        → OpensInSegment compared report n result.1 (T.state tree) (T.state result.0)) }
 {
     if limit == 0 {
         return (
@@ -123,7 +120,7 @@ fn write_segment<T: Tree, W: Out>(
         );
     }
     let Ok(after) = lines.last_fault(alloc) else {
-        let end = SegmentEnd::Unread(out_of_memory(alloc));
+        let end = SegmentEnd::Unread(Stop::out_of_memory(alloc));
         return (tree, Segment { written: 0, end });
     };
     match Walk::start(alloc, tree, profile, options, after) {
@@ -143,26 +140,9 @@ pub(crate) fn segment_of_walk<T: Tree, S: InOrder<T> + Drop, W: Out>(
     limit: u64,
     out: &mut W,
 ) -> (T, Segment)
-    ensures keeps { Keeps (T.state walk.tree) (T.state result.0) }
-    ensures no_failure { IsRead result.1.end
-        → NothingFailed (T.state walk.tree) (T.state result.0) }
-    ensures bounded { result.1.written ≤ limit }
-    ensures opens { (files : List (List ℕ)) ×
-        OpensAgain (to_open S.Source walk) files (T.state walk.tree) (T.state result.0) }
-    ensures none_early { ForEachBag T.Tree S.Source walk (λ bag.
-        OpensNoFileEarly (still_to_come result.1 (left S.Source bag walk))
-        (T.state walk.tree) (T.state result.0)) }
-    ensures waits { IfUnread result.1.end (λ stop. ForEachBag T.Tree S.Source walk (λ bag.
-        NoFaultBeforeStop (drop result.1.written (left S.Source bag walk)) stop.path)) }
-    ensures stop { IfUnread result.1.end (MayStopRun (WalkIsOfHonest T.Tree S.Source walk)
-        (to_open S.Source walk) (T.state walk.tree) (T.state result.0)) }
-    ensures seen { ForEachBag T.Tree S.Source walk (λ bag.
-        IsSegment (left S.Source bag walk) limit (W.state out.old) (W.state out.new) result.1) }
-    ensures unseen { (faults : List FaultValue) ×
-        IsSegment faults limit (W.state out.old) (W.state out.new) result.1 }
-    ensures last { ForEachBag T.Tree S.Source walk (λ bag.
-        IsLastOf (left S.Source bag walk) result.1.written
-        (string_bytes lines.old.last) (string_bytes lines.new.last)) }
+    ensures { WritesSegment T.Tree S.Source walk (T.state result.0) limit
+        (W.state out.old) (W.state out.new)
+        (string_bytes lines.old.last) (string_bytes lines.new.last) result.1 }
 {
     let mut walk = walk;
     let segment = write_faults(alloc, &mut walk, lines, limit, out);

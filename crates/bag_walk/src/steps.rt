@@ -16,13 +16,13 @@ ghost use Rattle.bag_walk.specs.Steps.{left, shown, to_open, GivesFirst, GoesOn,
 ghost use Rattle.bag_walk.specs.Steps.{IsStoppedInTurn, MayReopenLast, MayStopHere, MayStopOverAny};
 ghost use Rattle.bag_walk.specs.Steps.{WalkOpensNoFileEarly, OpensNext, StopsBeforeRemaining};
 
-use crate::fixed::above;
+use crate::above_cursor::above;
 use crate::part::{Bounds, Listed};
 use crate::{Completeness, Fixed, InOrder, Source, Then, Validity};
 use bag_facts::{Facts, Fault, Options, Part};
 use bag_profile::Profile;
 use bag_report::stage_faults;
-use bag_tree::{Stop, Tree, TreeFault};
+use bag_tree::{Stop, Tree};
 use std::alloc::{AllocError, Global};
 
 /// A walk over the faults of a source: a tree, and a source of faults of its bag, whose first fault
@@ -156,7 +156,7 @@ impl<T: Tree> Walk<T> {
         };
         match Self::sources_of(alloc, &facts, profile, after.as_ref()) {
             Ok(sources) => Ok(Steps::new(tree, sources)),
-            Err(AllocError) => Err((tree, Stop::without_path(alloc, TreeFault::Memory))),
+            Err(AllocError) => Err((tree, Stop::out_of_memory(alloc))),
         }
     }
 
@@ -188,7 +188,7 @@ impl<T: Tree> Walk<T> {
         let listed = Listed::of(facts.files());
         match Self::sources_of_part(alloc, &facts, profile, after.as_ref(), part) {
             Ok(sources) => Ok((Steps::new(tree, sources), listed)),
-            Err(AllocError) => Err((tree, Stop::without_path(alloc, TreeFault::Memory))),
+            Err(AllocError) => Err((tree, Stop::out_of_memory(alloc))),
         }
     }
 

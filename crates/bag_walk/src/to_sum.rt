@@ -3,16 +3,16 @@ ghost use Rattle.std.specs.Prelude.{◌≡◌, Contains, length, IsTrue, IfOk, I
 ghost use Rattle.std.specs.Option.{option_copied};
 ghost use Rattle.bag_tree.specs.Tree.{Keeps, NothingFailed};
 ghost use Rattle.bag_tree.specs.FileReads.{OpensAtMost};
-ghost use Rattle.bag_stages.specs.declared.expected.Expected.{Expected as Given};
+ghost use Rattle.bag_stages.specs.Expected.{Expected};
 ghost use Rattle.bag_report.specs.Report.{above};
 ghost use Rattle.bag_walk.specs.ToSum.{faults_in, MayStopAtIt, MayStopAtItAnyway};
 ghost use Rattle.bag_walk.specs.ToSum.{OpensIt, StopsAtIt};
 
-use crate::fixed::above;
-use bag_facts::{Fault, refusal_of};
+use crate::above_cursor::above;
+use bag_facts::Fault;
 use bag_stages::{Packed, faults_by};
 use bag_text::AlgSet;
-use bag_tree::{FileEntry, Stop, Tree, TreeFault, digest_file};
+use bag_tree::{FileEntry, Stop, Tree, digest_file};
 use std::alloc::{AllocError, Global};
 
 /// A listed file, and what manifests give for it, in the order of their algorithms.
@@ -46,26 +46,26 @@ pub(crate) fn faults_of_file<T: Tree>(
 {
     // Copied before the file is read, so that its refusal isn't reported as out of memory.
     let Ok(path) = to_sum.file.path.copy(alloc) else {
-        return Err(Stop::without_path(alloc, TreeFault::Memory));
+        return Err(Stop::out_of_memory(alloc));
     };
     let algs = algs_of(&to_sum.expected);
     let sums = match digest_file(tree, &to_sum.file, algs, buffer) {
         Ok(sums) => sums,
-        Err(cause) => return Err(refusal_of(alloc, cause, path)),
+        Err(cause) => return Err(Stop::of_file(alloc, cause, path)),
     };
     match faults_by(alloc, &to_sum.file.path, &to_sum.expected, &sums) {
         Ok(faults) => Ok(above(faults, after)),
-        Err(AllocError) => Err(Stop::without_path(alloc, TreeFault::Memory)),
+        Err(AllocError) => Err(Stop::out_of_memory(alloc)),
     }
 }
 
 /// The algorithms by which digests are given.
 fn algs_of(expected: &Packed) -> AlgSet
-    ensures { (one : Given) → Contains expected.now one → Contains result one.alg }
+    ensures { (one : Expected) → Contains expected.now one → Contains result one.alg }
 {
     let mut algs = AlgSet::empty();
-    for one in expected.iter() {
-        algs = algs.with(one.alg);
+    for (alg, _) in expected.iter() {
+        algs = algs.with(alg);
     }
     algs
 }

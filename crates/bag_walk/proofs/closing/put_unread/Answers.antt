@@ -1,5 +1,5 @@
 use Rattle.bag_walk.proofs.Common.{codes, err_from_is_err_and, field}
-use Rattle.bag_walk.proofs.Writing.{cut_third, writes_third}
+use Rattle.bag_tree.proofs.Writing.{cut_third, writes_third}
 use Rattle.bag_walk.proofs.closing.put_unread.Goals as goal
 
 pub returns-in_err-put_line : goal.returns-in_err-put_line

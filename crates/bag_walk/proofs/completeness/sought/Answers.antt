@@ -1,7 +1,5 @@
-use Rattle.bag_walk.proofs.Common.{◌≡◌, ◌∙◌, true, false, sym, arith, option_copied, reads_more}
-use Rattle.bag_walk.proofs.Common.{IfOk-weaker, IsSoughtClash}
-use Rattle.bag_walk.proofs.StageSix.{all_sought}
-use Rattle.bag_walk.proofs.UnitedLists.{cut_above}
+use Rattle.bag_walk.proofs.Common.{◌≡◌, ◌∙◌, true, false, sym, arith, option_copied, reads_more, filtered_list}
+use Rattle.bag_walk.proofs.Common.{fault_cmp, is_above}
 use Rattle.bag_walk.proofs.completeness.sought.Goals as goal
 
 pub returns-then-not-has_stage-clause-sought : goal.returns-then-not-has_stage-clause-sought
@@ -9,19 +7,12 @@ returns-then-not-has_stage-clause-sought c = λ bag facts reach.
     let clash : false ≡ true = sym c.if-not-has_stage.true ∙ c.has_stage.ensures ∙ reach in cc
 
 pub returns-clause-sought : goal.returns-clause-sought
-returns-clause-sought c = IfOk-weaker c.merged.result _ _
-    (λ faults is bag facts reach.
+returns-clause-sought c = λ bag facts reach.
     let deep = reads_more c.args.facts.now.options.depth 6 reach (omega arith) in
-    let after = option_copied c.args.after in
-    let clashes = c.args.facts.now.options.clashes in
-    let files = c.in_ok-of_files.ensures bag facts deep in
-    let names = cut_above after (IsSoughtClash clashes bag) _ (c.in_ok-clashes_if_set.ensures bag facts deep) in
-    rw (is files.ascending (rw c.above-of_names.ensures names.ascending), c.above-of_names.ensures)
-    (all_sought after bag clashes _ _ files names))
-    c.merged.ensures
+    rw c.above.ensures
+    (filtered_list fault_cmp _ (is_above (option_copied c.args.after)) _
+    (c.in_ok-completeness_faults.ensures bag facts deep))
 
 pub returns-clause-none : goal.returns-clause-none
-returns-clause-none c = IfOk-weaker c.merged.result _ _
-    (λ faults is below.
-    let clash : false ≡ true = sym below ∙ sym c.has_stage.ensures ∙ c.if-not-has_stage.false in cc)
-    c.merged.ensures
+returns-clause-none c = λ below.
+    let clash : false ≡ true = sym below ∙ sym c.has_stage.ensures ∙ c.if-not-has_stage.false in cc

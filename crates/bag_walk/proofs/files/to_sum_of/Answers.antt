@@ -12,7 +12,6 @@ pub returns : goal.returns
 returns c = λ bag of full.
     let path = c.args.file.now.path in
     let expected = c.in_ok-expected.expected in
-    let held = c.in_ok-packed.ensures ∙ c.as_slice.ensures in
     let deep = not_declaration c.args.facts.now.options.depth full in
     let some : expected ≢ [] = λ none.
     let clash : false ≡ true = sym c.if-is_empty.false ∙ c.is_empty.ensures.1 none in cc in
@@ -20,7 +19,7 @@ returns c = λ bag of full.
     sym c.is_passed.ensures ∙ c.if-is_passed.false in (
       c.in_ok-copy_of_file.ensures,
       (named_by bag path expected (c.in_ok-expected.ensures.algs bag of deep) some, ahead),
-      rw (c.in_ok-copy_of_file.ensures, held)
+      rw c.in_ok-copy_of_file.ensures
           (tells bag (record { file = c.args.file.now; expected = expected })
           (λ bytes there. c.in_ok-expected.ensures.faults bag of deep bytes there)),
     )

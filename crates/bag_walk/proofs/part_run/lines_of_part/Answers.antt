@@ -1,6 +1,8 @@
-use Rattle.bag_walk.proofs.Common.{option_copied, arith, refl, nothing_then, reads_none, limit_of}
-use Rattle.bag_walk.proofs.PartRuns.{part_opens, part_reads, part_stopped, part_unlooked, segment_is, stop_of_part}
+use Rattle.bag_walk.proofs.Common.{option_copied, arith, refl, nothing_then, reads_none}
+use Rattle.bag_walk.proofs.PartRuns.{none_written, part_opens, part_reads, part_stopped, part_unlooked}
+use Rattle.bag_walk.proofs.PartRuns.{part_written, stop_of_part}
 use Rattle.bag_walk.proofs.Running.{stop_of_reading}
+use Rattle.bag_tree.proofs.Writing.{Appends-nil}
 use Rattle.bag_walk.proofs.part_run.lines_of_part.Goals as goal
 
 pub returns-in-Ok-start_part-clause-opens : goal.returns-in-Ok-start_part-clause-opens
@@ -53,13 +55,43 @@ returns-in-Ok-start_part-clause-listed g c = λ end. c.in-Ok-start_part.ensures.
 pub returns-in-Ok-start_part-clause-unseen : goal.returns-in-Ok-start_part-clause-unseen
 returns-in-Ok-start_part-clause-unseen g c = rw c.limit_of-limit.ensures at c.segment_of_walk-tree.ensures.unseen
 
-pub returns-in-Ok-start_part-clause-segment : goal.returns-in-Ok-start_part-clause-segment
-returns-in-Ok-start_part-clause-segment g c = λ honest report is files are.
+pub returns-in-Ok-start_part-clause-of_one_bag : goal.returns-in-Ok-start_part-clause-of_one_bag
+returns-in-Ok-start_part-clause-of_one_bag g c =
     let begun = c.in-Ok-start_part.ensures in
     let then = c.segment_of_walk-tree in
     let started = rw (c.in-Ok.ensures, c.as_ref.ensures.value) at begun.started.started in
-    segment_is (g.T.Tree.state then.result.0) started begun.keeps honest (limit_of c.args.request.now) _ _
-    then.result.1 (rw c.limit_of-limit.ensures at then.ensures.seen) report is files are
+    part_written (g.T.Tree.state then.result.0) c.args.request.now started begun.keeps _ _ then.result.1
+    (rw c.limit_of-limit.ensures at then.ensures.seen)
+
+pub returns-in-Err-clause-of_one_bag : goal.returns-in-Err-clause-of_one_bag
+returns-in-Err-clause-of_one_bag g c =
+    rw c.not_begun-in-Err.ensures
+    (none_written (g.T.Tree.state c.args.tree) (option_copied c.args.profile) c.args.request.now c.args.part
+    (g.W.Out.state c.args.out.now) _ (g.met.T.Tree.is_bag c.args.tree)
+    (λ faults. record {
+      ends = (omega (arith, c.limit_of-limit.ensures, c.if-limit-eq0.false), omega arith);
+      wrote = Appends-nil (g.W.Out.state c.args.out.now).taken;
+    }))
+
+pub returns-in_default-clause-of_one_bag : goal.returns-in_default-clause-of_one_bag
+returns-in_default-clause-of_one_bag g c =
+    rw c.not_begun-in_default.ensures
+    (none_written (g.T.Tree.state c.args.tree) (option_copied c.args.profile) c.args.request.now c.args.part
+    (g.W.Out.state c.args.out.now) _ (g.met.T.Tree.is_bag c.args.tree)
+    (λ faults. record {
+      ends = (omega (arith, c.limit_of-limit.ensures, c.if-limit-eq0.false), omega arith);
+      wrote = Appends-nil (g.W.Out.state c.args.out.now).taken;
+    }))
+
+pub returns-then-limit-eq0-clause-of_one_bag : goal.returns-then-limit-eq0-clause-of_one_bag
+returns-then-limit-eq0-clause-of_one_bag g c =
+    rw c.not_begun.ensures
+    (none_written (g.T.Tree.state c.args.tree) (option_copied c.args.profile) c.args.request.now c.args.part
+    (g.W.Out.state c.args.out.now) _ (g.met.T.Tree.is_bag c.args.tree)
+    (λ faults. record {
+      ends = (omega (arith, c.limit_of-limit.ensures, c.if-limit-eq0.true), omega arith);
+      wrote = Appends-nil (g.W.Out.state c.args.out.now).taken;
+    }))
 
 pub returns-in-Err-clause-opens : goal.returns-in-Err-clause-opens
 returns-in-Err-clause-opens g c =

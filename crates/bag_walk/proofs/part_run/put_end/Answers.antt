@@ -1,6 +1,6 @@
 use Rattle.bag_walk.proofs.Common.{subst, codes, err_from_is_err_and, field, IsCut, Writes, ◌+◌}
 use Rattle.std.specs.Prelude.{decimal}
-use Rattle.bag_walk.proofs.Writing.{IsCut-append, five_joined, writes_after}
+use Rattle.bag_tree.proofs.Writing.{IsCut-append, five_joined, writes_after}
 use Rattle.bag_walk.specs.PartRuns.{cut_line}
 use Rattle.bag_walk.proofs.part_run.put_end.Goals as goal
 

@@ -1,4 +1,5 @@
 use Rattle.bag_walk.proofs.Common.{ap}
+use Rattle.bag_walk.proofs.PartRuns.{part_faults}
 use Rattle.bag_walk.proofs.part_run.run_part.Goals as goal
 
 pub returns-clause-run : goal.returns-clause-run
@@ -16,7 +17,8 @@ returns-clause-run g c =
       stop = then.ensures.stop;
       lines = g.W.Out.state then.new.out;
       wrote = then.ensures.unseen;
-      faults = then.ensures.segment;
+      faults = part_faults _ _ _ _ _ _ _ then.ensures.of_one_bag;
+      of_one_bag = then.ensures.of_one_bag;
       listed = then.result.1.listed;
       counts = then.ensures.listed;
       closes = rw c.part_outcome.ensures at c.close_part-outcome.ensures;

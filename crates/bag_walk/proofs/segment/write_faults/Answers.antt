@@ -1,10 +1,10 @@
 use Rattle.bag_walk.proofs.Common.{◌≡◌, ◌++◌, ◌∙◌, ◌+◌, ◌-◌, ◌∷◌, [], inl, inr, refl, sym, ap, arith, append_assoc}
 use Rattle.bag_walk.proofs.Common.{length-append, option_copied, nothing_asked, nothing_then, keeps_itself, keeps_on}
 use Rattle.bag_walk.proofs.Common.{rest_of, shown_by, to_give}
-use Rattle.bag_walk.proofs.Writing.{Appends-nil}
+use Rattle.bag_tree.proofs.Writing.{Appends-nil}
 use Rattle.bag_walk.proofs.Filling.{again_on, once, opens_on}
 use Rattle.bag_walk.proofs.RunLines.{last_given}
-use Rattle.bag_walk.proofs.SegmentLines.{behind_now, ends_at_end, ends_unread, ends_unwritten, last_is, left_at}
+use Rattle.bag_walk.proofs.SegmentLines.{behind_now, ends_at_end, ends_full, ends_unread, ends_unwritten, last_is, left_at}
 use Rattle.bag_walk.proofs.SegmentLines.{left_at_end, left_is, none_opened, one_line_more, opens_nothing, seen_now}
 use Rattle.bag_walk.proofs.SegmentLines.{stops_now, waits_now}
 use Rattle.bag_walk.proofs.segment.write_faults.Goals as goal
@@ -70,39 +70,36 @@ returns-in-Err g c =
     record {
       keeps = keeps_on _ _ _ has.keeps c.step.ensures.keeps;
       no_failure = λ read. absurd read;
-      opens = again_on has.opens stop.again;
+      opens = (_, again_on has.opens stop.again);
       none_early = behind_now has stop.again c.step.ensures.none_early;
       waits = waits_now has c.in-Err.stop.path stop.waits;
       seen = λ bag h sees. rw (left_is has bag h sees) (ends_unread has _ c.in-Err.stop c.given-test.true);
-      last = λ bag h sees. last_is has bag h sees _ refl;
+      last_line = λ bag h sees. last_is has bag h sees _ refl;
       unseen = (_, ends_unread has [] c.in-Err.stop c.given-test.true);
       stop =
           stops_now has (g.T.Tree.state new.tree) (g.S.Source.todo new.source) c.in-Err.stop stop.reached
           stop.anyway.out_of_memory stop.stop;
     }
 
-pub returns-in_default-clause-no_failure : goal.returns-in_default-clause-no_failure
-returns-in_default-clause-no_failure g c = λ read.
-    nothing_then _ _ _ c.given.invariant.no_failure c.in-Ok.ensures.no_failure
-
-pub returns-in_default-clause-opens : goal.returns-in_default-clause-opens
-returns-in_default-clause-opens g c = again_on c.given.invariant.opens (once c.in-Ok.ensures.opens)
-
-pub returns-in_default-clause-none_early : goal.returns-in_default-clause-none_early
-returns-in_default-clause-none_early g c =
-    behind_now c.given.invariant (once c.in-Ok.ensures.opens) c.step.ensures.none_early
-
-pub returns-in_default-clause-seen : goal.returns-in_default-clause-seen
-returns-in_default-clause-seen g c = λ bag h sees.
+pub returns-in_default : goal.returns-in_default
+returns-in_default g c =
     let has = c.given.invariant in
     let new = c.step.new.self in
-    let next = seen_now has _ c.in-Ok.ensures.next bag h sees in
-    rw (left_at_end has bag h sees (shown_by new.is_shown (g.S.Source.found new.source)) next.1.0
-    (sym c.shown.ensures ∙ ap option_copied c.in_default.is))
-    (ends_at_end has c.given-test.true)
-
-pub returns-in_default-clause-last : goal.returns-in_default-clause-last
-returns-in_default-clause-last g c = λ bag h sees. last_is c.given.invariant bag h sees _ refl
+    record {
+      keeps = keeps_on _ _ _ has.keeps c.step.ensures.keeps;
+      no_failure = λ read. nothing_then _ _ _ has.no_failure c.in-Ok.ensures.no_failure;
+      opens = (_, again_on has.opens (once c.in-Ok.ensures.opens));
+      none_early = behind_now has (once c.in-Ok.ensures.opens) c.step.ensures.none_early;
+      waits = tt;
+      seen = λ bag h sees.
+          let next = seen_now has _ c.in-Ok.ensures.next bag h sees in
+          rw (left_at_end has bag h sees (shown_by new.is_shown (g.S.Source.found new.source)) next.1.0
+          (sym c.shown.ensures ∙ ap option_copied c.in_default.is))
+          (ends_at_end has c.given-test.true);
+      unseen = (_, ends_at_end has c.given-test.true);
+      last_line = λ bag h sees. last_is has bag h sees _ refl;
+      stop = tt;
+    }
 
 pub returns-in_default-fill : goal.returns-in_default-fill
 returns-in_default-fill g c =
@@ -110,11 +107,11 @@ returns-in_default-fill g c =
     record {
       keeps = keeps_on _ _ _ has.keeps c.step.ensures.keeps;
       no_failure = λ read. absurd read;
-      opens = again_on has.opens (once c.in-Ok.ensures.opens);
+      opens = (_, again_on has.opens (once c.in-Ok.ensures.opens));
       none_early = behind_now has (once c.in-Ok.ensures.opens) c.step.ensures.none_early;
       waits = λ bag h sees some. absurd (some c.out_of_memory.ensures.1);
       seen = λ bag h sees. rw (left_is has bag h sees) (ends_unread has _ c.out_of_memory.result c.given-test.true);
-      last = λ bag h sees. last_is has bag h sees _ c.fill.ensures.last;
+      last_line = λ bag h sees. last_is has bag h sees _ c.fill.ensures.last;
       unseen = (_, ends_unread has [] c.out_of_memory.result c.given-test.true);
       stop = inl (c.out_of_memory.ensures, inr (nothing_then _ _ _ has.no_failure c.in-Ok.ensures.no_failure));
     }
@@ -129,7 +126,7 @@ returns-in-Err-put_all g c =
     record {
       keeps = keeps_on _ _ _ has.keeps c.step.ensures.keeps;
       no_failure = λ read. nothing_then _ _ _ has.no_failure c.in-Ok.ensures.no_failure;
-      opens = again_on has.opens (once c.in-Ok.ensures.opens);
+      opens = (_, again_on has.opens (once c.in-Ok.ensures.opens));
       none_early = behind_now has (once c.in-Ok.ensures.opens) c.step.ensures.none_early;
       waits = tt;
       seen = λ bag h sees.
@@ -137,7 +134,22 @@ returns-in-Err-put_all g c =
           rw (left_at has bag h sees (shown_by new.is_shown (g.S.Source.found new.source)) next.1.0 f
           (sym c.shown.ensures ∙ ap option_copied c.in-Some.is))
           (ends_unwritten has f _ out c.given-test.true refused.1 refused.0);
-      last = λ bag h sees. last_is has bag h sees _ c.fill.ensures.last;
+      last_line = λ bag h sees. last_is has bag h sees _ c.fill.ensures.last;
       unseen = (has.given ++ f ∷ [], ends_unwritten has f [] out c.given-test.true refused.1 refused.0);
+      stop = tt;
+    }
+
+pub returns : goal.returns
+returns g c =
+    let has = c.given.invariant in
+    record {
+      keeps = has.keeps;
+      no_failure = λ read. has.no_failure;
+      opens = (_, once has.opens);
+      none_early = has.none_early;
+      waits = tt;
+      seen = λ bag h sees. rw (left_is has bag h sees) (ends_full has _ c.given-test.false);
+      unseen = (_, ends_full has [] c.given-test.false);
+      last_line = λ bag h sees. last_is has bag h sees _ refl;
       stop = tt;
     }

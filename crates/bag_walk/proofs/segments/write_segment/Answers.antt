@@ -1,8 +1,8 @@
 use Rattle.bag_walk.proofs.Common.{◌≡◌, ◌+◌, [], inr, refl, arith, nothing_asked, nothing_then, reads_none}
-use Rattle.bag_walk.proofs.Running.{memory_may_stop, stop_of_reading}
+use Rattle.bag_walk.proofs.Running.{memory_may_stop, stop_of_reading, within_limit}
 use Rattle.bag_walk.proofs.SegmentOpenings.{opens_no_payload}
 use Rattle.bag_walk.proofs.SegmentStart.{goes_on, opens_behind, stop_of_started}
-use Rattle.bag_walk.proofs.Writing.{Appends-nil}
+use Rattle.bag_tree.proofs.Writing.{Appends-nil}
 use Rattle.bag_walk.proofs.segments.write_segment.Goals as goal
 
 pub returns-in-Ok-start-clause-stop : goal.returns-in-Ok-start-clause-stop
@@ -18,7 +18,7 @@ returns-in-Ok-start-clause-segment g c = λ honest report is n within was.
     let then = c.segment_of_walk in
     goes_on (g.T.Tree.state then.result.0) begun.started.started begun.keeps honest report is n within
     (c.in-Ok.ensures _ was) c.args.limit _ _ _ _ then.result.1 was
-    then.ensures.seen then.ensures.last
+    then.ensures.seen then.ensures.last_line
 
 pub returns-in-Ok-start-clause-opens : goal.returns-in-Ok-start-clause-opens
 returns-in-Ok-start-clause-opens g c = λ honest report is n within was listed are.
@@ -27,6 +27,10 @@ returns-in-Ok-start-clause-opens g c = λ honest report is n within was listed a
     opens_behind (g.T.Tree.state then.result.0) begun.started.started begun.keeps honest report is n within
     (c.in-Ok.ensures _ was) begun.opens _
     then.ensures.opens.1 then.result.1 then.ensures.none_early listed are
+
+pub returns-in-Ok-start-clause-bounded : goal.returns-in-Ok-start-clause-bounded
+returns-in-Ok-start-clause-bounded g c =
+    let some = c.segment_of_walk.ensures.unseen in within_limit some.0 c.args.limit _ _ some.1.ends
 
 pub returns-in-Err-clause-stop : goal.returns-in-Err-clause-stop
 returns-in-Err-clause-stop g c = let state = g.T.Tree.state

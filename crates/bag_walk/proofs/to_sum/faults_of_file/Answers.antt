@@ -14,29 +14,25 @@ returns-in-Ok-faults_by-clause-faults g c = λ honest.
 pub returns-in-Err-clause-refused : goal.returns-in-Err-clause-refused
 returns-in-Err-clause-refused g c =
     named_at (g.T.Tree.state c.args.tree.now).openings c.in-Err.cause c.args.to_sum.now.file.path
-    (g.T.Tree.state c.digest_file.new.tree) c.refusal_of.result
-    (rw c.in-Ok.ensures at c.refusal_of.ensures) c.in-Err.ensures.refused_at
+    (g.T.Tree.state c.digest_file.new.tree) c.of_file.result
+    (rw c.in-Ok.ensures at c.of_file.ensures) c.in-Err.ensures.refused_at
 
 pub returns-in_default-clause-stop : goal.returns-in_default-clause-stop
 returns-in_default-clause-stop g c = λ rest is.
-    let memory =
-    c.without_path in filling_of_memory memory.result (memory.ensures.cause, memory.ensures.path)
-    (inr (nothing_asked _))
+    filling_of_memory c.out_of_memory.result c.out_of_memory.ensures (inr (nothing_asked _))
 
 pub returns-in_default-clause-anyway : goal.returns-in_default-clause-anyway
 returns-in_default-clause-anyway g c = λ rest.
-    let memory =
-    c.without_path in anyway_of_memory memory.result (memory.ensures.cause, memory.ensures.path)
-    (inr (nothing_asked _))
+    anyway_of_memory c.out_of_memory.result c.out_of_memory.ensures (inr (nothing_asked _))
 
 pub returns-in-Err-clause-stop : goal.returns-in-Err-clause-stop
 returns-in-Err-clause-stop g c = λ rest.
     let stop = c.in-Err.ensures in
-    filling_of_refusal c.args.to_sum.now.file rest c.in-Err.cause c.refusal_of.result stop.refused stop.answered
-    (rw c.in-Ok.ensures at c.refusal_of.ensures)
+    filling_of_refusal c.args.to_sum.now.file rest c.in-Err.cause c.of_file.result stop.refused stop.answered
+    (rw c.in-Ok.ensures at c.of_file.ensures)
 
 pub returns-in-Err-clause-anyway : goal.returns-in-Err-clause-anyway
 returns-in-Err-clause-anyway g c = λ rest.
     let stop = c.in-Err.ensures in
-    anyway_of_refusal c.args.to_sum.now.file rest c.in-Err.cause c.refusal_of.result stop.refused stop.answered
-    (rw c.in-Ok.ensures at c.refusal_of.ensures)
+    anyway_of_refusal c.args.to_sum.now.file rest c.in-Err.cause c.of_file.result stop.refused stop.answered
+    (rw c.in-Ok.ensures at c.of_file.ensures)

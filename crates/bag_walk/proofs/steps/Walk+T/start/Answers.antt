@@ -19,11 +19,11 @@ returns-in-Ok-sources_of-clause-started g c =
 
 pub returns-clause-refused : goal.returns-clause-refused
 returns-clause-refused g c =
-    let memory = c.without_path.ensures in
+    let memory = c.out_of_memory.ensures in
     record {
       opened_first = grind (arith, opens_all_first);
-      refused_at = λ some. absurd (some memory.path);
+      refused_at = λ some. absurd (some memory.1);
       stop =
-          facts_stop_of_memory c.args.options _ _ c.without_path.result (memory.cause, memory.path)
+          facts_stop_of_memory c.args.options _ _ c.out_of_memory.result memory
           c.in-Ok.ensures.no_failure;
     }

@@ -7,7 +7,7 @@ returns c =
     let after = option_copied c.args.after in
     let bounds = c.args.bounds.now in
     let files = c.in_ok-files_to_sum.ensures in
-    rw (c.in_ok-copy_of_cursor.ensures, c.new.ensures, c.new-3.ensures, c.new-2.ensures.items) (record {
+    rw (c.in_ok-copied.ensures, c.new.ensures, c.new-3.ensures, c.new-2.ensures.items) (record {
       of = λ bag of. chosen_is_of bounds bag after c.args.facts.now of _ (files.files bag of) files.none;
       faults = λ bag of full. chosen_faults bounds bag after c.args.facts.now of _ (files.files bag of full);
       todo = λ bag of full. chosen_todo bounds bag after c.args.facts.now of _ (files.files bag of full);

@@ -1,7 +1,7 @@
 -- Every bag has a list of the payload files whose digests are compared.
 use Rattle.bag_walk.proofs.Common.{◌≡◌, ℕ, true, List, refl, sym, subst, nat_list_cmp_total, is_payload_path, text_cmp}
 use Rattle.bag_walk.proofs.Common.{same_members, Payload, Bag, HasFile, has_file, Full, Options, Names, named_in}
-use Rattle.bag_walk.proofs.Common.{IsListed, EachBagHasListedFiles, IsListedFile}
+use Rattle.bag_walk.proofs.Common.{IsNamedBySome, EachBagHasComparedFiles, IsComparedFile}
 use Rattle.std.specs.FinMap.{IsAntisymmetric, nat_cmp-IsAntisymmetric, slice_cmp-IsAntisymmetric}
 use Rattle.bag_stages.specs.HasList.{HasList}
 use Rattle.bag_stages.proofs.BagLists.{over_algs}
@@ -13,7 +13,7 @@ text_same : IsAntisymmetric text_cmp
 text_same = slice_cmp-IsAntisymmetric nat_cmp-IsAntisymmetric
 
 module _ (options : Options) (bag : Bag) where
-  names_listed : HasList (IsListed bag)
+  names_listed : HasList (IsNamedBySome bag)
   names_listed =
       over_algs (λ alg path. Names bag Payload alg path) (λ alg. (named_in bag Payload alg, λ path. (λ c. c, λ h. h)))
 
@@ -29,25 +29,25 @@ module _ (options : Options) (bag : Bag) where
   abbrev IsOfName : List ℕ → List ℕ → Type 0
   IsOfName name path = IsCompared name × (path ≡ name)
 
-  to_listed : (path : List ℕ) → ((name : List ℕ) × IsListed bag name × IsOfName name path)
-      → IsListedFile options bag path
+  to_listed : (path : List ℕ) → ((name : List ℕ) × IsNamedBySome bag name × IsOfName name path)
+      → IsComparedFile options bag path
   to_listed path (name, named, (compared, is)) =
-      subst (IsListedFile options bag) (sym is) (compared.0, compared.1.0, compared.1.1, named)
+      subst (IsComparedFile options bag) (sym is) (compared.0, compared.1.0, compared.1.1, named)
 
-  from_listed : (path : List ℕ) → IsListedFile options bag path
-      → (name : List ℕ) × IsListed bag name × IsOfName name path
+  from_listed : (path : List ℕ) → IsComparedFile options bag path
+      → (name : List ℕ) × IsNamedBySome bag name × IsOfName name path
   from_listed path (full, payload, there, named) = (path, named, ((full, (payload, there)), refl))
 
-  files_listed : HasList (IsListedFile options bag)
+  files_listed : HasList (IsComparedFile options bag)
   files_listed =
-      same_set _ (IsListedFile options bag) to_listed from_listed
-      (for_each IsOfName (λ name. one_where name (IsCompared name) (is_compared name)) (IsListed bag) names_listed)
+      same_set _ (IsComparedFile options bag) to_listed from_listed
+      (for_each IsOfName (λ name. one_where name (IsCompared name) (is_compared name)) (IsNamedBySome bag) names_listed)
 
-pub each_bag_has_listed_files : EachBagHasListedFiles
-each_bag_has_listed_files options bag =
+pub each_bag_has_compared_files : EachBagHasComparedFiles
+each_bag_has_compared_files options bag =
     let files = files_listed options bag in
     let list = ascending_list text_cmp nat_list_cmp_total text_same files.0 in (
       list.0,
-      same_members text_cmp _ (IsListedFile options bag) list.0 (λ path c. (files.1 path).0 c)
+      same_members text_cmp _ (IsComparedFile options bag) list.0 (λ path c. (files.1 path).0 c)
           (λ path h. (files.1 path).1 h) list.1,
     )

@@ -1,6 +1,6 @@
 use Rattle.bag_walk.proofs.Common.{IsSome, sym, subst, NoFaultBefore}
 use Rattle.bag_walk.proofs.Filling.{taken_first}
-use Rattle.bag_walk.proofs.fixed.ThenSource.advance.Goals as goal
+use Rattle.bag_walk.proofs.sequence.ThenSource.advance.Goals as goal
 
 pub returns-then-self-clause-rest : goal.returns-then-self-clause-rest
 returns-then-self-clause-rest g c = rw c.if-self.true (λ bag h.

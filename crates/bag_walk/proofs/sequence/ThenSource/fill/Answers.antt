@@ -4,7 +4,7 @@ use Rattle.bag_walk.proofs.Filling.{again_on, again_within, anyway_front, anyway
 use Rattle.bag_walk.proofs.Filling.{first_front, front_same, none_shown, once, opened_by, opens_front, opens_on}
 use Rattle.bag_walk.proofs.Filling.{reached_front, reached_on, sees_later, sees_parts, some_shown, stop_front}
 use Rattle.bag_walk.proofs.Filling.{stop_later, waits_first}
-use Rattle.bag_walk.proofs.fixed.ThenSource.fill.Goals as goal
+use Rattle.bag_walk.proofs.sequence.ThenSource.fill.Goals as goal
 
 pub returns-then-not-self-clause-none_early : goal.returns-then-not-self-clause-none_early
 returns-then-not-self-clause-none_early g c = rw c.if-not-self.true (λ ordered bag h sees.

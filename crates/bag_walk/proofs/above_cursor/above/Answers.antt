@@ -1,7 +1,7 @@
 use Rattle.bag_walk.proofs.Common.{rules, option_copied, is_above}
 use Rattle.std.proofs.lemmas.Fn.{filter_same}
-use Rattle.bag_walk.proofs.UnitedLists.{above_none}
-use Rattle.bag_walk.proofs.fixed.above.Goals as goal
+use Rattle.bag_walk.proofs.Positions.{above_none}
+use Rattle.bag_walk.proofs.above_cursor.above.Goals as goal
 
 pub returns-in-Some : goal.returns-in-Some
 returns-in-Some c = let after = option_copied c.args.after
