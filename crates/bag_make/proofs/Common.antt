@@ -35,8 +35,8 @@ pub use Rattle.bag_facts.proofs.Mapped.{contains_mapped, mapped_contains, take_o
 pub use Rattle.bag_facts.proofs.Reading.{keeps_itself, keeps_on, later_refusal, listing_refusal}
 pub use Rattle.bag_facts.proofs.Refusing.{came_from, path_some, refused_file, told_memory}
 pub use Rattle.bag_facts.specs.Facts.{rules_in}
-pub use Rattle.bag_facts.specs.Stops.{IsOutOfMemory, MayRefuseFacts}
-pub use Rattle.bag_facts.specs.TagReader.{IsRefusalOf}
+pub use Rattle.bag_tree.specs.Stop.{IsOutOfMemory, IsRefusalOf}
+pub use Rattle.bag_facts.specs.Stops.{MayRefuseFacts}
 pub use Rattle.bag_facts.specs.Wanted.{paths_of}
 pub use Rattle.bag_facts.specs.declared.fault.Fault.{Fault}
 pub use Rattle.bag_read.proofs.PickedOut.{any_from, both_true, from_any}
@@ -51,7 +51,8 @@ pub use Rattle.bag_read.specs.declared.tag_name.TagName.{TagName}
 pub use Rattle.bag_read.specs.declared.tag_name.TagName.TheVariants.{Declaration, Fetch, Info, Manifest}
 pub use Rattle.bag_stages.specs.FaultFields.{in_line}
 pub use Rattle.bag_stages.specs.MetadataStage.{oxum_label}
-pub use Rattle.bag_stages.specs.Payload.{oxum, oxum_of_files, oxum_text, payload}
+pub use Rattle.bag_read.specs.Oxum.{oxum_text}
+pub use Rattle.bag_stages.specs.Payload.{oxum, oxum_of_files, payload}
 pub use Rattle.bag_stages.specs.TagFiles.{HasSupported, Names, lines_in, lines_or_none, manifest_of}
 pub use Rattle.bag_stages.specs.ValidityStage.{Differs, IsEntryIn}
 pub use Rattle.bag_tags.proofs.DeclarationReadAgain.{declaration_again}
@@ -88,10 +89,10 @@ pub use Rattle.bag_tree.specs.Asked.{has_durable_folders, joined}
 pub use Rattle.bag_tree.specs.Bag.{Bag, HasFile, IsBag, file, files_of, has_file, has_folder}
 pub use Rattle.bag_tree.specs.Cut.{EachCut, LeavesOnly, MayLeave, is_durable, is_file_synced, is_synced}
 pub use Rattle.bag_tree.specs.Digest.{digest, hash}
-pub use Rattle.bag_tree.specs.Listing.{IsListingOf, IsOrdered}
+pub use Rattle.bag_tree.specs.Listing.{IsListingOf, IsOrdered, entry_of_file}
 pub use Rattle.bag_tree.specs.Moved.{is_within, moved, renamed}
 pub use Rattle.bag_tree.specs.Steps.{Files, create, make_folder, move_in, rename_folder}
-pub use Rattle.bag_tree.specs.Tree.{CameFromFile, Keeps, MayRefuse, TreeState, refusal_of}
+pub use Rattle.bag_tree.specs.Tree.{CameFromFile, Keeps, MayRefuseListing, TreeState, refusal_of}
 pub use Rattle.bag_tree.specs.Tree.{NothingFailed}
 pub use Rattle.bag_tree.specs.FileReads.{IsEntryOf, OpensAtMost}
 pub use Rattle.bag_tree.specs.declared.answer.Answer.TheVariants.{Refused, Unlisted}
@@ -117,10 +118,9 @@ pub use Rattle.bag_make.specs.StepsTaken.{HasDone, IsStep}
 pub use Rattle.bag_make.specs.Steps.{StepAsks, after_steps, change, new_folder}
 pub use Rattle.bag_make.specs.Stops.{IsAtFile, MayStopMaking}
 pub use Rattle.bag_make.specs.Summing.{StopsSumming, AreSummedFiles, IsSummedEntry, OpensFirstOf}
-pub use Rattle.bag_make.specs.Summing.{summed_entry}
-pub use Rattle.bag_make.specs.Summed.{AreSummed, HasItsSums, entry_of_file}
-pub use Rattle.bag_make.specs.Texts.{info_of, manifests_of, named_of, size_of}
+pub use Rattle.bag_tags.specs.Summed.{summed_entry, AreSummed, HasItsSums, manifests_of}
+pub use Rattle.bag_make.specs.Texts.{info_of, named_of, size_of}
 pub use Rattle.bag_make.specs.declared.fault.MakeFault.{MakeFault}
 pub use Rattle.bag_make.specs.declared.step.Step.{Step}
 pub use Rattle.bag_make.specs.declared.step.Step.TheVariants.{Create, MakeFolder, MoveIn, Rename}
-pub use Rattle.bag_make.specs.declared.summed.SummedFile.{SummedFile}
+pub use Rattle.bag_tags.specs.declared.summed.SummedFile.{SummedFile}

@@ -11,7 +11,8 @@ use Rattle.std.specs.FinSet as set
 use Rattle.std.specs.Cmp.Lexicographic.{nat_list_eq_equiv}
 use Rattle.std.proofs.lemmas.Map.Views.{Contains-from_any, list_any-from_Contains}
 use Rattle.bag_make.specs.Made.{made}
-use Rattle.bag_make.proofs.Held.{content_of, held_at, held_is, listed, payload_there, tag_there}
+use Rattle.bag_facts.proofs.Found.{content_of, held_at, listed}
+use Rattle.bag_make.proofs.Held.{held_is, payload_there, tag_there}
 
 module _ (bag : Bag) (algs : List Alg) (info : List NewElement) (path content : List ℕ) where
   from_file : file (made bag algs info) path ≡ Some content

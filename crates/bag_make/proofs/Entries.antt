@@ -11,7 +11,8 @@ use Rattle.bag_text.specs.Lines.{lines_of_file}
 use Rattle.bag_read.specs.declared.manifest.ManifestEntry.{ManifestEntry}
 use Rattle.bag_read.proofs.ManifestEntries.{entry_named, named_has_entry}
 use Rattle.bag_make.proofs.FetchIsNotThere.{no_line}
-use Rattle.bag_make.proofs.Held.{tag_held, content_of}
+use Rattle.bag_facts.proofs.Found.{content_of}
+use Rattle.bag_make.proofs.Held.{tag_held}
 use Rattle.bag_make.proofs.MadeRules.{made_rules}
 
 -- the place of a member

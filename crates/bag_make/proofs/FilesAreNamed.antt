@@ -9,7 +9,8 @@ use Rattle.bag_stages.specs.CompletenessStage.{Missing, CompletenessHolds, IsOfC
 use Rattle.bag_report.specs.Report.{asks}
 use Rattle.bag_make.proofs.Entries.{AreWritable, listed, listed_named, named_listed}
 use Rattle.bag_make.proofs.MadeRules.{made_rules}
-use Rattle.bag_make.proofs.Held.{held_is, content_of, named_tag, payload_member, payload_there, tag_there}
+use Rattle.bag_facts.proofs.Found.{content_of}
+use Rattle.bag_make.proofs.Held.{held_is, named_tag, payload_member, payload_there, tag_there}
 
 -- a tag file stands in the base folder
 pub no_payload_tag : (tag : TagName) → is_payload_path (tag_path tag) ≡ true → ⊥

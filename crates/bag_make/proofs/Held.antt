@@ -10,46 +10,10 @@ use Rattle.bag_make.proofs.Common.{file, HasFile, files_of, contains_mapped, map
 use Rattle.bag_make.proofs.Common.{NewElement, IsNew, IsNewText, File, data_folder, new_payload, manifest}
 use Rattle.bag_make.proofs.Common.{named_tag_files, declaration_file, info_file, payload_manifests, tag_manifests}
 use Rattle.bag_make.proofs.Common.{new_tag_files}
-use Rattle.std.specs.FinMap as fin
 use Rattle.std.proofs.lemmas.List.Elements.{All-map, Contains-get_or}
+use Rattle.bag_facts.proofs.Found.{content_of, found, found_alone, held_at}
 use Rattle.bag_stages.proofs.PartFaults.{one_alg}
-use Rattle.bag_tree.proofs.PathEntries.{none_below, t_true}
 use Rattle.bag_make.specs.Made.{made}
-
--- what is found in a list stands in it
-pub found : (q c : List ℕ) (es : List File) → find text_cmp q es ≡ Some c → Contains es (q, c)
-found q c [] e = cc
-found q c ((k, v) ∷ es) e =
-    grind (arith, one_text q k, found q c es, contains_first (k, v) es, contains_behind (k, v) es (q, c))
-
-pub content_of : (o : Option (List ℕ)) → is_some o ≡ true → (c : List ℕ) × (o ≡ Some c)
-content_of None e = cc
-content_of (Some c) e = (c, refl)
-
--- and what stands in it is found, where no other has its path
-found_alone : (q c : List ℕ) (es : List File) → Contains es (q, c)
-    → ((d : List ℕ) → find text_cmp q es ≡ Some d → d ≡ c) → find text_cmp q es ≡ Some c
-found_alone q c es h one =
-    let key = λ (e : File). e.0 in
-    let some = content_of (find text_cmp q es)
-    (is_some-find text_cmp q es
-    ∙ any_from (eq_by_cmp text_cmp q) (map key es) q (mapped_contains key es (q, c) h) (text_itself q)) in
-    some.1 ∙ ap Some (one some.0 some.1)
-
--- in an ordered list a path stands once
-in_order : (p c : List ℕ) (es : List File) → is_sorted text_cmp es ≡ true → Contains es (p, c)
-    → find text_cmp p es ≡ Some c
-in_order p c [] up h = absurd (contains_nothing (p, c) h)
-in_order p c ((k, v) ∷ es) up h =
-    let two = and_parts (below_all text_cmp k es) (is_sorted text_cmp es) up in
-    grind (arith, contains_cases (k, v) es (p, c) h, none_below k es, one_text p k, text_itself p, in_order p c es)
-
--- the files of a map are those of its list
-pub listed : (files : Files) (p c : List ℕ) → fin.get files p ≡ Some c → Contains (fin.entries files) (p, c)
-listed files p c e = found p c (fin.entries files) (sym (get-entries files p) ∙ e)
-
-pub held_at : (files : Files) (p c : List ℕ) → Contains (fin.entries files) (p, c) → fin.get files p ≡ Some c
-held_at files p c h = get-entries files p ∙ in_order p c (fin.entries files) (t_true _ (entries_sorted files)) h
 
 -- so each has one content
 pub one_file : (bag : Bag) (p c d : List ℕ) → Contains (files_of bag) (p, c) → Contains (files_of bag) (p, d) → c ≡ d

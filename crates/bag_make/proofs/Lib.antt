@@ -18,7 +18,6 @@ pub mod NoFault
 pub mod OfTheBag
 pub mod OneFile
 pub mod Outlasting
-pub mod OxumReads
 pub mod PartsAreThere
 pub mod PathOrder
 pub mod PayloadIsTheFolder

@@ -35,7 +35,7 @@ module _ (bag : Bag) (algs : List Alg) (info : List NewElement) where
 
     by_code : (code : Code) → ManifestHolds (made bag algs info) f code → ⊥
     unfolding ManifestHolds
-    by_code PayloadManifestNotListed (ruled, alg, other, at, has, there, unnamed) =
+    by_code PayloadManifestNotListed (alg, other, at, ruled, has, there, unnamed) =
         let m = manifest_is bag algs info Payload other there.1 in
         let c = manifest m.0 (new_payload (files_of bag)) in
         unnamed (subst (λ text. Names (made bag algs info) Tag alg (manifest_name Payload text)) (sym m.1)

@@ -15,7 +15,7 @@ use Rattle.bag_read.specs.declared.info.Element.{Element}
 use Rattle.bag_stages.specs.MetadataStage.{MetadataHolds, IsOfMetadata, bag_info_txt, HasElement}
 use Rattle.bag_make.proofs.Held.{tag_held, tag_there}
 use Rattle.bag_make.proofs.MadeRules.{made_rules}
-use Rattle.bag_make.proofs.OxumReads.{oxum_reads, oxum_is_text, oxum_is_good}
+use Rattle.bag_tags.proofs.OxumReads.{oxum_reads, oxum_is_text, oxum_is_good}
 use Rattle.bag_make.proofs.PayloadIsTheFolder.{payload_size, oxum_is}
 
 -- the only element of a list with this label is the last one

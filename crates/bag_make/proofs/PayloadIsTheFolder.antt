@@ -6,7 +6,8 @@ use Rattle.bag_make.proofs.Common.{eq_by_cmp, T, length-map, and_from, first-und
 use Rattle.bag_make.proofs.Common.{is_payload_path, text_cmp, Alg, Bag, IsBag, files_of, exact_texts, payload, oxum}
 use Rattle.bag_make.proofs.Common.{oxum_of_files, NewElement, File, data_folder, new_payload, new_tag_files, made}
 use Rattle.bag_make.proofs.FilesAreNamed.{no_payload_tag}
-use Rattle.bag_make.proofs.Held.{none_by, all, held, found, tag_member, payload_member, held_at}
+use Rattle.bag_facts.proofs.Found.{found, held_at}
+use Rattle.bag_make.proofs.Held.{none_by, all, held, tag_member, payload_member}
 use Rattle.bag_make.proofs.Composed.{sum_by-map}
 
 pub in_payload : (p : List ℕ) → is_path p ≡ true → is_payload_path (under data_folder p) ≡ true

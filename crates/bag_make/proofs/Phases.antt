@@ -22,7 +22,7 @@ use Rattle.bag_tree.specs.Steps.{has_within}
 use Rattle.bag_tree.specs.declared.event.DeviceEvent.{DeviceEvent}
 use Rattle.bag_tree.specs.declared.event.DeviceEvent.TheVariants.{MakeFolder, Rename, Create, Write, Sync, SyncFolder}
 use Rattle.bag_make.proofs.FirstParts.{first-name}
-use Rattle.bag_make.proofs.Held.{held_at}
+use Rattle.bag_facts.proofs.Found.{held_at}
 use Rattle.std.proofs.Math.Bool.{and-false}
 use Rattle.bag_make.proofs.Common.{◌&&◌, eq_by_cmp, text_cmp, has_file}
 use Rattle.bag_make.proofs.Told.{IsKept, gone_on, itself_told, moving_told}

@@ -8,7 +8,7 @@ use Rattle.bag_make.proofs.Common.{under_within, not_within, goes_itself, goes_u
 use Rattle.bag_make.proofs.Common.{new_folder, after_steps, MoveIn}
 use Rattle.std.specs.FinMap as fin
 use Rattle.std.proofs.Math.Bool.{or-false, or_assoc}
-use Rattle.bag_make.proofs.Held.{content_of, held_at, listed}
+use Rattle.bag_facts.proofs.Found.{content_of, held_at, listed}
 use Rattle.bag_make.proofs.FirstParts.{first-name, parts}
 use Rattle.bag_make.proofs.PutFiles.{from_put, to_put}
 

@@ -3,41 +3,17 @@ use Rattle.bag_make.proofs.Common.{arith, ◌≡◌, inl, inr, ℕ, ◌++◌, Li
 use Rattle.bag_make.proofs.Common.{slice_get, All, Contains, Some, refl, sym, ap, ◌∙◌, subst, option_map, All-contains}
 use Rattle.bag_make.proofs.Common.{All-from_recursion, is_path, Alg, contains_first, contains_behind, each_from_members}
 use Rattle.bag_make.proofs.Common.{Bag, file, files_of, IsListingOf, IsOrdered, NothingFailed, TreeState, IsEntryOf}
-use Rattle.bag_make.proofs.Common.{Keeps, MayRefuse, refusal_of, Unlisted, FileEntry, Listing, Stop, TreeFault}
+use Rattle.bag_make.proofs.Common.{Keeps, MayRefuseListing, refusal_of, Unlisted, FileEntry, Listing, Stop, TreeFault}
 use Rattle.bag_make.proofs.Common.{listings_are_of_the_bag, paths_of, contains_mapped, later_refusal, listing_refusal}
 use Rattle.bag_make.proofs.Common.{path_some, File, new_payload, is_in_the_way, IsAtFile, MayStopMaking, StopsSumming}
 use Rattle.bag_make.proofs.Common.{AreSummed, AreSummedFiles, OpensFirstOf, entry_of_file, MakeFault, SummedFile}
 use Rattle.std.proofs.lemmas.Simd.{map-map}
 use Rattle.bag_facts.proofs.ListedFiles.{own_size}
 use Rattle.bag_make.proofs.Entries.{at_place}
-use Rattle.bag_make.proofs.Held.{held_at}
+use Rattle.bag_facts.proofs.Found.{held_at, same_files}
 use Rattle.bag_make.specs.Reading.{HasOnlyListed, HasRefusedNothing, OpensFolder}
 use Rattle.bag_make.specs.Reads.{IsRefusalOfStop, MayRefuseReading}
 use Rattle.bag_make.specs.declared.fault.MakeFault.TheVariants as fault_of
-
-abbrev first_path : List FileEntry → List ℕ
-first_path [] = []
-first_path (e ∷ es) = e.path
-
-abbrev others_of : List FileEntry → List FileEntry
-others_of [] = []
-others_of (e ∷ es) = es
-
--- files that are listed alike, and hold what the bag holds, are the same
-same_files : (bag : Bag) (xs ys : List File) → map entry_of_file xs ≡ map entry_of_file ys
-    → ((e : File) → Contains xs e → file bag e.0 ≡ Some e.1) → ((e : File) → Contains ys e → file bag e.0 ≡ Some e.1)
-    → xs ≡ ys
-same_files bag [] [] same h k = refl
-same_files bag (x ∷ xs) (y ∷ ys) same h k =
-    let path : x.0 ≡ y.0 = ap first_path same in
-    let content : Some x.1 ≡ Some y.1 =
-    sym (h x (contains_first x xs)) ∙ ap (file bag) path ∙ k y (contains_first y ys) in
-    let bytes : x.1 ≡ y.1 = cc in
-    let rest : map entry_of_file xs ≡ map entry_of_file ys = ap others_of same in
-    let others =
-    same_files bag xs ys rest (λ e c. h e (contains_behind x xs e c)) (λ e c. k e (contains_behind y ys e c)) in
-    λ i. (path i, bytes i) ∷ others i
-same_files bag _ _ same h k = cc
 
 -- where nothing was refused after the listing either
 pub nothing_refused : (old mid new : TreeState) → HasOnlyListed old mid → NothingFailed mid new
@@ -47,7 +23,7 @@ nothing_refused old mid new listed no_failure = grind arith
 -- where the listing was refused, nothing is planned
 pub listing_refused : (old new : TreeState) (cause : TreeFault) (stop : Stop) (fault : MakeFault) → stop.cause ≡ cause
     → stop.path ≡ [] → new.openings ≡ old.openings → new.rest ≡ old.rest
-    → MayRefuse ⊥ ⊥ old new cause → new.last ≡ Unlisted cause → IsRefusalOfStop stop fault
+    → MayRefuseListing old new cause → new.last ≡ Unlisted cause → IsRefusalOfStop stop fault
     → MayRefuseReading old new fault
 listing_refused old new cause stop (fault_of.ReadStopped other) same none unopened left h last (is, not) =
     grind (arith, listing_refusal)

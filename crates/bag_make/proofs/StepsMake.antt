@@ -15,7 +15,8 @@ use Rattle.std.specs.Cmp.Lexicographic.{nat_list_eq_equiv, texts_ties}
 use Rattle.std.specs.List.Sorted.{IsStrictlySortedBy}
 use Rattle.std.proofs.lemmas.Map.Views.{list_any-from_Contains}
 use Rattle.bag_make.proofs.ContentsOfMade.{firsts, first_in, in_first, left_test, these_files}
-use Rattle.bag_make.proofs.Held.{found, held, held_at, payload_member, tag_member}
+use Rattle.bag_facts.proofs.Found.{found, held_at}
+use Rattle.bag_make.proofs.Held.{held, payload_member, tag_member}
 use Rattle.bag_make.proofs.OfTheBag.{data_top, first_top}
 use Rattle.bag_make.proofs.Placed.{IsPlaced, IsTop, none_within, moves_placed, all_under_data}
 use Rattle.bag_make.proofs.TopsInOrder.{listed_in_order, same_any}

@@ -6,8 +6,9 @@ use Rattle.bag_make.proofs.Common.{slice_get_read, slice_get-map, slice_get_with
 use Rattle.bag_make.proofs.Common.{NothingFailed, TreeState, CameFromFile, IsEntryOf, Keeps, OpensAtMost, Refused}
 use Rattle.bag_make.proofs.Common.{FileEntry, Stop, TreeFault, IsOutOfMemory, IsRefusalOf, MayRefuseFacts, paths_of}
 use Rattle.bag_make.proofs.Common.{take_one_more, keeps_itself, keeps_on, later_refusal, came_from, refused_file}
-use Rattle.bag_make.proofs.Common.{told_memory, File, data_folder, new_payload, StopsSumming, HasItsSums, AreSummed}
+use Rattle.bag_make.proofs.Common.{told_memory, File, data_folder, new_payload, StopsSumming, AreSummed}
 use Rattle.bag_make.proofs.Common.{IsSummedEntry, AreSummedFiles, OpensFirstOf, entry_of_file, SummedFile}
+use Rattle.bag_tags.proofs.SummedTexts.{summed_more}
 use Rattle.bag_tree.specs.Whole.{MayRefuseWhole}
 use Rattle.bag_tree.specs.Tree.{IsRefusedAt}
 use Rattle.bag_tree.specs.declared.tree_fault.TreeFault.TheVariants.{Changed}
@@ -45,21 +46,6 @@ stop_of_refusal entry old new cause stop refused answered opened (inr (is, m)) =
 
 abbrev moved : File → File
 moved e = (under data_folder e.0, e.1)
-
-summed_more : (algs : List Alg) (files : List File) (summed : List SummedFile) (e : File) (one : SummedFile)
-    → AreSummed algs files summed → HasItsSums algs e one
-    → AreSummed algs (files ++ e ∷ []) (summed ++ one ∷ [])
-summed_more algs [] [] e one h s = (s, tt)
-summed_more algs (x ∷ files) (y ∷ summed) e one h s = (h.0, summed_more algs files summed e one h.1 s)
-summed_more algs _ _ e one h s = absurd h
-
--- the digests of the first of these files
-pub sums_more : (algs : List Alg) (files : List File) (i : ℕ) (e : File) (summed : List SummedFile) (one : SummedFile)
-    → i < length files → e ≡ get_or files i e
-    → AreSummed algs (take i files) summed → HasItsSums algs e one
-    → AreSummed algs (take (i + 1) files) (summed ++ one ∷ [])
-sums_more algs files i e summed one lt is h s =
-    grind (arith, take_one_more files i e lt is, summed_more algs (take i files) summed e one h s)
 
 -- the first of the listed files were summed
 pub record SumsFirst (files : List FileEntry) (count : ℕ) (algs : List Alg) (old new : TreeState)

@@ -8,7 +8,7 @@ use Rattle.bag_make.proofs.FilesAreNamed.{listed_at}
 module _ (bag : Bag) (algs : List Alg) (info : List NewElement) (read : ManifestIsReadAgain)
     (writable : AreWritable bag algs info) (f : Fault) where
   none_differs : (kind : Kind) → Differs (made bag algs info) f kind → ⊥
-  none_differs kind (alg, entry, content, is, held, other, at) =
+  none_differs kind (alg, entry, content, at, is, held, other) =
       let l = (entry_listed bag algs info read writable kind alg entry is).1 in
       let both : Some l.0 ≡ Some content = sym (listed_at bag algs info kind entry.path l.0 l.1) ∙ held in
       let same : l.0 ≡ content = cc in

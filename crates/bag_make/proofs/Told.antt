@@ -15,7 +15,7 @@ use Rattle.bag_stages.specs.PartsStage.{PartHolds, IsOfParts}
 use Rattle.bag_stages.specs.TagFiles.{bagit_txt}
 use Rattle.bag_report.specs.Report.{asks, Is}
 use Rattle.bag_make.specs.Remainder.{IsInPayload, LacksNoPayload}
-use Rattle.bag_make.proofs.Held.{content_of}
+use Rattle.bag_facts.proofs.Found.{content_of}
 use Rattle.bag_make.proofs.Placed.{IsPlaced, placed_by, with_name}
 
 -- ---- what has no fault

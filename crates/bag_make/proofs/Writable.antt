@@ -13,7 +13,8 @@ use Rattle.std.proofs.lemmas.Map.Keys.{IsDistinct-from_sorted}
 use Rattle.std.proofs.lemmas.Simd.{map-map}
 use Rattle.bag_make.proofs.Digests.{good_digest}
 use Rattle.bag_make.proofs.Entries.{AreWritable, listed}
-use Rattle.bag_make.proofs.Held.{held_at, payload_member}
+use Rattle.bag_facts.proofs.Found.{held_at}
+use Rattle.bag_make.proofs.Held.{payload_member}
 use Rattle.bag_make.proofs.PathOrder.{manifests_ascend}
 use Rattle.bag_make.proofs.PayloadIsTheFolder.{in_payload}
 

@@ -1,6 +1,7 @@
 -- What stands in the bag that is made, path by path, and the laws that its definition keeps.
 use Rattle.std.specs.Prelude.{ℕ, ◌≡◌, ◌≢◌, ◌⊎◌, ◌↔◌, true, List, Some, Contains, map}
 use Rattle.std.specs.List.Sorted.{IsStrictlySortedBy}
+use Rattle.bag_text.specs.Bytes.{Content, Name, Path}
 use Rattle.bag_text.specs.Alg.{rank_cmp}
 use Rattle.bag_text.specs.Path.{under, first_component}
 use Rattle.bag_text.specs.Text.{text_cmp}
@@ -17,7 +18,7 @@ use Rattle.bag_make.specs.Made.{File, data_folder, new_payload, new_elements, ma
 use Rattle.bag_make.specs.Made.{named_tag_files, made}
 
 -- a file of the folder, under data/ (2.1.2)
-abbrev pub IsMoved : Bag → List ℕ → List ℕ → Type 0
+abbrev pub IsMoved : Bag → Path → Content → Type 0
 IsMoved bag path content =
     (old : List ℕ) × (path ≡ under data_folder old) × (file bag old ≡ Some content)
 
@@ -32,21 +33,21 @@ module _ (bag : Bag) (algs : List Alg) (info : List NewElement) where
   IsNewText (Manifest Tag alg) text =
       Contains algs alg × (text ≡ manifest alg (named_tag_files (files_of bag) algs info))
 
-  abbrev pub IsNew : List ℕ → List ℕ → Type 0
+  abbrev pub IsNew : Path → List ℕ → Type 0
   IsNew path text = (name : TagName) × (path ≡ tag_path name) × IsNewText name text
 
   -- a file of the bag that is made, with its bytes
-  abbrev pub Stands : List ℕ → List ℕ → Type 0
+  abbrev pub Stands : Path → Content → Type 0
   Stands path content = IsMoved bag path content ⊎ IsNew path content
 
 -- the law: these files stand in the bag that is made, and no others
 abbrev pub MadeHasTheseFiles : Type 0
 MadeHasTheseFiles =
-    (bag : Bag) (algs : List Alg) (info : List NewElement) (path content : List ℕ)
+    (bag : Bag) (algs : List Alg) (info : List NewElement) (path : Path) (content : Content)
     → (file (made bag algs info) path ≡ Some content) ↔ Stands bag algs info path content
 
 -- a folder in which no file was
-abbrev pub HasNoFile : Bag → List ℕ → Type 0
+abbrev pub HasNoFile : Bag → Name → Type 0
 HasNoFile bag name =
     (has_folder bag name ≡ true)
     × ((path : List ℕ) → HasFile bag path → first_component path ≢ name)
@@ -54,7 +55,7 @@ HasNoFile bag name =
 -- the law: these folders stand in its base folder, and no others
 abbrev pub MadeHasTheseFolders : Type 0
 MadeHasTheseFolders =
-    (bag : Bag) (algs : List Alg) (info : List NewElement) (name : List ℕ)
+    (bag : Bag) (algs : List Alg) (info : List NewElement) (name : Name)
     → (has_folder (made bag algs info) name ≡ true) ↔ ((name ≡ data_folder) ⊎ HasNoFile bag name)
 
 -- the law: its payload is the folder's files, in their order, so that Payload-Oxum and the

@@ -1,6 +1,7 @@
 -- Laws about makings.
-use Rattle.std.specs.Prelude.{ℕ, ◌≡◌, false, List, [], ◌≢◌, All, ◌^◌, ◌<◌, None, length, sum_by}
+use Rattle.std.specs.Prelude.{◌≡◌, false, List, [], ◌≢◌, All, ◌^◌, ◌<◌, None, length, sum_by}
 use Rattle.std.specs.List.{list_any}
+use Rattle.bag_text.specs.Bytes.{Path}
 use Rattle.bag_text.specs.Text.{IsText}
 use Rattle.bag_text.specs.declared.alg.Alg.{Alg}
 use Rattle.bag_tree.specs.Bag.{Bag, IsBag, files_of, has_folder}
@@ -36,7 +37,7 @@ MadeIsValid =
 -- the law: a refusal can be reported of one file alone
 abbrev pub RefusesOneFile : Type 0
 RefusesOneFile =
-    (paths : List (List ℕ)) (old new : TreeState) (one other : List ℕ) → IsAtFile paths old new one
+    (paths : List Path) (old new : TreeState) (one other : Path) → IsAtFile paths old new one
     → IsAtFile paths old new other → one ≡ other
 
 -- the law: all steps make the bag

@@ -12,6 +12,5 @@ pub mod Request
 pub mod Steps
 pub mod StepsTaken
 pub mod Stops
-pub mod Summed
 pub mod Summing
 pub mod Texts

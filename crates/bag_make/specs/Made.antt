@@ -1,8 +1,9 @@
 -- The bag that is made of the files of a folder (RFC 8493, 2).
-use Rattle.std.specs.Prelude.{ℕ, List, [], ◌∷◌, ◌++◌, not, map, bytes_eq, codes}
+use Rattle.std.specs.Prelude.{List, [], ◌∷◌, ◌++◌, not, map, bytes_eq, codes}
 use Rattle.std.specs.FinMap as fin
 use Rattle.std.specs.FinSet as set
 use Rattle.std.specs.List.{list_any}
+use Rattle.bag_text.specs.Bytes.{Content, Name, Path}
 use Rattle.bag_text.specs.Path.{under, first_component}
 use Rattle.bag_text.specs.declared.alg.Alg.{Alg}
 use Rattle.bag_read.specs.ManifestName.{tag_path}
@@ -11,17 +12,18 @@ use Rattle.bag_read.specs.declared.tag_name.TagName.TheVariants.{Declaration, In
 use Rattle.bag_tree.specs.Bag.{Bag, files_of}
 use Rattle.bag_tree.specs.Digest.{digest}
 use Rattle.bag_stages.specs.MetadataStage.{oxum_label}
-use Rattle.bag_stages.specs.Payload.{oxum_of_files, oxum_text}
+use Rattle.bag_read.specs.Oxum.{oxum_text}
+use Rattle.bag_stages.specs.Payload.{oxum_of_files}
 use Rattle.bag_tags.specs.Declaration.{declaration_text}
 use Rattle.bag_tags.specs.Element.{NewElement, info_text}
 use Rattle.bag_tags.specs.Entry.{NewEntry, manifest_text}
 
 -- a file: its path and its bytes
 abbrev pub File : Type 0
-File = List ℕ × List ℕ
+File = Path × Content
 
 -- the folder of the payload
-abbrev pub data_folder : List ℕ
+abbrev pub data_folder : Name
 data_folder = codes "data"
 
 -- each file goes under data/, with its bytes (2.1.2)
@@ -33,7 +35,7 @@ abbrev pub entries_of : Alg → List File → List NewEntry
 entries_of alg files = map (λ e. (digest alg e.1, e.0)) files
 
 -- the manifest that names these files, in their order
-abbrev pub manifest : Alg → List File → List ℕ
+abbrev pub manifest : Alg → List File → Content
 manifest alg files = manifest_text (entries_of alg files)
 
 module _ (files : List File) (algs : List Alg) (info : List NewElement) where

@@ -1,6 +1,7 @@
 -- The steps that make a bag (RFC 8493, 2.1).
 use Rattle.std.specs.Prelude.{ℕ, Bool, List, [], ◌∷◌, ◌++◌, map, take, if◌then◌else◌}
 use Rattle.std.specs.FinMap as fin
+use Rattle.bag_text.specs.Bytes.{Name}
 use Rattle.bag_text.specs.Path.{first_component}
 use Rattle.bag_text.specs.Text.{text_cmp}
 use Rattle.bag_text.specs.declared.alg.Alg.{Alg}
@@ -19,7 +20,7 @@ in_order texts =
     (map {B = List ℕ × Unit {0}} (λ t. (t, tt)) texts))
 
 -- what is moved: the first component of each path, and data where that folder is there, in order
-abbrev pub tops : List File → Bool → List (List ℕ)
+abbrev pub tops : List File → Bool → List Name
 tops files has_data =
     in_order (map (λ e. first_component e.0) files ++ (if has_data then data_folder ∷ [] else []))
 

@@ -1,5 +1,6 @@
 -- What is left of a making that was refused or cut off, where it has no fault.
 use Rattle.std.specs.Prelude.{ℕ, ◌≡◌, ◌⊎◌, false, IsTrue, List, Some}
+use Rattle.bag_text.specs.Bytes.{Content, Path}
 use Rattle.bag_text.specs.Path.{is_payload_path, under}
 use Rattle.bag_text.specs.declared.alg.Alg.{Alg}
 use Rattle.bag_tree.specs.Bag.{Bag, IsBag, HasFile, file}
@@ -20,7 +21,7 @@ IsInPayload bag left =
 
 -- the folder's own payload is whole at its place, and its own declaration is there
 pub record StandsAsBefore (bag left : Bag) : Type 0 where
-  pub payload : (path bytes : List ℕ) → IsTrue (is_payload_path path)
+  pub payload : (path : Path) (bytes : Content) → IsTrue (is_payload_path path)
       → file bag path ≡ Some bytes → file left path ≡ Some bytes
   pub is_declared : HasFile left bagit_txt
   pub declaration : file left bagit_txt ≡ file bag bagit_txt

@@ -1,6 +1,7 @@
 -- The steps in which a bag is made, and what they leave.
 use Rattle.std.specs.Prelude.{ℕ, ◌≡◌, ◌⊎◌, ◌≤◌, ◌-◌, ◌++◌, true, IsTrue, List, [], ◌∷◌, Some, codes}
 use Rattle.std.specs.Prelude.{fold, take, slice_get, ⊤}
+use Rattle.bag_text.specs.Bytes.{Name}
 use Rattle.bag_text.specs.Path.{under}
 use Rattle.bag_tree.specs.Asked.{Adds, Asking, AsksFile, AsksFolder, AsksMove, AsksRename}
 use Rattle.bag_tree.specs.Asked.{AsksSyncs, MayBegin}
@@ -15,10 +16,10 @@ use Rattle.bag_tree.specs.Steps.{lacks_folder, lacks_source}
 use Rattle.bag_make.specs.Made.{data_folder}
 use Rattle.bag_make.specs.declared.step.Step.{Step}
 use Rattle.bag_make.specs.declared.step.Step.TheVariants.{MakeFolder, MoveIn, Rename, Create}
-use Rattle.bag_make.specs.declared.step.Refusal.{Refusal}
+use Rattle.bag_make.specs.declared.step.RefusedStep.{RefusedStep}
 
 -- the folder that holds the files while they are moved
-abbrev pub new_folder : List ℕ
+abbrev pub new_folder : Name
 new_folder = codes ".bagit-new"
 
 -- each step is a function on bags
@@ -101,7 +102,7 @@ pub record HasTaken (steps : List Step) (old new : TreeState) : Type 0 where
 
 -- All steps before this one were taken, and this one was refused, as the tree answered. It left
 -- nothing, but that a file may be begun, and asked for no more than that.
-pub record HasStopped (steps : List Step) (old new : TreeState) (refusal : Refusal) : Type 0 where
+pub record HasStopped (steps : List Step) (old new : TreeState) (refusal : RefusedStep) : Type 0 where
   pub first : 1 ≤ refusal.step
   pub step : Step
   pub place : slice_get steps (refusal.step - 1) ≡ Some step

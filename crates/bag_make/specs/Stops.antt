@@ -1,6 +1,7 @@
 -- Why the files of a folder can't be read.
 use Rattle.std.specs.Prelude.{ℕ, ◌≡◌, ◌≢◌, ◌⊎◌, ◌++◌, true, false, IsTrue, List, Some, map, take}
 use Rattle.std.specs.Prelude.{slice_get}
+use Rattle.bag_text.specs.Bytes.{Path}
 use Rattle.bag_text.specs.Path.{is_path}
 use Rattle.bag_tree.specs.Bag.{files_of}
 use Rattle.bag_tree.specs.Tree.{TreeState, IsRefusedAt}
@@ -10,7 +11,7 @@ use Rattle.bag_facts.specs.Stops.{IsOfListing, MayRefuseFacts, ReportsAnswer}
 use Rattle.bag_make.specs.Plan.{is_in_the_way}
 
 -- this file was refused when those before it had been opened, in this order
-abbrev pub IsAtFile : List (List ℕ) → TreeState → TreeState → List ℕ → Type 0
+abbrev pub IsAtFile : List Path → TreeState → TreeState → Path → Type 0
 IsAtFile paths old new path =
     (k : ℕ) × (slice_get paths k ≡ Some path) × IsRefusedAt (old.openings ++ take k paths) path new
 

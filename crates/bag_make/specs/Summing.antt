@@ -1,6 +1,7 @@
 -- What summing files promises.
-use Rattle.std.specs.Prelude.{ℕ, ◌≡◌, ◌⊎◌, ◌++◌, IsTrue, List, Some, All, map, take, [], Option}
-use Rattle.std.specs.Prelude.{None, length}
+use Rattle.std.specs.Prelude.{ℕ, ◌≡◌, ◌⊎◌, ◌++◌, IsTrue, List, Some, All, map, take}
+use Rattle.std.specs.Prelude.{length}
+use Rattle.bag_text.specs.Bytes.{Content, Path}
 use Rattle.bag_text.specs.Path.{under}
 use Rattle.bag_tree.specs.Bag.{file}
 use Rattle.bag_tree.specs.Tree.{MayReportMemory, TreeState, CameFromFile}
@@ -8,27 +9,20 @@ use Rattle.bag_tree.specs.FileReads.{IsEntryOf}
 use Rattle.bag_tree.specs.declared.listing.FileEntry.{FileEntry}
 use Rattle.bag_tree.specs.declared.tree_fault.Stop.{Stop}
 use Rattle.bag_tree.specs.declared.tree_fault.TreeFault.TheVariants.{Memory}
-use Rattle.bag_facts.specs.Stops.{IsOutOfMemory, MayRefuseFacts}
+use Rattle.bag_tree.specs.Stop.{IsOutOfMemory}
+use Rattle.bag_facts.specs.Stops.{MayRefuseFacts}
 use Rattle.bag_facts.specs.Wanted.{paths_of}
 use Rattle.bag_text.specs.declared.alg.Alg.{Alg}
-use Rattle.bag_tree.specs.DigestsOf.{AreSumsOf, sum_at}
-use Rattle.bag_tags.specs.Entry.{NewEntry}
+use Rattle.bag_tree.specs.DigestsOf.{AreSumsOf}
 use Rattle.bag_make.specs.Made.{File, data_folder, new_payload}
-use Rattle.bag_make.specs.declared.summed.SummedFile.{SummedFile}
+use Rattle.bag_tags.specs.declared.summed.SummedFile.{SummedFile}
 use Rattle.bag_make.specs.Stops.{IsAtFile}
-use Rattle.bag_make.specs.Summed.{AreSummed, entry_of_file}
+use Rattle.bag_tree.specs.Listing.{entry_of_file}
+use Rattle.bag_tags.specs.Summed.{AreSummed}
 
 -- the first of these files were opened, one after another, and no other
-abbrev pub OpensFirstOf : List (List ℕ) → TreeState → TreeState → Type 0
+abbrev pub OpensFirstOf : List Path → TreeState → TreeState → Type 0
 OpensFirstOf paths old new = (count : ℕ) × (new.openings ≡ old.openings ++ take count paths)
-
-abbrev pub text_or_none : Option (List ℕ) → List ℕ
-text_or_none (Some text) = text
-text_or_none None = []
-
--- what a manifest of an algorithm says of a file
-abbrev pub summed_entry : Alg → SummedFile → NewEntry
-summed_entry alg one = (text_or_none (sum_at one.sums alg), one.path)
 
 -- The files that are listed so, under data/, each with its digests. Of an honest tree they are
 -- files of the bag.
@@ -43,7 +37,7 @@ pub record AreSummedFiles (state : TreeState) (entries : List FileEntry) (algs :
 -- bag.
 pub record IsSummedEntry (state : TreeState) (entry : FileEntry) (algs : List Alg)
     (one : SummedFile) : Type 0 where
-  pub content : List ℕ
+  pub content : Content
   pub size : length content ≡ entry.size
   pub path : one.path ≡ under data_folder entry.path
   pub sums : AreSumsOf algs content one.sums

@@ -1,20 +1,18 @@
 -- The tag files that are made of listed files, and of digests.
-use Rattle.std.specs.Prelude.{List, [], ◌∷◌, ◌++◌, length, map, sum_by}
+use Rattle.std.specs.Prelude.{List, [], ◌∷◌, ◌++◌, length, sum_by}
 use Rattle.bag_text.specs.declared.alg.Alg.{Alg}
 use Rattle.bag_read.specs.declared.oxum.Oxum.{Oxum}
 use Rattle.bag_read.specs.ManifestName.{tag_path}
-use Rattle.bag_read.specs.declared.kind.Kind.{Kind}
 use Rattle.bag_read.specs.declared.kind.Kind.TheVariants.{Payload}
-use Rattle.bag_read.specs.declared.tag_name.TagName.TheVariants.{Declaration, Info, Manifest}
+use Rattle.bag_read.specs.declared.tag_name.TagName.TheVariants.{Declaration, Info}
 use Rattle.bag_tree.specs.declared.listing.FileEntry.{FileEntry}
 use Rattle.bag_stages.specs.MetadataStage.{oxum_label}
-use Rattle.bag_stages.specs.Payload.{oxum_text}
+use Rattle.bag_read.specs.Oxum.{oxum_text}
 use Rattle.bag_tags.specs.Declaration.{declaration_text}
 use Rattle.bag_tags.specs.Element.{NewElement, info_text}
-use Rattle.bag_tags.specs.Entry.{manifest_text}
 use Rattle.bag_make.specs.Made.{File}
-use Rattle.bag_make.specs.Summing.{summed_entry}
-use Rattle.bag_make.specs.declared.summed.SummedFile.{SummedFile}
+use Rattle.bag_tags.specs.Summed.{manifests_of}
+use Rattle.bag_tags.specs.declared.summed.SummedFile.{SummedFile}
 
 -- the bytes of listed files, and their number
 abbrev pub size_of : List FileEntry → Oxum
@@ -24,11 +22,6 @@ size_of files = record { octets = sum_by (λ entry. entry.size) files; streams =
 abbrev pub info_of : List FileEntry → List NewElement → File
 info_of listed info =
     (tag_path Info, info_text (info ++ (oxum_label, oxum_text (size_of listed)) ∷ []))
-
--- the manifests of a kind that give these digests
-abbrev pub manifests_of : Kind → List Alg → List SummedFile → List File
-manifests_of kind algs files =
-    map (λ alg. (tag_path (Manifest kind alg), manifest_text (map (summed_entry alg) files))) algs
 
 -- the tag files that tag manifests name, in path order
 abbrev pub named_of : List FileEntry → List SummedFile → List Alg → List NewElement → List File

@@ -2,7 +2,7 @@
 ghost use Rattle.std.specs.Prelude.{◌≡◌};
 ghost use Rattle.bag_make.specs.declared.fault.MakeFault.TheVariants as why;
 
-use crate::step::Refusal;
+use crate::step::RefusedStep;
 use bag_text::said;
 use bag_tree::{Stop, TreeFault};
 use std::alloc::AllocError;
@@ -39,10 +39,10 @@ impl From<AllocError> for MakeFault {
     }
 }
 
-impl From<Refusal> for MakeFault {
+impl From<RefusedStep> for MakeFault {
     ghost from_gives = { λ refusal fault. fault ≡ why.StepRefused refusal.step refusal.cause };
 
-    fn from(refusal: Refusal) -> MakeFault {
+    fn from(refusal: RefusedStep) -> MakeFault {
         MakeFault::StepRefused(refusal.step, refusal.cause)
     }
 }

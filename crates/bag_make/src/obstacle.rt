@@ -16,7 +16,7 @@ const NEW_PREFIX: &[u8] = b".bagit-new/";
 
 /// Whether a listed file has the name of the folder that holds the files while they are moved, or
 /// stands in it.
-pub fn is_in_the_way(listing: &Listing) -> bool
+pub(crate) fn is_in_the_way(listing: &Listing) -> bool
     ensures listed { result ≡ from_listing.has_new listing.now }
     ensures of_bag { (bag : Bag) → IsOrdered listing.now.files → IsListingOf bag listing.now
         → result ≡ plan.is_in_the_way bag }

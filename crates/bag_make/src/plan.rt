@@ -20,7 +20,7 @@ use bag_tree::Listing;
 use std::alloc::{AllocError, Global};
 
 /// The steps that move what is listed, and make these tag files.
-pub fn plan(
+pub(crate) fn plan(
     alloc: Global,
     listing: &Listing,
     tag_files: Vec<(Text, Items<u8>)>,

@@ -13,7 +13,7 @@ pub(crate) const OXUM_LABEL: &str = "Payload-Oxum";
 
 /// Refuses a bag without an algorithm, and elements that can't be written or are `Payload-Oxum`,
 /// whatever its case. Takes no memory.
-pub fn check_request(algs: AlgSet, info: &[(Text, Text)]) -> Result<(), MakeFault>
+pub(crate) fn check_request(algs: AlgSet, info: &[(Text, Text)]) -> Result<(), MakeFault>
     ensures good { OnOk result ((algs ≢ []) × (list_any is_refused_by info.now ≡ false)) }
     ensures texts { OnOk result (All AreTexts info.now) }
     ensures refused { IfErr result (IsRequestFault algs info.now) }

@@ -29,21 +29,21 @@ pub enum Step {
 
 /// A step that was refused, and why.
 #[derive(Clone, Copy, Debug, PartialEq, Eq)]
-pub struct Refusal {
+pub struct RefusedStep {
     /// The place of the step, from 1.
     pub step: u64,
     pub cause: TreeFault,
 }
 
 /// Takes the steps in order, up to the first that is refused.
-pub fn take_steps<T: WriteTree>(tree: &mut T, steps: &[Step]) -> Result<(), Refusal>
+pub(crate) fn take_steps<T: WriteTree>(tree: &mut T, steps: &[Step]) -> Result<(), RefusedStep>
     requires { All IsStep steps.now }
     ensures taken { OnOk result (HasTaken steps.now (T.state tree.old) (T.state tree.new)) }
     ensures stopped { IfErr result (HasStopped steps.now (T.state tree.old) (T.state tree.new)) }
 {
     for (place, step) in steps.iter().enumerate() {
         if let Err(cause) = take_step(tree, step) {
-            return Err(Refusal {
+            return Err(RefusedStep {
                 step: place as u64 + 1,
                 cause,
             });

@@ -3,16 +3,14 @@ ghost use Rattle.std.specs.Prelude.{◌≡◌, ◌<◌, ◌++◌, ◌∷◌, [],
 ghost use Rattle.bag_text.specs.Path.{under};
 ghost use Rattle.bag_tree.specs.Tree.{Keeps, NothingFailed};
 ghost use Rattle.bag_tree.specs.FileReads.{OpensAtMost};
-ghost use Rattle.bag_tree.specs.DigestsOf.{AreSumsOf};
 ghost use Rattle.bag_facts.specs.Wanted.{paths_of};
 ghost use Rattle.bag_make.specs.Made.{data_folder};
 ghost use Rattle.bag_make.specs.Summing.{StopsSumming, AreSummedFiles, IsSummedEntry, OpensFirstOf};
-ghost use Rattle.bag_make.specs.Summed.{AreSummed};
-ghost use Rattle.bag_make.specs.declared.summed.SummedFile.{SummedFile as Digested};
+ghost use Rattle.bag_tags.specs.declared.summed.SummedFile.{SummedFile as Digested};
 
-use bag_facts::refusal_of;
-use bag_text::{AlgSet, Items, Text};
-use bag_tree::{Digests, FileEntry, Stop, Sums, Tree, TreeFault, digest_file};
+use bag_tags::SummedFile;
+use bag_text::{AlgSet, Text};
+use bag_tree::{FileEntry, Stop, Sums, Tree, digest_file};
 use std::alloc::{AllocError, Global};
 
 /// How many bytes are read at once.
@@ -21,17 +19,9 @@ const BUFFER_BYTES: usize = 65_536;
 /// What the paths of the payload begin with.
 const DATA_PREFIX: &str = "data/";
 
-/// A file that a manifest is to name, with its digests.
-#[derive(Debug, Drop)]
-pub struct SummedFile {
-    /// The path that the manifest is to give.
-    pub path: Text,
-    pub sums: Sums,
-}
-
 /// The digests of listed files in their order, with their paths in the payload. Each file is opened
 /// once for all algorithms, and read through one buffer.
-pub fn sum_files<T: Tree>(
+pub(crate) fn sum_files<T: Tree>(
     alloc: Global,
     tree: &mut T,
     files: &[FileEntry],
@@ -47,7 +37,7 @@ pub fn sum_files<T: Tree>(
     ensures stop { IfErr result (StopsSumming files.now (T.state tree.old) (T.state tree.new)) }
 {
     let Ok(mut buffer) = Vec::from_elem(alloc, 0, BUFFER_BYTES) else {
-        return Err(Stop::without_path(alloc, TreeFault::Memory));
+        return Err(Stop::out_of_memory(alloc));
     };
     sum_each(alloc, tree, files, algs, &mut buffer)
 }
@@ -101,16 +91,13 @@ fn append_summed<T: Tree>(
 {
     // Copied before the file is read, so that its refusal isn't reported as out of memory.
     let Ok(path) = entry.path.copy(alloc) else {
-        return Err(Stop::without_path(alloc, TreeFault::Memory));
+        return Err(Stop::out_of_memory(alloc));
     };
     let sums = match digest_file(tree, entry, algs, buffer) {
         Ok(sums) => sums,
-        Err(cause) => return Err(refusal_of(alloc, cause, path)),
+        Err(cause) => return Err(Stop::of_file(alloc, cause, path)),
     };
-    push_summed(alloc, summed, entry.path.as_str(), sums).map_err(|_| Stop::without_path(
-        alloc,
-        TreeFault::Memory,
-    ))
+    push_summed(alloc, summed, entry.path.as_str(), sums).map_err(|_| Stop::out_of_memory(alloc))
 }
 
 /// Adds the digests of a file that has this path in the folder.
@@ -127,31 +114,4 @@ fn push_summed(
     let path = Text::from_string(format!(in alloc; "{DATA_PREFIX}{path}")?);
     summed.push(SummedFile { path, sums })?;
     Ok(())
-}
-
-/// The digests of tag files that are to be written.
-pub fn sum_tag_files(
-    alloc: Global,
-    files: &[(Text, Items<u8>)],
-    algs: AlgSet,
-) -> Result<Vec<SummedFile>, AllocError>
-    ensures { IfOk result (λ summed. AreSummed algs files.now summed.items) }
-{
-    let mut summed = Vec::with_capacity(alloc, files.len())?;
-    for file in files {
-        summed.push(SummedFile {
-            path: file.0.copy(alloc)?,
-            sums: sums_of(file.1.as_slice(), algs),
-        })?;
-    }
-    Ok(summed)
-}
-
-/// The digests of bytes.
-fn sums_of(bytes: &[u8], algs: AlgSet) -> Sums
-    ensures { AreSumsOf algs bytes.now result }
-{
-    let mut digests = Digests::new(algs);
-    digests.update(bytes);
-    digests.finish()
 }

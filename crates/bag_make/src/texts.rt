@@ -1,29 +1,26 @@
 //! The tag files that are made.
-ghost use Rattle.std.specs.Prelude.{◌≡◌, ◌∷◌, ◌++◌, [], List, IfOk, OnOk, map, string_bytes};
+ghost use Rattle.std.specs.Prelude.{◌≡◌, List, IfOk, map};
 ghost use Rattle.std.specs.List.Sorted.{IsStrictlySortedBy};
 ghost use Rattle.bag_text.specs.Alg.{rank_cmp};
-ghost use Rattle.bag_text.specs.Lines.{line_feed};
 ghost use Rattle.bag_read.specs.ManifestName.{tag_path};
-ghost use Rattle.bag_stages.specs.Payload.{oxum_text};
+ghost use Rattle.bag_read.specs.Oxum.{oxum_text};
+ghost use Rattle.bag_tree.specs.Listing.{entry_of_file};
 ghost use Rattle.bag_tags.specs.Declaration.{declaration_text};
-ghost use Rattle.bag_tags.specs.Entry as entry;
+ghost use Rattle.bag_tags.specs.Summed.{AreSummed};
 ghost use Rattle.bag_make.specs.Made as bag;
 ghost use Rattle.bag_make.specs.Made.{File, new_payload};
-ghost use Rattle.bag_make.specs.Summed.{AreSummed, entry_of_file};
-ghost use Rattle.bag_make.specs.Summing.{summed_entry};
-ghost use Rattle.bag_make.specs.Texts.{info_of, manifests_of, named_of, size_of};
+ghost use Rattle.bag_make.specs.Texts.{info_of, named_of, size_of};
 
 use crate::request::OXUM_LABEL;
-use crate::summed::{SummedFile, sum_tag_files};
 use bag_read::{Kind, TagName};
-use bag_tags::{push_entry, write_declaration, write_info};
+use bag_tags::{SummedFile, manifests_of, sum_texts, write_declaration, write_info};
 use bag_text::{Alg, AlgSet, Items, Text};
 use bag_tree::FileEntry;
 use std::alloc::{AllocError, Global};
 
 /// The tag files of the bag whose payload these listed files are, with these digests, in the order
 /// in which they are written.
-pub fn tag_files(
+pub(crate) fn tag_files(
     alloc: Global,
     listed: &[FileEntry],
     payload: &[SummedFile],
@@ -38,9 +35,10 @@ pub fn tag_files(
 {
     let members = algs.members(alloc)?;
     let mut files = named_tag_files(alloc, listed, payload, &members, info)?;
-    let summed = sum_tag_files(alloc, files.as_slice(), algs)?;
-    let mut tag_manifests = manifests(alloc, Kind::Tag, &members, &summed)?;
+    let summed = sum_texts(alloc, files.as_slice(), algs)?;
+    let mut tag_manifests = manifests_of(alloc, Kind::Tag, &members, &summed)?;
     files.append(&mut tag_manifests)?;
+    // `bagit.txt` is written first, and `bag-info.txt` comes before it in the order of paths.
     files.swap(0, 1);
     Ok(files)
 }
@@ -58,7 +56,7 @@ fn named_tag_files(
     let mut files = Vec::new(alloc);
     files.push(info_file(alloc, listed, info)?)?;
     files.push(declaration_file(alloc)?)?;
-    let mut payload_manifests = manifests(alloc, Kind::Payload, algs, payload)?;
+    let mut payload_manifests = manifests_of(alloc, Kind::Payload, algs, payload)?;
     files.append(&mut payload_manifests)?;
     Ok(files)
 }
@@ -120,51 +118,4 @@ fn octets(listed: &[FileEntry]) -> u128
         octets += u128::from(entry.size);
     }
     octets
-}
-
-/// The manifests of a kind that name these files, one for each algorithm.
-fn manifests(
-    alloc: Global,
-    kind: Kind,
-    algs: &[Alg],
-    files: &[SummedFile],
-) -> Result<Vec<(Text, Items<u8>)>, AllocError>
-    ensures { IfOk result (λ made. made.items ≡ manifests_of kind algs.now files.now) }
-{
-    let mut manifests = Vec::new(alloc);
-    for alg in algs {
-        let path = TagName::Manifest(kind, *alg).path(alloc)?;
-        manifests.push((path, manifest(alloc, *alg, files)?))?;
-    }
-    Ok(manifests)
-}
-
-/// The manifest of an algorithm that names these files (RFC 8493, 2.1.3 and 2.2.1).
-fn manifest(alloc: Global, alg: Alg, files: &[SummedFile]) -> Result<Items<u8>, AllocError>
-    ensures { IfOk result (λ bytes.
-        bytes ≡ entry.manifest_text (map (summed_entry alg) files.now)) }
-{
-    let mut text = String::new(alloc);
-    for file in files {
-        push_file(alloc, &mut text, alg, file)?;
-    }
-    Ok(Items::from_vec(text.into_bytes()))
-}
-
-/// Adds the line of a file, whose digests are asked of the algorithm.
-fn push_file(
-    alloc: Global,
-    text: &mut String,
-    alg: Alg,
-    file: &SummedFile,
-) -> Result<(), AllocError>
-    ensures { OnOk result
-        (string_bytes text.new
-        ≡ string_bytes text.old ++ entry.entry_line (summed_entry alg file.now)
-        ++ line_feed ∷ []) }
-{
-    match file.sums.hex(alloc, alg) {
-        Ok(digest) => push_entry(alloc, text, digest.as_str(), file.path.as_str()),
-        Err(_) => Err(AllocError),
-    }
 }

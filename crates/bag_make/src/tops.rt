@@ -11,7 +11,7 @@ use std::alloc::{AllocError, Global};
 
 /// The names of the base folder that are moved: the first component of each path, and `data` where
 /// that folder is there, in the order of their bytes, each once.
-pub fn tops(alloc: Global, listing: &Listing) -> Result<Vec<&str>, AllocError>
+pub(crate) fn tops(alloc: Global, listing: &Listing) -> Result<Vec<&str>, AllocError>
     ensures { IfOk result (λ names. lent_texts names.items ≡ from_listing.listed_tops listing.now) }
 {
     let mut names = first_components(alloc, listing.files.as_slice())?;
