@@ -21,7 +21,8 @@ use Rattle.bag_stages.specs.LeftOut.{IsLeftOutByOne}
 use Rattle.bag_stages.specs.ManifestsStage.{InManifest}
 use Rattle.bag_stages.specs.MetadataStage.{HasElement, HasFirst, HasLater, MetadataHolds, bag_info_txt, oxum_label}
 use Rattle.bag_stages.specs.MetadataStage.{pair}
-use Rattle.bag_stages.specs.Payload.{oxum, oxum_of_files, oxum_text}
+use Rattle.bag_read.specs.Oxum.{oxum_text}
+use Rattle.bag_stages.specs.Payload.{oxum, oxum_of_files}
 use Rattle.bag_stages.specs.TagFiles.{Names, bagit_txt, lines_in, lines_or_none, manifest_of, named_in}
 use Rattle.bag_stages.specs.ValidityStage.{Differs, IsEntryIn, expected_and_found}
 use Rattle.bag_tree.specs.Digest.{digest}
@@ -154,7 +155,7 @@ module _ (now was : Bag) (alike : AreAlike now was) (f : Fault) where
         → file now e.path ≡ file was e.path → file now e.path ≡ Some content → e.digest ≢ digest alg content
         → At f e.path (Some alg) 0 (expected_and_found e.digest (digest alg content)) → Differs was f kind
     differs_was e content is same_file held other at =
-        (alg, e, content, entry_in now was alike kind alg same e is, sym same_file ∙ held, other, at)
+        (alg, e, content, at, entry_in now was alike kind alg same e is, sym same_file ∙ held, other)
 
   pub left_out_was : (alg : Alg) (path : List ℕ)
       → file now (manifest_of Payload alg) ≡ file was (manifest_of Payload alg) → IsLeftOutByOne now alg path

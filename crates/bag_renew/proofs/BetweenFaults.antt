@@ -38,7 +38,7 @@ use Rattle.bag_tree.specs.Digest.{digest}
 use Rattle.bag_renew.specs.Valid.{full}
 use Rattle.bag_renew.proofs.AlikeFaults.{AreAlike, declaration_was, differs_was, entry_was, fetch_was, left_out_was}
 use Rattle.bag_renew.proofs.AlikeFaults.{manifest_was, metadata_was, missing_was, named_was, names_now}
-use Rattle.bag_renew.proofs.Found.{content_of}
+use Rattle.bag_facts.proofs.Found.{content_of}
 use Rattle.bag_renew.proofs.Staying.{no_begun}
 use Rattle.bag_renew.proofs.Telling.{text_of_entry}
 
@@ -120,10 +120,10 @@ module _ (mid base : Bag) (alike : AreAlike mid base) (begun : NoneNamesBegun ba
   not_listed other told has unnamed ruled =
       let path = manifest_name Payload other in
       let same = of_base.files path (other_kind other) (no_manifest_begun Payload other) in (
-        sym alike.rules ∙ ruled,
         alg,
         other,
         told,
+        sym alike.rules ∙ ruled,
         ap is_some of_base.text_is,
         (has.0, ap is_some (sym same) ∙ has.1),
         λ names. unnamed (names_now mid base alike Tag alg same_text path names),
@@ -256,7 +256,7 @@ module _ (mid old new : Bag) (between : IsBetween mid old new) (f : Fault) where
 
   manifests : (code : Code) → ManifestHolds mid f code → ManifestHolds old f code ⊎ ManifestHolds new f code
   unfolding ManifestHolds
-  manifests PayloadManifestNotListed (ruled, alg, other, at, has, held, unnamed) =
+  manifests PayloadManifestNotListed (alg, other, at, ruled, has, held, unnamed) =
       let t = content_of (file mid (manifest_of Tag alg)) has in
       elim (between.tags alg t.0 t.1) [
         | inl is ↦
@@ -317,7 +317,7 @@ module _ (mid old new : Bag) (between : IsBetween mid old new) (f : Fault) where
   -- ---- whether it is valid
 
   payload_differs : Differs mid f Payload → Differs old f Payload ⊎ Differs new f Payload
-  payload_differs (alg, e, content, is, held, other, at) =
+  payload_differs (alg, e, content, at, is, held, other) =
       let t = text_of_entry mid Payload alg e is in
       let of_it = may_name mid Payload alg e is in
       elim (manifest_as Payload alg (ap is_some t.1)) [
@@ -330,7 +330,7 @@ module _ (mid old new : Bag) (between : IsBetween mid old new) (f : Fault) where
       ]
 
   tags_differ : Differs mid f Tag → Differs old f Tag ⊎ Differs new f Tag
-  tags_differ (alg, e, content, is, held, other, at) =
+  tags_differ (alg, e, content, at, is, held, other) =
       let t = text_of_entry mid Tag alg e is in
       elim (between.tags alg t.0 t.1) [
         | inl of_old ↦

@@ -12,7 +12,7 @@ use Rattle.bag_tree.specs.Steps.{has_within}
 use Rattle.bag_tree.specs.FileChanges.{CanChange, CanChangeAll, IsFree, IsNoFolder}
 use Rattle.bag_renew.specs.Laws.{ChangesCanBeMade}
 use Rattle.bag_renew.proofs.ChangedNames.{back, of_back, of_clearing, of_removes}
-use Rattle.bag_renew.proofs.Found.{held_at}
+use Rattle.bag_facts.proofs.Found.{held_at}
 use Rattle.bag_renew.proofs.ManyChanges.{not_named_all}
 use Rattle.bag_renew.proofs.OneChange.{AreOfFiles, IsFileName, IsLevel, all_level, at_change, at_changes}
 use Rattle.bag_renew.proofs.OneChange.{itself_level, level_on, name_of, with_change, with_changes}

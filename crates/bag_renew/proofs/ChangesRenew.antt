@@ -26,7 +26,7 @@ use Rattle.bag_renew.proofs.ManyChanges.{came_from, not_named, not_named_all, pu
 use Rattle.bag_renew.proofs.Members.{tag_listed}
 use Rattle.bag_renew.proofs.Staying.{IsWritten, itself, no_begun, no_payload_name, no_payload_tag, so_it_stays}
 use Rattle.bag_renew.proofs.Staying.{stays_so, written_goes}
-use Rattle.bag_renew.proofs.Found.{content_of, same_option}
+use Rattle.bag_facts.proofs.Found.{content_of, same_option}
 use Rattle.bag_renew.proofs.OneChange.{all_level, at_changes, first_are, itself_level, name_of, stays_below}
 use Rattle.bag_renew.proofs.OneChange.{with_change, with_changes}
 

@@ -1,12 +1,15 @@
 -- What a bag that was checked is, and what the manifests say that are made of it.
-use Rattle.bag_renew.proofs.Common.{Bool, ◌≡◌, ◌≢◌, ◌<◌, ◌∷◌, ◌++◌, ℕ, List, [], true, false, IsTrue, None, Some, map, filter}
+use Rattle.bag_renew.proofs.Common.{Bool, ◌≡◌, ◌≢◌, ◌<◌, ◌∷◌, ◌++◌, ℕ, List, [], true, false, IsTrue, Option, None, Some}
+use Rattle.bag_renew.proofs.Common.{map, filter}
 use Rattle.bag_renew.proofs.Common.{Contains, arith, refl, sym, ap, subst, ◌∙◌, inl, inr, All-contains}
 use Rattle.bag_renew.proofs.Common.{contains_nothing, contains_first, contains_behind, Alg, Bag, file, files_of, payload}
 use Rattle.bag_renew.proofs.Common.{is_payload_path, Payload, Tag, Kind, tag_path, Manifest, File}
 use Rattle.std.proofs.lemmas.List.Elements.{All-from_recursion}
 use Rattle.std.proofs.lemmas.Simd.{map-map}
 use Rattle.std.specs.Prelude.{All}
+use Rattle.std.specs.Str.{chars, is_utf8}
 use Rattle.bag_text.specs.Code.{stage}
+use Rattle.bag_text.specs.Lines.{lines_of_file}
 use Rattle.bag_text.specs.declared.code.Code.{Code}
 use Rattle.bag_text.specs.declared.code.Code.TheVariants.{PayloadSumDiffers, TagSumDiffers}
 use Rattle.bag_text.proofs.ListOf.{each_from_members, nothing_listed}
@@ -25,7 +28,8 @@ use Rattle.bag_report.proofs.Found.{is_of_validity}
 use Rattle.bag_renew.proofs.Common.{cond, not, ◌||◌}
 use Rattle.bag_stages.proofs.NamesByKind.{entry_kind}
 use Rattle.bag_stages.specs.Given.{kind_of}
-use Rattle.bag_stages.specs.TagFiles.{lines_in, manifest_of}
+use Rattle.bag_stages.specs.MetadataStage.{bag_info_txt}
+use Rattle.bag_stages.specs.TagFiles.{lines_in, lines_or_none, manifest_of}
 use Rattle.bag_stages.proofs.CompletenessFaults.{completeness_of_stage_six}
 use Rattle.bag_stages.proofs.DeclarationFaults.{declaration_of_stage_one}
 use Rattle.bag_stages.proofs.FetchFaults.{fetch_of_stage_four}
@@ -37,17 +41,19 @@ use Rattle.bag_stages.specs.ValidityStage.{Differs, IsOfValidity, ValidityHolds}
 use Rattle.bag_tags.specs.Entry.{NewEntry, manifest_text}
 use Rattle.bag_tree.specs.Digest.{digest}
 use Rattle.bag_tree.specs.DigestsOf.{sum_at}
-use Rattle.bag_tree.proofs.ListingLaw.{listings_are_of_the_bag}
 use Rattle.bag_tree.specs.Bag.{IsBag}
 use Rattle.bag_tree.specs.Tree.{Keeps, TreeState}
 use Rattle.bag_tree.specs.declared.listing.FileEntry.{FileEntry}
-use Rattle.bag_renew.proofs.Found.{held_at, listed}
+use Rattle.bag_facts.proofs.Found.{held_at, listed, same_files}
+use Rattle.bag_renew.proofs.GivenDigests.{are_compared, read_are}
+use Rattle.bag_renew.specs.Compared.{AreCompared}
 use Rattle.bag_renew.specs.FirstFaults.{HasNoneBefore, IsFoundFirst}
 use Rattle.bag_renew.specs.NewManifests.{AreOfSameBytes, HasChecked, HasCheckedAll, HasFault, IsRefusedFor}
 use Rattle.bag_renew.specs.NewManifests.{OpensRead, OpensTwice}
 use Rattle.bag_renew.specs.NewManifests.{manifests_for, manifests_of, summed_entry}
 use Rattle.bag_renew.specs.Renewed.{entries_of}
-use Rattle.bag_renew.specs.Summed.{AreChecked, AreSummed, IsFaultyFile, IsRight, entry_of_file, files_to_read}
+use Rattle.bag_renew.specs.Summed.{AreChecked, AreSummed, IsFaultyFile, IsRight, files_to_read}
+use Rattle.bag_tree.specs.Listing.{entry_of_file}
 use Rattle.bag_renew.specs.Summed.{is_to_read, payload_of, to_read}
 use Rattle.bag_renew.specs.Valid.{HasNoFault, IsDamage, full}
 use Rattle.bag_renew.specs.declared.checked.Unchecked.{Unchecked}
@@ -63,30 +69,6 @@ tag_by false false same = refl
 tag_is_read : (with_payload : Bool) (path : List ℕ) → kind_of path ≡ Tag → is_to_read with_payload path ≡ true
 tag_is_read with_payload path same = tag_by (is_payload_path path) with_payload same
 
-abbrev first_path : List FileEntry → List ℕ
-first_path [] = []
-first_path (e ∷ es) = e.path
-
-abbrev others_of : List FileEntry → List FileEntry
-others_of [] = []
-others_of (e ∷ es) = es
-
--- files that are listed alike, and hold what the bag holds, are the same
-same_files : (bag : Bag) (xs ys : List File) → map entry_of_file xs ≡ map entry_of_file ys
-    → ((e : File) → Contains xs e → file bag e.0 ≡ Some e.1) → ((e : File) → Contains ys e → file bag e.0 ≡ Some e.1)
-    → xs ≡ ys
-same_files bag [] [] same h k = refl
-same_files bag (x ∷ xs) (y ∷ ys) same h k =
-    let path : x.0 ≡ y.0 = ap first_path same in
-    let content : Some x.1 ≡ Some y.1 =
-    sym (h x (contains_first x xs)) ∙ ap (file bag) path ∙ k y (contains_first y ys) in
-    let bytes : x.1 ≡ y.1 = cc in
-    let rest : map entry_of_file xs ≡ map entry_of_file ys = ap others_of same in
-    let others =
-    same_files bag xs ys rest (λ e c. h e (contains_behind x xs e c)) (λ e c. k e (contains_behind y ys e c)) in
-    λ i. (path i, bytes i) ∷ others i
-same_files bag _ _ same h k = cc
-
 module _ (facts : Facts) (bag : Bag) (of : IsFactsOf bag facts) (options : facts.options ≡ full) where
   -- so the first fault that is found is one of the bag
   pub refused_first : (e : Unchecked) → IsFoundFirst facts e → IsRefusedFor bag e
@@ -99,11 +81,11 @@ module _ (facts : Facts) (bag : Bag) (of : IsFactsOf bag facts) (options : facts
             (subst (λ n. stage f.code < n) this.1 before),
       )
 
-  deep : facts.options.depth ≢ Declaration
+  pub deep : facts.options.depth ≢ Declaration
   deep e = let at : full.depth ≡ Declaration = sym (ap (λ (o : Options). o.depth) options) ∙ e in cc
 
   module _ (none : HasNoneBefore facts 7) where
-    none_early : (f : Fault) → HasFault bag f → stage f.code < 7 → ⊥
+    pub none_early : (f : Fault) → HasFault bag f → stage f.code < 7 → ⊥
     none_early f has before =
         none bag of f
         (subst (λ (o : Options). IsReported (record { bag = bag; profile = None; options = o }) f) (sym options) has)
@@ -127,7 +109,7 @@ module _ (facts : Facts) (bag : Bag) (of : IsFactsOf bag facts) (options : facts
         (right : (e : File) → Contains (files_of bag) e → is_to_read with_payload e.0 ≡ true → IsRight facts e)
         (f : Fault) where
       one_file : (kind : Kind) → Differs bag f kind → IsOfValidity bag f → is_to_read with_payload f.path ≡ true → ⊥
-      one_file kind (alg, entry, content, given, there, other, at) h read =
+      one_file kind (alg, entry, content, at, given, there, other) h read =
           let e : File = (entry.path, content) in
           let r =
           right e (listed bag.files entry.path content there)
@@ -168,8 +150,8 @@ module _ (facts : Facts) (bag : Bag) (of : IsFactsOf bag facts) (options : facts
       tag_differs d h =
           one_file Tag d h
           (tag_is_read with_payload f.path
-          (ap kind_of d.6.path_is
-          ∙ sym (entry_kind bag Tag d.0 (lines_in bag (manifest_of Tag d.0)) d.1 d.3)))
+          (ap kind_of d.3.path_is
+          ∙ sym (entry_kind bag Tag d.0 (lines_in bag (manifest_of Tag d.0)) d.1 d.4)))
 
       damage_by : (code : Code) → f.code ≡ code → ValidityHolds bag f code → IsOfValidity bag f → IsDamage f
       unfolding ValidityHolds
@@ -192,12 +174,12 @@ module _ (facts : Facts) (algs : List Alg) (old mid new : TreeState) (options : 
     files_refuse e h honest =
         refused_file facts old.bag (of honest) options none mid (keeps.honest ∙ honest) keeps.bag e h
 
-    pub has_checked : (with_payload : Bool) (summed : List SummedFile)
+    pub has_checked : (with_payload : Bool) (summed : List SummedFile) (info : List ℕ)
         → ((bag : Bag) × IsBag bag × IsFactsOf bag facts) → OpensAll full facts.listing.files old mid
         → new.openings ≡ mid.openings ++ paths_of (to_read with_payload facts.listing.files)
-        → AreChecked mid facts (to_read with_payload facts.listing.files) algs summed
-        → HasChecked facts with_payload algs old new summed
-    has_checked with_payload summed seen (tags, wanted, opened) then checked = record {
+        → AreChecked mid facts (to_read with_payload facts.listing.files) algs summed info
+        → HasChecked facts with_payload algs old new summed info
+    has_checked with_payload summed info seen (tags, wanted, opened) then checked = record {
       options = options;
       seen = seen;
       none = none;
@@ -210,6 +192,7 @@ module _ (facts : Facts) (algs : List Alg) (old mid new : TreeState) (options : 
       of_bag = of;
       checked = record {
         files = checked.files;
+        info_of = checked.info_of;
         listed = checked.listed;
         right = checked.right;
         sums = checked.sums;
@@ -238,7 +221,7 @@ module _ (algs : List Alg) (alg : Alg) (has : Contains algs alg) where
   entries_are _ _ h = absurd h
 
 module _ (algs : List Alg) (files : List File) (summed : List SummedFile) (are : AreSummed algs files summed) where
-  manifests_some : (some : List Alg) → ((alg : Alg) → Contains some alg → Contains algs alg)
+  pub manifests_some : (some : List Alg) → ((alg : Alg) → Contains some alg → Contains algs alg)
       → manifests_of some (filter (λ one. is_payload_path one.path) summed) ≡ manifests_for some (payload_of files)
   manifests_some [] has = refl
   manifests_some (alg ∷ some) has =
@@ -250,22 +233,9 @@ module _ (algs : List Alg) (files : List File) (summed : List SummedFile) (are :
       ≡ manifests_for algs (payload_of files)
   manifests_are = manifests_some algs (λ alg has. has)
 
-read_by : (b : Bool) (e : File) (with_payload : Bool) (files : List File) → is_to_read with_payload e.0 ≡ b
-    → to_read with_payload (map entry_of_file files) ≡ map entry_of_file (files_to_read with_payload files)
-    → to_read with_payload (map entry_of_file (e ∷ files)) ≡ map entry_of_file (files_to_read with_payload (e ∷ files))
-read_by true e with_payload files is others = grind arith
-read_by false e with_payload files is others = grind arith
-
--- the listed files that are read are those of the bag
-read_listed : (with_payload : Bool) (files : List File)
-    → to_read with_payload (map entry_of_file files) ≡ map entry_of_file (files_to_read with_payload files)
-read_listed with_payload [] = refl
-read_listed with_payload (e ∷ files) =
-    read_by (is_to_read with_payload e.0) e with_payload files refl (read_listed with_payload files)
-
-all_listed : (files : List FileEntry) → to_read true files ≡ files
-all_listed [] = refl
-all_listed (e ∷ files) = ap (λ others. e ∷ others) (all_listed files)
+no_bytes : lines_of_file [] ≡ []
+unfolding is_utf8 chars
+no_bytes = refl
 
 pub all_files : (files : List File) → files_to_read true files ≡ files
 all_files [] = refl
@@ -273,19 +243,22 @@ all_files (e ∷ files) = ap (λ others. e ∷ others) (all_files files)
 
 -- of a bag that was checked
 module _ (facts : Facts) (with_payload : Bool) (algs : List Alg) (old new : TreeState) (summed : List SummedFile)
-    (h : HasChecked facts with_payload algs old new summed) (honest : IsTrue old.honest) where
+    (info : List ℕ) (h : HasChecked facts with_payload algs old new summed info) where
+  -- over any tree: of each bag with what is known, they were compared
+  pub compared : (bag : Bag) → IsFactsOf bag facts → AreCompared bag with_payload h.checked.files
+  compared bag of =
+      are_compared facts bag of with_payload (deep facts bag of h.options) h.checked.files h.checked.listed
+      (λ e c. All-contains (IsRight facts) h.checked.files e h.checked.right c)
+
+module _ (facts : Facts) (with_payload : Bool) (algs : List Alg) (old new : TreeState) (summed : List SummedFile)
+    (info : List ℕ) (h : HasChecked facts with_payload algs old new summed info) (honest : IsTrue old.honest) where
   of : IsFactsOf old.bag facts
   of = h.of_bag honest
 
-  read_are : to_read with_payload facts.listing.files
-      ≡ map entry_of_file (files_to_read with_payload (files_of old.bag))
-  read_are =
-      ap (to_read with_payload) (listings_are_of_the_bag old.bag facts.listing of.ordered of.listing)
-      ∙ read_listed with_payload (files_of old.bag)
-
   files_are : h.checked.files ≡ files_to_read with_payload (files_of old.bag)
   files_are =
-      same_files old.bag h.checked.files (files_to_read with_payload (files_of old.bag)) (h.checked.listed ∙ read_are)
+      same_files old.bag h.checked.files (files_to_read with_payload (files_of old.bag)) (h.checked.listed
+      ∙ read_are facts old.bag of with_payload)
       (λ e c. All-contains (λ (x : File). file old.bag x.0 ≡ Some x.1) h.checked.files e (h.checked.honest honest) c)
       (λ e c. held_at old.bag.files e.0 e.1
       (kept (λ (x : File). is_to_read with_payload x.0) (files_of old.bag) e c).1)
@@ -314,9 +287,33 @@ module _ (facts : Facts) (with_payload : Bool) (algs : List Alg) (old new : Tree
     h.wanted,
     h.opened
         ∙ ap (λ xs. (old.openings ++ h.tags) ++ xs)
-        (ap paths_of read_are
+        (ap paths_of (read_are facts old.bag of with_payload)
         ∙ map-map (λ (e : FileEntry). e.path) entry_of_file (files_to_read with_payload (files_of old.bag))),
   )
+
+  -- the lines of bag-info.txt are those of the bag's
+  lines_there : Contains h.checked.files (bag_info_txt, info) → lines_of_file info ≡ lines_in old.bag bag_info_txt
+  lines_there c =
+      sym (ap lines_or_none
+      (All-contains (λ (x : File). file old.bag x.0 ≡ Some x.1) h.checked.files (bag_info_txt, info)
+      (h.checked.honest honest) c))
+
+  no_lines : (o : Option (List ℕ)) → file old.bag bag_info_txt ≡ o → info ≡ []
+      → ((e : File) → Contains h.checked.files e → e.0 ≢ bag_info_txt)
+      → lines_of_file info ≡ lines_in old.bag bag_info_txt
+  no_lines None at empty none = ap lines_of_file empty ∙ no_bytes ∙ sym (ap lines_or_none at)
+  no_lines (Some content) at empty none =
+      let e : File = (bag_info_txt, content) in
+      absurd (none e
+      (subst (λ (xs : List File). Contains xs e) (sym files_are)
+      (passed (λ (x : File). is_to_read with_payload x.0) (files_of old.bag) e (tag_is_read with_payload bag_info_txt refl)
+      (listed old.bag.files bag_info_txt content at))) refl)
+
+  pub info_lines : lines_of_file info ≡ lines_in old.bag bag_info_txt
+  info_lines = elim h.checked.info_of [
+    | inl c ↦ lines_there c
+    | inr n ↦ no_lines (file old.bag bag_info_txt) refl n.0 n.1
+  ]
 
   pub sums_are : AreSummed algs (files_to_read with_payload (files_of old.bag)) summed
   sums_are = subst (λ files. AreSummed algs files summed) files_are h.checked.sums
@@ -328,14 +325,11 @@ module _ (algs : List Alg) (old new : TreeState) (summed : List SummedFile)
   pub same_bytes : (made : List File) → made ≡ manifests_of algs (filter (λ one. is_payload_path one.path) summed)
       → AreOfSameBytes algs made
   same_bytes made is = record {
-    facts = all.0;
-    bag = all.1.seen.0;
-    is_bag = all.1.seen.1;
-    facts_of = all.1.seen.2;
-    files = all.1.checked.files;
-    listed = all.1.checked.listed ∙ all_listed all.0.listing.files;
-    right = all.1.checked.right;
-    made_of = is ∙ manifests_are algs all.1.checked.files summed all.1.checked.sums;
+    bag = all.2.seen.0;
+    is_bag = all.2.seen.1;
+    files = all.2.checked.files;
+    compared = compared all.0 true algs old new summed all.1 all.2 all.2.seen.0 all.2.seen.2;
+    made_of = is ∙ manifests_are algs all.2.checked.files summed all.2.checked.sums;
   }
 
   module _ (honest : IsTrue old.honest) where
@@ -344,15 +338,15 @@ module _ (algs : List Alg) (old new : TreeState) (summed : List SummedFile)
         → made ≡ manifests_for algs (payload old.bag)
     of_the_bag made is =
         is ∙ manifests_are algs (files_to_read true (files_of old.bag)) summed
-        (sums_are all.0 true algs old new summed all.1 honest)
+        (sums_are all.0 true algs old new summed all.1 all.2 honest)
         ∙ ap (λ files. manifests_for algs (payload_of files)) (all_files (files_of old.bag))
 
     pub has_no_fault : HasNoFault old.bag
-    has_no_fault = none_at_all all.0 true algs old new summed all.1 honest refl
+    has_no_fault = none_at_all all.0 true algs old new summed all.1 all.2 honest refl
 
     pub opens_twice : OpensTwice old new
     opens_twice =
-        let read = opens_read all.0 true algs old new summed all.1 honest in (
+        let read = opens_read all.0 true algs old new summed all.1 all.2 honest in (
           read.0,
           read.1,
           read.2,

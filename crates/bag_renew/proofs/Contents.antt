@@ -4,7 +4,7 @@ use Rattle.bag_renew.proofs.Common.{get-from_entries, text_cmp, paths_differ, is
 use Rattle.bag_renew.proofs.Common.{TagName, Declaration, Info, Fetch, Manifest, Bag, file, stays, Renewal}
 use Rattle.bag_renew.specs.Renewed.{renewed}
 use Rattle.bag_renew.specs.Contents.{IsNew, IsNewText, IsOld, RenewedHasTheseFiles, Stands}
-use Rattle.bag_renew.proofs.Found.{found, found_alone}
+use Rattle.bag_facts.proofs.Found.{found, found_alone}
 use Rattle.bag_renew.proofs.Members.{all, from_all, to_all}
 use Rattle.bag_renew.proofs.Staying.{IsWritten, no_payload_tag, written_goes}
 

@@ -19,7 +19,7 @@ use Rattle.bag_renew.specs.Telling.{AreUnmarked}
 use Rattle.bag_renew.specs.Valid.{HasGoodElements, HasGoodInfo}
 use Rattle.bag_renew.proofs.BetweenFaults.{IsBetween, named_by, names_begun}
 use Rattle.bag_renew.proofs.Contents.{these_files}
-use Rattle.bag_renew.proofs.Found.{content_of}
+use Rattle.bag_facts.proofs.Found.{content_of}
 use Rattle.bag_renew.proofs.OnTheWay.{each_cut_has_old_faults}
 use Rattle.bag_renew.proofs.RenewedAgain.{IsOnTheWay, cut_on_the_way, renewing_again, same_algs, same_payload}
 use Rattle.bag_renew.proofs.RenewedAgain.{same_writes, written_again}

@@ -17,14 +17,14 @@ use Rattle.bag_text.specs.declared.rules.Rules.TheVariants.{V10}
 use Rattle.bag_read.proofs.InfoElements.{elements_of as elements_listed}
 use Rattle.bag_read.specs.Info.{IsElement, IsInfoFault}
 use Rattle.bag_read.specs.InfoReader.{elements}
-use Rattle.bag_read.specs.Oxum.{oxum_of}
+use Rattle.bag_read.specs.Oxum.{oxum_of, oxum_text}
 use Rattle.bag_read.specs.declared.info.Element.{Element}
 use Rattle.bag_read.specs.declared.line_fault.LineFault.{LineFault}
 use Rattle.bag_facts.specs.declared.fault.Fault.{Fault}
 use Rattle.bag_report.specs.Report.{asks}
 use Rattle.bag_stages.specs.FaultFields.{in_line}
 use Rattle.bag_stages.specs.MetadataStage.{HasElement, IsOfMetadata, MetadataHolds, bag_info_txt, oxum_label}
-use Rattle.bag_stages.specs.Payload.{oxum, oxum_of_files, oxum_text}
+use Rattle.bag_stages.specs.Payload.{oxum, oxum_of_files}
 use Rattle.bag_stages.specs.TagFiles.{lines_in, lines_or_none}
 use Rattle.bag_tags.proofs.LongInfo.{long_info_again}
 use Rattle.bag_tags.specs.Element.{NewElement}
@@ -37,7 +37,7 @@ use Rattle.bag_renew.specs.Valid.{CanRenew, GoodElementsAreGoodInfo, HasGoodElem
 use Rattle.bag_renew.specs.declared.renewal.ElementChanges.{ElementChanges}
 use Rattle.bag_renew.proofs.Contents.{these_files}
 use Rattle.bag_renew.proofs.KeptInfo.{kept_is_good}
-use Rattle.bag_renew.proofs.OxumReads.{oxum_reads}
+use Rattle.bag_tags.proofs.OxumReads.{oxum_reads}
 use Rattle.bag_renew.proofs.Places.{place_of}
 use Rattle.bag_renew.proofs.RenewedNames.{by_v10, same_payload}
 

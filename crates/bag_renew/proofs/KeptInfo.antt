@@ -15,14 +15,15 @@ use Rattle.bag_report.specs.Report.{asks}
 use Rattle.bag_stages.specs.FaultFields.{At, in_line}
 use Rattle.bag_stages.specs.MetadataStage.{HasElement, HasFirst, HasLater, IsOfMetadata, MetadataHolds, bag_info_txt}
 use Rattle.bag_stages.specs.MetadataStage.{oxum_label, pair}
-use Rattle.bag_stages.specs.Payload.{oxum, oxum_of_files, oxum_text}
+use Rattle.bag_read.specs.Oxum.{oxum_text}
+use Rattle.bag_stages.specs.Payload.{oxum, oxum_of_files}
 use Rattle.bag_stages.specs.TagFiles.{lines_in, lines_or_none}
 use Rattle.bag_tags.specs.OnLines.{text_on_lines}
 use Rattle.bag_renew.specs.Elements.{asks_nothing}
 use Rattle.bag_renew.specs.Renewed.{renewed}
 use Rattle.bag_renew.specs.Valid.{CanRenew, HasGoodInfo, full}
 use Rattle.bag_renew.proofs.Contents.{these_files}
-use Rattle.bag_renew.proofs.Found.{same_option}
+use Rattle.bag_facts.proofs.Found.{same_option}
 use Rattle.bag_renew.proofs.KeptOr.{keeps_v10}
 use Rattle.bag_renew.proofs.OldBag.{no_metadata_fault, old_text}
 use Rattle.bag_renew.proofs.RenewedNames.{by_v10, new_text, same_payload}

@@ -7,6 +7,7 @@ pub mod ChangedNames
 pub mod ChangesRenew
 pub mod CheckedBag
 pub mod Common
+pub mod Comparing
 pub mod ComposedChanges
 pub mod Contents
 pub mod CutAtOxum
@@ -14,7 +15,8 @@ pub mod CutBags
 pub mod Digests
 pub mod ElementsAgain
 pub mod FirstFaults
-pub mod Found
+pub mod FirstOpened
+pub mod GivenDigests
 pub mod GoodInfo
 pub mod InChanges
 pub mod InPathOrder
@@ -34,7 +36,7 @@ pub mod OnTheWayBegun
 pub mod OnTheWayChanges
 pub mod OnTheWayFiles
 pub mod OneChange
-pub mod OxumReads
+pub mod Openings
 pub mod Passing
 pub mod PayloadFiles
 pub mod Places

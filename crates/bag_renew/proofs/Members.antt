@@ -9,7 +9,7 @@ use Rattle.bag_renew.proofs.Common.{named_tag_files, new_algs, new_elements, new
 use Rattle.bag_renew.proofs.Common.{payload_manifests, stays, tag_manifests, with_path, writes_info, Renewal}
 use Rattle.bag_facts.proofs.Mapped.{kept, passed}
 use Rattle.bag_renew.specs.Contents.{IsNew, IsNewText, IsOld, Stands}
-use Rattle.bag_renew.proofs.Found.{held_at, listed}
+use Rattle.bag_facts.proofs.Found.{held_at, listed}
 use Rattle.bag_tags.specs.OnLines.{text_on_lines}
 
 -- ---- the file that is written, or that is there

@@ -16,7 +16,7 @@ use Rattle.bag_tags.specs.Declaration.{declaration_text}
 use Rattle.bag_tags.specs.OnLines.{text_on_lines}
 use Rattle.bag_renew.proofs.AlgsWhere.{alg_in, passes}
 use Rattle.bag_renew.proofs.Contents.{one_stands}
-use Rattle.bag_renew.proofs.Found.{found, found_alone, held_at, listed, same_option}
+use Rattle.bag_facts.proofs.Found.{found, found_alone, held_at, listed, same_option}
 use Rattle.bag_renew.proofs.KeptOr.{kept_or_written}
 use Rattle.bag_renew.proofs.Members.{from_all, info_listed, of_one}
 use Rattle.bag_renew.proofs.NoPayload.{no_payload_tag}

@@ -22,7 +22,7 @@ use Rattle.bag_tree.specs.declared.listing.FileEntry.{FileEntry}
 use Rattle.bag_renew.specs.Obstacles.{AreFree, HasBelow, HasNoObstacle, IsInTheWay, IsNamedAsTag, first_unnameable}
 use Rattle.bag_renew.specs.Obstacles.{has_below, has_percent, is_below, is_unnameable, paths_of, reserved_names}
 use Rattle.bag_renew.specs.Renewed.{is_v10}
-use Rattle.bag_renew.specs.Summed.{entry_of_file}
+use Rattle.bag_tree.specs.Listing.{entry_of_file}
 
 module _ {A : Type 0} (p : A → Bool) where
   found_by : (b : Bool) (y : A) (xs : List A) (x : A) → p y ≡ b

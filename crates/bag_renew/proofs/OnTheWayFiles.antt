@@ -29,7 +29,7 @@ use Rattle.bag_renew.proofs.BetweenFaults.{HasNoPayloadManifest, IsBetween, IsTa
 use Rattle.bag_renew.proofs.ChangedNames.{are_of_files, back, of_changes}
 use Rattle.bag_renew.proofs.ChangesRenew.{they_renew}
 use Rattle.bag_renew.proofs.Contents.{these_files}
-use Rattle.bag_renew.proofs.Found.{content_of}
+use Rattle.bag_facts.proofs.Found.{content_of}
 use Rattle.bag_renew.proofs.InChanges.{open_in, put_in_changes}
 use Rattle.bag_renew.proofs.KeptOr.{kept_or_written}
 use Rattle.bag_renew.proofs.ManyChanges.{came_from, not_named}

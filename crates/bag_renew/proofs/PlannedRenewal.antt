@@ -1,33 +1,65 @@
 -- What is read and composed for a renewal are its changes.
-use Rattle.bag_renew.proofs.Common.{◌≡◌, inr, ℕ, false, List, Option, FileChange, Renewal, changes}
+use Rattle.bag_renew.proofs.Common.{◌≡◌, ◌∙◌, inr, ℕ, false, is_some, IsTrue, List, Option, File, FileChange, Renewal}
+use Rattle.bag_renew.proofs.Common.{changes, files_of, new_algs, writes_info}
+use Rattle.bag_text.specs.Lines.{lines_of_file}
 use Rattle.bag_facts.specs.FactsOfBag.{IfBagRead, IsFactsOf}
+use Rattle.bag_stages.specs.MetadataStage.{bag_info_txt}
+use Rattle.bag_stages.specs.TagFiles.{lines_in}
 use Rattle.bag_facts.specs.declared.facts.Facts.{Facts}
 use Rattle.bag_tree.specs.Bag.{Bag}
 use Rattle.bag_tree.specs.Tree.{TreeState}
-use Rattle.bag_renew.specs.Composing.{AreOfFiles, AreSummedFor}
-use Rattle.bag_renew.specs.NewInfo.{IsNewInfo}
+use Rattle.bag_renew.specs.Composing.{AreOfFiles}
+use Rattle.bag_renew.specs.NewInfo.{IsInfoAfter}
+use Rattle.bag_renew.specs.Planned.{ChangesCompared, changes_from}
 use Rattle.bag_renew.specs.Reading.{HasReadBag, MayRefuseReading}
 use Rattle.bag_renew.specs.Renew.{HasPlanned}
+use Rattle.bag_renew.specs.Renewed.{reads_payload}
 use Rattle.bag_renew.specs.Request.{is_bad_request}
+use Rattle.bag_renew.specs.Summed.{AreSummed, files_to_read}
 use Rattle.bag_renew.specs.declared.fault.RenewFault.TheVariants.{Memory}
 use Rattle.bag_renew.specs.declared.summed.SummedFile.{SummedFile}
-use Rattle.bag_renew.proofs.ReadForRenewal.{deep, read_for_renewal}
+use Rattle.bag_renew.proofs.ComposedChanges.{changes_of_bag, has_info}
+use Rattle.bag_renew.proofs.ReadForRenewal.{deep, new_info, read_for_renewal}
 
-module _ (renewal : Renewal) (old new : TreeState) (facts : Facts) (summed : List SummedFile)
-    (has : HasReadBag renewal old new facts summed) where
+module _ (renewal : Renewal) (old new : TreeState) (facts : Facts) (summed : List SummedFile) (read : List ℕ)
+    (has : HasReadBag renewal old new facts summed read) where
   pub no_memory : MayRefuseReading renewal old new Memory
   no_memory = inr has.read.no_failure
 
-  pub planned : (info : Option (List ℕ)) → is_bad_request renewal.elements ≡ false
-      → IfBagRead facts (λ bag. IsNewInfo bag renewal info) → (made : List FileChange)
-      → ((bag : Bag) → IsFactsOf bag facts → AreSummedFor bag renewal summed → IsNewInfo bag renewal info
-      → made ≡ changes bag renewal)
-      → AreOfFiles made → HasPlanned renewal old new made
-  planned info good is_info made is of_files = record {
-    asked = good;
-    read = read_for_renewal renewal old new facts summed has info good is_info;
-    changes_are = λ honest.
-        is old.bag (has.of_bag honest) (has.sums honest)
-        (is_info old.bag (has.of_bag honest) (deep renewal old new facts summed has));
-    of_files = of_files;
-  }
+  module _ (info : Option (List ℕ))
+      (is_info : IfBagRead facts (λ bag. IsInfoAfter bag renewal (lines_of_file read) info)) (made : List FileChange)
+      (is : (bag : Bag) (files : List File) → IsFactsOf bag facts → AreSummed (new_algs bag renewal) files summed
+      → is_some info ≡ writes_info bag renewal → made ≡ changes_from bag renewal files info) where
+    -- over any tree they are of the files that were read
+    compared : ChangesCompared renewal made
+    compared =
+        let bag = has.seen.0 in
+        let after = is_info bag has.seen.2 (deep renewal old new facts summed read has) in record {
+          bag = bag;
+          is_bag = has.seen.1;
+          files = has.files;
+          compared = has.compared;
+          old_info = read;
+          old_info_is = has.info_of;
+          info = info;
+          info_is = after;
+          changes_are = is bag has.files has.seen.2 (has.summed_of bag has.seen.2)
+              (has_info bag renewal (lines_of_file read) info after);
+        }
+
+    -- of an honest tree they are those of the bag
+    of_bag : IsTrue old.honest → made ≡ changes old.bag renewal
+    of_bag honest =
+        let new_one = new_info renewal old new facts summed read has honest info is_info in
+        is old.bag (files_to_read (reads_payload old.bag renewal) (files_of old.bag)) (has.of_bag honest)
+        (has.sums honest) (has_info old.bag renewal (lines_in old.bag bag_info_txt) info new_one)
+        ∙ changes_of_bag old.bag renewal info new_one
+
+    pub planned : is_bad_request renewal.elements ≡ false → AreOfFiles made → HasPlanned renewal old new made
+    planned good of_files = record {
+      asked = good;
+      read = read_for_renewal renewal old new facts summed read has info good is_info;
+      changes_are = of_bag;
+      of_files = of_files;
+      compared = compared;
+    }

@@ -9,23 +9,30 @@ use Rattle.bag_facts.proofs.Mapped.{contains_mapped}
 use Rattle.bag_facts.proofs.Reading.{later_refusal}
 use Rattle.bag_facts.proofs.Refusing.{has_entry, path_some}
 use Rattle.bag_facts.specs.FactsOfBag.{IfBagRead, IsFactsOf}
-use Rattle.bag_facts.specs.Stops.{IsOfListing, IsOutOfMemory}
+use Rattle.bag_tree.specs.Stop.{IsOutOfMemory}
+use Rattle.bag_facts.specs.Stops.{IsOfListing}
 use Rattle.bag_facts.specs.TagReader.{MayStopReading}
 use Rattle.bag_facts.specs.Wanted.{IsRefusedFile, paths_of}
 use Rattle.bag_facts.specs.declared.facts.Facts.{Facts}
 use Rattle.bag_facts.specs.declared.options.Depth.TheVariants.{Declaration}
 use Rattle.bag_facts.specs.declared.options.Options.{Options}
-use Rattle.bag_tree.proofs.Calm.{memory_then}
+use Rattle.bag_tree.proofs.Calm.{memory_then, nothing_then}
 use Rattle.bag_tree.specs.FileReads.{IsEntryOf}
 use Rattle.bag_tree.specs.Tree.{Keeps, NothingFailed, TreeState}
 use Rattle.bag_tree.specs.declared.listing.FileEntry.{FileEntry}
 use Rattle.bag_tree.specs.declared.tree_fault.Stop.{Stop}
-use Rattle.bag_renew.proofs.CheckedBag.{damaged, files_refuse, none_at_all, opens_read, stages_refuse, sums_are}
+use Rattle.bag_renew.proofs.CheckedBag.{compared, damaged, files_refuse, has_checked, info_lines, none_at_all}
+use Rattle.bag_renew.proofs.CheckedBag.{none_early, opens_read, stages_refuse, sums_are}
 use Rattle.bag_renew.proofs.FirstFaults.{before_first}
-use Rattle.bag_renew.specs.FirstFaults.{IsFoundFirst}
+use Rattle.bag_stages.specs.MetadataStage.{bag_info_txt}
+use Rattle.bag_stages.specs.TagFiles.{lines_in}
+use Rattle.bag_renew.specs.Compared.{AreCompared}
+use Rattle.bag_renew.specs.FirstFaults.{HasNoneBefore, IsFoundFirst}
+use Rattle.bag_renew.specs.NewInfo.{IsInfoRefusal}
 use Rattle.bag_renew.specs.NewManifests.{HasChecked, OpensRead}
-use Rattle.bag_renew.specs.Obstacles.{IsObstacle}
-use Rattle.bag_renew.specs.Reading.{AllowsRenewal, HasReadBag, IsRefusalOf, IsRefusalOfStop, IsRefusedByFacts}
+use Rattle.bag_renew.specs.Obstacles.{HasNoObstacle, IsObstacle}
+use Rattle.bag_renew.specs.Reading.{AllowsRenewal, HasNoEarlyFault, HasReadBag, IsRefusalOf, IsRefusalOfStop}
+use Rattle.bag_renew.specs.Reading.{IsRefusedByFacts}
 use Rattle.bag_renew.specs.Reading.{MayRefuseReading, MayStopReadingBag}
 use Rattle.bag_renew.specs.Renewed.{reads_payload}
 use Rattle.bag_renew.specs.Stops.{IsOfFile, MayStop, MayStopUnchecked, StopsAtFile, StopsChecking}
@@ -102,23 +109,40 @@ refused_stop renewal old new stop (why.RemoveRefused n q) h is = absurd is
 -- ---- what is known allows no renewal
 
 module _ (renewal : Renewal) (facts : Facts) where
-  pub refused_by_obstacle : (fault : RenewFault) → IfBagRead facts (λ bag. IsObstacle bag renewal fault)
+  pub refused_by_obstacle : (fault : RenewFault) → HasNoneBefore facts 7
+      → IfBagRead facts (λ bag. IsObstacle bag renewal fault) → IsRefusedByFacts facts renewal fault
+  refused_by_obstacle (why.Faulty f) none h = λ deep. (1, λ bag of. absurd (h bag of deep), before_first facts)
+  refused_by_obstacle why.BadValue none h = (none, λ bag of deep. absurd (h bag of deep))
+  refused_by_obstacle why.NoAlgorithm none h = (none, h)
+  refused_by_obstacle (why.InTheWay n) none h = (none, h)
+  refused_by_obstacle (why.Unnameable p) none h = (none, h)
+  refused_by_obstacle why.Version none h = (none, h)
+  refused_by_obstacle why.Fetch none h = (none, h)
+  refused_by_obstacle (why.ReadStopped s) none h = (none, h)
+  refused_by_obstacle why.Memory none h = tt
+  refused_by_obstacle (why.PutRefused n q) none h = (none, h)
+  refused_by_obstacle (why.RemoveRefused n q) none h = (none, h)
+
+  -- an element can't be written
+  pub refused_by_info : (fault : RenewFault) → HasNoneBefore facts 7
+      → IfBagRead facts (λ bag. HasNoObstacle bag renewal)
+      → IfBagRead facts (λ bag. IsInfoRefusal bag renewal (lines_in bag bag_info_txt) fault)
       → IsRefusedByFacts facts renewal fault
-  refused_by_obstacle (why.Faulty f) h = λ deep. (1, λ bag of. absurd (h bag of deep), before_first facts)
-  refused_by_obstacle why.BadValue h = h
-  refused_by_obstacle why.NoAlgorithm h = h
-  refused_by_obstacle (why.InTheWay n) h = h
-  refused_by_obstacle (why.Unnameable p) h = h
-  refused_by_obstacle why.Version h = h
-  refused_by_obstacle why.Fetch h = h
-  refused_by_obstacle (why.ReadStopped s) h = h
-  refused_by_obstacle why.Memory h = h
-  refused_by_obstacle (why.PutRefused n q) h = h
-  refused_by_obstacle (why.RemoveRefused n q) h = h
+  refused_by_info why.BadValue none free h = (none, λ bag of deep. (free bag of deep, h bag of deep))
+  refused_by_info why.Memory none free h = tt
+  refused_by_info (why.Faulty f) none free h = λ deep. (1, λ bag of. absurd (h bag of deep).1, before_first facts)
+  refused_by_info why.NoAlgorithm none free h = (none, λ bag of deep. absurd (h bag of deep).1)
+  refused_by_info (why.InTheWay n) none free h = (none, λ bag of deep. absurd (h bag of deep).1)
+  refused_by_info (why.Unnameable p) none free h = (none, λ bag of deep. absurd (h bag of deep).1)
+  refused_by_info why.Version none free h = (none, λ bag of deep. absurd (h bag of deep).1)
+  refused_by_info why.Fetch none free h = (none, λ bag of deep. absurd (h bag of deep).1)
+  refused_by_info (why.ReadStopped s) none free h = (none, λ bag of deep. absurd (h bag of deep).1)
+  refused_by_info (why.PutRefused n q) none free h = (none, λ bag of deep. absurd (h bag of deep).1)
+  refused_by_info (why.RemoveRefused n q) none free h = (none, λ bag of deep. absurd (h bag of deep).1)
 
   memory_by_stage : (stop : Stop) (fault : RenewFault) → IsOutOfMemory stop → IsRefusalOfStop stop fault
       → IsRefusedByFacts facts renewal fault
-  memory_by_stage stop why.Memory memory is = λ bag of deep. tt
+  memory_by_stage stop why.Memory memory is = tt
   memory_by_stage stop (why.ReadStopped s) memory is = absurd (is.1 memory.0)
   memory_by_stage stop (why.Faulty f) memory is = absurd is
   memory_by_stage stop why.BadValue memory is = absurd is
@@ -211,42 +235,50 @@ module _ (renewal : Renewal) (facts : Facts) (old mid new : TreeState) (options 
       subst (MayRefuseReading renewal old new) (sym is)
       (λ honest. files_refuse facts algs old mid new options of keeps allows.none (checked.Faulty found) faulty honest)
 
+  its_obstacle : (fault : RenewFault)
+      → HasNoneBefore facts 7 × IfBagRead facts (λ bag. IsObstacle bag renewal fault)
+      → IsTrue old.honest → HasNoEarlyFault old.bag × IsObstacle old.bag renewal fault
+  its_obstacle fault h honest =
+      (none_early facts old.bag (of honest) options h.0, h.1 old.bag (of honest) deep)
+
   -- what is known allows no renewal
   pub refused_by_facts : (fault : RenewFault) → IsRefusedByFacts facts renewal fault
       → MayRefuseReading renewal old mid fault
   refused_by_facts (why.Faulty f) h = λ honest.
       stages_refuse facts [] old mid mid options of keeps (checked.Faulty f) (h deep) honest
   refused_by_facts why.Memory h = inr calm
-  refused_by_facts why.BadValue h = absurd (h seen.0 seen.2 deep)
-  refused_by_facts (why.ReadStopped s) h = absurd (h seen.0 seen.2 deep)
-  refused_by_facts (why.PutRefused n q) h = absurd (h seen.0 seen.2 deep)
-  refused_by_facts (why.RemoveRefused n q) h = absurd (h seen.0 seen.2 deep)
-  refused_by_facts why.NoAlgorithm h = λ honest. h old.bag (of honest) deep
-  refused_by_facts (why.InTheWay n) h = λ honest. h old.bag (of honest) deep
-  refused_by_facts (why.Unnameable p) h = λ honest. h old.bag (of honest) deep
-  refused_by_facts why.Version h = λ honest. h old.bag (of honest) deep
-  refused_by_facts why.Fetch h = λ honest. h old.bag (of honest) deep
+  refused_by_facts why.BadValue h = inr (λ honest. let is = h.1 old.bag (of honest) deep in
+      (none_early facts old.bag (of honest) options h.0, is.0, is.1.0, is.1.1))
+  refused_by_facts (why.ReadStopped s) h = absurd (h.1 seen.0 seen.2 deep)
+  refused_by_facts (why.PutRefused n q) h = absurd (h.1 seen.0 seen.2 deep)
+  refused_by_facts (why.RemoveRefused n q) h = absurd (h.1 seen.0 seen.2 deep)
+  refused_by_facts why.NoAlgorithm h = its_obstacle why.NoAlgorithm h
+  refused_by_facts (why.InTheWay n) h = its_obstacle (why.InTheWay n) h
+  refused_by_facts (why.Unnameable p) h = its_obstacle (why.Unnameable p) h
+  refused_by_facts why.Version h = its_obstacle why.Version h
+  refused_by_facts why.Fetch h = its_obstacle why.Fetch h
 
   -- all was read and checked
   module _ (algs : List Alg) (allows : AllowsRenewal facts renewal algs) (with_payload : Bool)
       (reads : (bag : Bag) → IsFactsOf bag facts → with_payload ≡ reads_payload bag renewal)
-      (summed : List SummedFile) (h : HasChecked facts with_payload algs old new summed) where
-    pub has_read_bag : IsBag old.bag → Keeps old new → NothingFailed old new → HasReadBag renewal old new facts summed
+      (summed : List SummedFile) (info : List ℕ) (h : HasChecked facts with_payload algs old new summed info) where
+    pub has_read_bag : IsBag old.bag → Keeps old new → NothingFailed old new
+        → HasReadBag renewal old new facts summed info
     has_read_bag is_bag kept never = record {
       read = record {
         keeps = kept;
         no_failure = never;
         opened = λ honest. subst (λ b. OpensRead b old new) (reads old.bag (of honest))
-            (opens_read facts with_payload algs old new summed h honest);
+            (opens_read facts with_payload algs old new summed info h honest);
         can = λ honest. let free = allows.no_obstacle old.bag (of honest) deep in record {
           is_bag = is_bag;
-          damaged = damaged facts with_payload algs old new summed h honest;
+          damaged = damaged facts with_payload algs old new summed info h honest;
           fetch = free.fetch;
           unmarked = free.unmarked;
           some_alg = free.some_alg;
         };
         valid = λ honest all.
-            none_at_all facts with_payload algs old new summed h honest (reads old.bag (of honest) ∙ all);
+            none_at_all facts with_payload algs old new summed info h honest (reads old.bag (of honest) ∙ all);
         no_obstacle = λ honest. allows.no_obstacle old.bag (of honest) deep;
       };
       options = options;
@@ -256,5 +288,17 @@ module _ (renewal : Renewal) (facts : Facts) (old mid new : TreeState) (options 
           subst (λ some. AreSummed some (files_to_read (reads_payload old.bag renewal) (files_of old.bag)) summed)
           (allows.new old.bag (of honest))
           (subst (λ b. AreSummed algs (files_to_read b (files_of old.bag)) summed) (reads old.bag (of honest))
-          (sums_are facts with_payload algs old new summed h honest));
+          (sums_are facts with_payload algs old new summed info h honest));
+      files = h.checked.files;
+      compared = subst (λ b. AreCompared seen.0 b h.checked.files) (reads seen.0 seen.2)
+          (compared facts with_payload algs old new summed info h seen.0 seen.2);
+      summed_of = λ bag is.
+          subst (λ some. AreSummed some h.checked.files summed) (allows.new bag is) h.checked.sums;
+      info_of = h.checked.info_of;
+      lines = λ honest. info_lines facts with_payload algs old new summed info h honest;
     }
+
+-- for the checking of a whole bag, and of what is known of it
+pub ruleset checking = (nothing_then, stop_of_stages, stages_refuse, files_refuse, has_checked)
+
+pub ruleset refusing = (refused_by_obstacle, refused_by_info)

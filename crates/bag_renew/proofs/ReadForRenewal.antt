@@ -1,9 +1,11 @@
 -- What was read for a renewal, with the metadata that is written.
 use Rattle.bag_renew.proofs.Common.{◌≡◌, ◌≢◌, ◌∙◌, inr, ℕ, List, [], ◌∷◌, Bool, true, false, ◌||◌, Option, None, Some}
-use Rattle.bag_renew.proofs.Common.{refl, sym, ap}
+use Rattle.bag_renew.proofs.Common.{IsTrue, arith, refl, sym, ap, subst}
 use Rattle.bag_renew.proofs.Common.{cond, filter, is_payload_path, list_any, not, new_elements, Bag, File, Renewal}
 use Rattle.bag_renew.proofs.CheckedBag.{all_files}
 use Rattle.bag_renew.specs.Summed.{files_to_read}
+use Rattle.bag_text.specs.Code.{stage}
+use Rattle.bag_text.specs.Lines.{lines_of_file}
 use Rattle.bag_facts.specs.FactsOfBag.{IfBagRead}
 use Rattle.bag_facts.specs.declared.facts.Facts.{Facts}
 use Rattle.bag_facts.specs.declared.options.Depth.TheVariants.{Declaration}
@@ -13,8 +15,8 @@ use Rattle.bag_tags.specs.Element.{NewElement}
 use Rattle.bag_tags.specs.OnLines.{is_bad_long_element, text_on_lines}
 use Rattle.bag_tree.specs.Tree.{TreeState}
 use Rattle.bag_renew.specs.Elements.{has_label}
-use Rattle.bag_renew.specs.NewInfo.{IsInfoRefusal, IsNewInfo}
-use Rattle.bag_renew.specs.Reading.{HasKnownSize, HasReadBag, IsReadForRenewal, MayRefuseReading}
+use Rattle.bag_renew.specs.NewInfo.{IsInfoAfter, IsInfoRefusal, IsNewInfo}
+use Rattle.bag_renew.specs.Reading.{HasKnownSize, HasNoEarlyFault, HasReadBag, IsReadForRenewal, MayRefuseReading}
 use Rattle.bag_renew.specs.Renewed.{writes_info}
 use Rattle.bag_renew.specs.Request.{is_bad_request, is_refused}
 use Rattle.bag_renew.specs.Valid.{HasGoodElements, full}
@@ -49,8 +51,8 @@ good_request changes none = (
       (left_false (list_any is_refused changes.appended) _ (right_false (list_any is_refused changes.set) _ none)),
 )
 
-module _ (renewal : Renewal) (old new : TreeState) (facts : Facts) (summed : List SummedFile)
-    (h : HasReadBag renewal old new facts summed) where
+module _ (renewal : Renewal) (old new : TreeState) (facts : Facts) (summed : List SummedFile) (read : List ℕ)
+    (h : HasReadBag renewal old new facts summed read) where
   pub deep : facts.options.depth ≢ Declaration
   deep e = let at : full.depth ≡ Declaration = sym (ap (λ (o : Options). o.depth) h.options) ∙ e in cc
 
@@ -66,27 +68,43 @@ module _ (renewal : Renewal) (old new : TreeState) (facts : Facts) (summed : Lis
     size = size.size;
   }
 
+  -- of an honest tree it is written of the bag
+  pub new_info : IsTrue old.honest → (info : Option (List ℕ))
+      → IfBagRead facts (λ bag. IsInfoAfter bag renewal (lines_of_file read) info) → IsNewInfo old.bag renewal info
+  new_info honest info is =
+      subst (λ lines. IsInfoAfter old.bag renewal lines info) (h.lines honest) (is old.bag (h.of_bag honest) deep)
+
+  no_early : IsTrue old.honest → HasNoEarlyFault old.bag
+  no_early honest f has early =
+      let seventh : stage f.code ≡ 7 = ap stage ((h.read.can honest).damaged f has) in absurd (omega (arith, seventh, early))
+
   -- the metadata that is written can be
   pub read_for_renewal : (info : Option (List ℕ)) → is_bad_request renewal.elements ≡ false
-      → IfBagRead facts (λ bag. IsNewInfo bag renewal info) → IsReadForRenewal renewal old new
+      → IfBagRead facts (λ bag. IsInfoAfter bag renewal (lines_of_file read) info)
+      → IsReadForRenewal renewal old new
   read_for_renewal info asked is = record {
     bag = h.read;
-    elements = λ honest. good_elements old.bag info asked (is old.bag (h.of_bag honest) deep);
+    elements = λ honest. good_elements old.bag info asked (new_info honest info is);
   }
 
   -- or it can't
-  pub info_refused : (fault : RenewFault) → IsInfoRefusal facts renewal fault → MayRefuseReading renewal old new fault
-  info_refused why.BadValue is = inr (λ honest. is old.bag (h.of_bag honest) deep)
+  pub info_refused : (fault : RenewFault)
+      → IfBagRead facts (λ bag. IsInfoRefusal bag renewal (lines_of_file read) fault)
+      → MayRefuseReading renewal old new fault
+  info_refused why.BadValue is = inr (λ honest.
+      let refused =
+      subst (λ lines. IsInfoRefusal old.bag renewal lines why.BadValue) (h.lines honest)
+      (is old.bag (h.of_bag honest) deep) in (no_early honest, h.read.no_obstacle honest, refused.0, refused.1))
   info_refused why.Memory is = inr h.read.no_failure
-  info_refused (why.Faulty f) is = absurd is
-  info_refused why.NoAlgorithm is = absurd is
-  info_refused (why.InTheWay n) is = absurd is
-  info_refused (why.Unnameable p) is = absurd is
-  info_refused why.Version is = absurd is
-  info_refused why.Fetch is = absurd is
-  info_refused (why.ReadStopped s) is = absurd is
-  info_refused (why.PutRefused n q) is = absurd is
-  info_refused (why.RemoveRefused n q) is = absurd is
+  info_refused (why.Faulty f) is = absurd (is h.seen.0 h.seen.2 deep).1
+  info_refused why.NoAlgorithm is = absurd (is h.seen.0 h.seen.2 deep).1
+  info_refused (why.InTheWay n) is = absurd (is h.seen.0 h.seen.2 deep).1
+  info_refused (why.Unnameable p) is = absurd (is h.seen.0 h.seen.2 deep).1
+  info_refused why.Version is = absurd (is h.seen.0 h.seen.2 deep).1
+  info_refused why.Fetch is = absurd (is h.seen.0 h.seen.2 deep).1
+  info_refused (why.ReadStopped s) is = absurd (is h.seen.0 h.seen.2 deep).1
+  info_refused (why.PutRefused n q) is = absurd (is h.seen.0 h.seen.2 deep).1
+  info_refused (why.RemoveRefused n q) is = absurd (is h.seen.0 h.seen.2 deep).1
 
   -- memory ran out for the changes
   pub changes_refused : MayRefuseReading renewal old new why.Memory

@@ -16,7 +16,8 @@ use Rattle.bag_text.specs.Text.{text_cmp}
 use Rattle.bag_text.specs.declared.rules.Rules.TheVariants.{V10}
 use Rattle.bag_facts.specs.Facts.{IsByV10, rules_in}
 use Rattle.bag_stages.specs.MetadataStage.{bag_info_txt}
-use Rattle.bag_stages.specs.Payload.{oxum, oxum_of_files, oxum_text}
+use Rattle.bag_read.specs.Oxum.{oxum_text}
+use Rattle.bag_stages.specs.Payload.{oxum, oxum_of_files}
 use Rattle.bag_stages.specs.TagFiles.{bagit_txt, lines_in, lines_or_none, manifest_of}
 use Rattle.bag_tags.proofs.LongInfo.{long_info_again}
 use Rattle.bag_tags.specs.Declaration.{declaration_text}
@@ -33,7 +34,7 @@ use Rattle.bag_renew.proofs.AlgsWhere.{passes}
 use Rattle.bag_renew.proofs.BetweenFaults.{IsBetween, no_manifest_begun}
 use Rattle.bag_renew.proofs.Contents.{these_files}
 use Rattle.bag_renew.proofs.ElementsAgain.{renewed_once_only}
-use Rattle.bag_renew.proofs.Found.{content_of, same_option}
+use Rattle.bag_facts.proofs.Found.{content_of, same_option}
 use Rattle.bag_renew.proofs.OnTheWayBegun.{at_manifest, stays_elsewhere, with_begun}
 use Rattle.bag_renew.proofs.OnTheWayFiles.{between, manifest_stays, stays_as_it_was}
 use Rattle.bag_renew.proofs.PayloadFiles.{files_alike, payload_alike}

@@ -33,7 +33,7 @@ use Rattle.bag_renew.specs.Telling.{ArePaths, AreUnmarked, GivesDigests, IsManif
 use Rattle.bag_renew.specs.Telling.{NamesItsFiles, NamesItsPayload, NewManifestsGiveDigests, RenewedNames, is_to_name}
 use Rattle.bag_renew.specs.Telling.{to_name}
 use Rattle.bag_renew.proofs.Contents.{one_stands, these_files}
-use Rattle.bag_renew.proofs.Found.{content_of, found, found_alone, held_at, listed, same_option}
+use Rattle.bag_facts.proofs.Found.{content_of, found, found_alone, held_at, listed, same_option}
 use Rattle.bag_renew.proofs.KeptOr.{kept_or_written, of_v10}
 use Rattle.bag_renew.proofs.Members.{declaration_new, info_listed, info_new, payload_listed, payload_new}
 use Rattle.bag_renew.proofs.Staying.{IsWritten, no_payload_tag, stays_so, written_goes}

@@ -1,21 +1,23 @@
 -- Checking files stopped at one of them, or when out of memory.
-use Rattle.bag_renew.proofs.Common.{◌≡◌, ◌≢◌, ◌<◌, ◌∷◌, inl, inr, ℕ, List, [], length, get_or, All, Contains, sym}
+use Rattle.bag_renew.proofs.Common.{◌≡◌, ◌≢◌, ◌<◌, ◌∷◌, inl, inr, ℕ, List, [], Option, length, get_or, All, Contains, sym}
 use Rattle.bag_renew.proofs.Common.{subst, ◌∙◌, All-contains, All-cons, All-nil, contains_first, mapped_contains}
 use Rattle.bag_facts.proofs.Reading.{later_refusal}
 use Rattle.bag_facts.proofs.Refusing.{came_from, refused_file, told_memory}
 use Rattle.bag_facts.specs.Stops.{MayRefuseFacts}
-use Rattle.bag_facts.specs.TagReader.{IsRefusalOf}
+use Rattle.bag_tree.specs.Stop.{IsRefusalOf}
 use Rattle.bag_facts.specs.Wanted.{paths_of}
 use Rattle.bag_text.proofs.ListOf.{contains_cases, contains_nothing}
-use Rattle.bag_tree.proofs.Calm.{memory_then}
+use Rattle.bag_tree.proofs.Calm.{memory_then, nothing_asked}
 use Rattle.bag_tree.specs.FileReads.{IsEntryOf}
-use Rattle.bag_tree.specs.Tree.{CameFromFile, Keeps, NothingFailed, TreeState}
+use Rattle.bag_tree.specs.Tree.{CameFromFile, Keeps, MayReportMemory, NothingFailed, TreeState}
 use Rattle.bag_tree.specs.Whole.{MayRefuseWhole}
 use Rattle.bag_tree.specs.declared.answer.Answer.TheVariants.{Refused}
 use Rattle.bag_tree.specs.declared.listing.FileEntry.{FileEntry}
 use Rattle.bag_tree.specs.declared.tree_fault.Stop.{Stop}
 use Rattle.bag_tree.specs.declared.tree_fault.TreeFault.{TreeFault}
 use Rattle.bag_tree.specs.declared.tree_fault.TreeFault.TheVariants.{Changed, Memory}
+use Rattle.bag_stages.specs.Expected.{Expected}
+use Rattle.bag_renew.specs.Checked.{DiffersFirst}
 use Rattle.bag_renew.specs.Stops.{StopsAtFile, StopsChecking}
 use Rattle.bag_renew.specs.Summed.{IsNoMemory}
 use Rattle.bag_renew.specs.declared.checked.Unchecked.{Unchecked}
@@ -41,11 +43,19 @@ stops_for_memory files old new (Faulty fault) h no_failure = absurd h
 one_is : (P : FileEntry → Type 0) (entry : FileEntry) → All P (entry ∷ []) → P entry
 one_is P entry all = All-contains P (entry ∷ []) entry all (contains_first entry [])
 
+-- so it does where a file's digests are compared
+pub stop_of_difference : (files : List FileEntry) (old new : TreeState) (path : List ℕ) (expected : List Expected)
+    (sums : List (Option (List ℕ))) (e : Unchecked) → DiffersFirst path expected sums e → NothingFailed old new
+    → StopsChecking files old new e
+stop_of_difference files old new path expected sums (Stopped stop) h no_failure =
+    stop_of_memory files old new stop h.0 h.1 no_failure
+stop_of_difference files old new path expected sums (Faulty fault) h no_failure = tt
+
 -- and so does the refusal of a file
-pub stop_of_refusal : (entry : FileEntry) (old new : TreeState) (cause : TreeFault) (stop : Stop)
-    → MayRefuseWhole old new entry cause → (cause ≢ Changed → new.last ≡ Refused cause)
+pub stop_of_whole : (entry : FileEntry) (old new : TreeState) (cause : TreeFault) (stop : Stop)
+    → MayRefuseWhole old new entry cause → (cause ≡ Memory → MayReportMemory old new)
     → IsRefusalOf cause entry.path stop → StopsAtFile (entry ∷ []) old new stop
-stop_of_refusal entry old new cause stop refused answered (inl (not, same, at)) = record {
+stop_of_whole entry old new cause stop refused told (inl (not, same, at)) = record {
   cause =
       λ are. subst (MayRefuseFacts old new) (sym same)
       (refused_file old new entry cause (λ honest. one_is (IsEntryOf old.bag) entry (are honest)) refused);
@@ -53,13 +63,19 @@ stop_of_refusal entry old new cause stop refused answered (inl (not, same, at)) 
   path = inr (subst (Contains (entry.path ∷ [])) (sym at) (contains_first entry.path []));
   out_of_memory = λ m. absurd (not (sym same ∙ m));
 }
-stop_of_refusal entry old new cause stop refused answered (inr (is, m)) =
+stop_of_whole entry old new cause stop refused told (inr (is, m)) =
     record {
       cause = λ are. rw m.0 tt;
       answered = rw m.0 tt;
       path = inl m;
-      out_of_memory = λ _. told_memory old new cause answered is;
+      out_of_memory = λ _. told is;
     }
+
+pub stop_of_refusal : (entry : FileEntry) (old new : TreeState) (cause : TreeFault) (stop : Stop)
+    → MayRefuseWhole old new entry cause → (cause ≢ Changed → new.last ≡ Refused cause)
+    → IsRefusalOf cause entry.path stop → StopsAtFile (entry ∷ []) old new stop
+stop_of_refusal entry old new cause stop refused answered is =
+    stop_of_whole entry old new cause stop refused (told_memory old new cause answered) is
 
 -- a stop at one of the files is one of the whole
 module _ (files : List FileEntry) (i : ℕ) (entry : FileEntry) (old mid new : TreeState) (lt : i < length files)
@@ -91,3 +107,6 @@ module _ (files : List FileEntry) (i : ℕ) (entry : FileEntry) (old mid new : T
     path = elim h.path [ inl memory ↦ inl memory | inr has ↦ inr (its_path stop.path has) ];
     out_of_memory = λ m. memory_then old mid new no_failure (h.out_of_memory m);
   }
+
+-- for the checking of one file
+pub ruleset stopping = (stop_of_memory, stop_of_refusal, stop_of_whole, stop_of_difference, nothing_asked)

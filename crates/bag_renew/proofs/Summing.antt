@@ -1,6 +1,7 @@
 -- Checking and summing files one after another.
 use Rattle.bag_renew.proofs.Common.{◌≡◌, ◌<◌, ◌≤◌, ◌+◌, ◌++◌, ◌∷◌, ℕ, List, [], length, take, get_or, Some, Contains, refl}
-use Rattle.bag_renew.proofs.Common.{contains_first}
+use Rattle.bag_renew.proofs.Common.{None, Option, contains_back, contains_cases, contains_either, contains_first}
+use Rattle.bag_renew.proofs.Common.{contains_front, contains_nothing, inl, inr, unwrap_or}
 use Rattle.bag_renew.proofs.Common.{sym, ap, ◌∙◌, subst, arith, append_assoc, append-nil, map-append, All-append, All-cons}
 use Rattle.bag_renew.proofs.Common.{All-nil, Alg, file}
 use Rattle.bag_renew.proofs.Common.{Bool, cond, true, false}
@@ -15,15 +16,18 @@ use Rattle.bag_tree.specs.declared.listing.FileEntry.{FileEntry}
 use Rattle.bag_tree.proofs.Calm.{nothing_asked, nothing_then}
 use Rattle.bag_facts.specs.FactsOfBag.{IsFactsOf}
 use Rattle.bag_facts.specs.declared.fault.Fault.{Fault}
+use Rattle.bag_stages.specs.Expected.{Expected}
+use Rattle.bag_stages.specs.MetadataStage.{bag_info_txt}
 use Rattle.bag_stages.specs.ValidityStage.{IsOfValidity}
-use Rattle.bag_stages.specs.declared.expected.Expected.{Expected}
-use Rattle.bag_renew.specs.Checked.{IsUnchecked}
+use Rattle.bag_renew.specs.Checked.{IsKeptOf, IsUnchecked}
 use Rattle.bag_renew.specs.declared.checked.Unchecked.{Unchecked}
 use Rattle.bag_renew.specs.declared.checked.Unchecked.TheVariants.{Faulty, Stopped}
 use Rattle.bag_renew.specs.Renewed.{File}
 use Rattle.bag_renew.specs.Summed.{AreChecked, AreSummed, HasItsSums, IsCheckedFile, IsFaultyFile, IsGivenFor}
-use Rattle.bag_renew.specs.Summed.{IsRight, entry_of_file, is_to_read, to_read}
+use Rattle.bag_renew.specs.Summed.{IsInfoAmong, IsRight, is_to_read, to_read}
+use Rattle.bag_tree.specs.Listing.{entry_of_file}
 use Rattle.bag_renew.specs.declared.summed.SummedFile.{SummedFile}
+use Rattle.bag_renew.proofs.Stopping.{stops_at, stops_for_memory}
 
 summed_more : (algs : List Alg) (files : List File) (summed : List SummedFile) (e : File) (one : SummedFile)
     → AreSummed algs files summed → HasItsSums algs e one
@@ -32,22 +36,42 @@ summed_more algs [] [] e one h s = (s, tt)
 summed_more algs (x ∷ files) (y ∷ summed) e one h s = (h.0, summed_more algs files summed e one h.1 s)
 summed_more algs _ _ e one h s = absurd h
 
+-- the bytes of bag-info.txt among files, with one more
+info_more : (files : List File) (info : List ℕ) (e : File) (kept : Option (List ℕ)) → IsInfoAmong files info
+    → IsKeptOf e.0 e.1 kept → IsInfoAmong (files ++ e ∷ []) (unwrap_or kept info)
+info_more files info e None (inl c) other = inl (contains_front files (e ∷ []) (bag_info_txt, info) c)
+info_more files info e None (inr (none, not)) other =
+    inr (
+      none,
+      λ x c same. elim (contains_either files (e ∷ []) x c) [
+        | inl a ↦ not x a same
+        | inr b ↦ elim (contains_cases e [] x b) [
+          | inl is ↦ other (ap (λ (y : File). y.0) is ∙ same)
+          | inr nothing ↦ contains_nothing x nothing
+        ]
+      ],
+    )
+info_more files info e (Some bytes) so_far (path, same) =
+    inl (subst (Contains (files ++ e ∷ [])) (λ i. (path i, sym same i))
+    (contains_back files (e ∷ []) e (contains_first e [])))
+
 -- the first of the listed files were checked and summed
 pub record ChecksFirst (facts : Facts) (files : List FileEntry) (count : ℕ) (with_payload : Bool) (algs : List Alg)
-    (old new : TreeState) (sums : List SummedFile) : Type 0 where
+    (old new : TreeState) (sums : List SummedFile) (info : List ℕ) : Type 0 where
   pub keeps : Keeps old new
   pub no_failure : NothingFailed old new
   pub opened : new.openings ≡ old.openings ++ paths_of (to_read with_payload (take count files))
-  pub checked : AreChecked old facts (to_read with_payload (take count files)) algs sums
+  pub checked : AreChecked old facts (to_read with_payload (take count files)) algs sums info
 
 pub checks_none : (facts : Facts) (files : List FileEntry) (with_payload : Bool) (algs : List Alg) (old : TreeState)
-    → ChecksFirst facts files 0 with_payload algs old old []
+    → ChecksFirst facts files 0 with_payload algs old old [] []
 checks_none facts files with_payload algs old = record {
   keeps = keeps_itself old;
   no_failure = nothing_asked old;
   opened = sym (append-nil old.openings);
   checked = record {
     files = [];
+    info_of = inr (refl, λ x c. absurd (contains_nothing x c));
     listed = refl;
     right = All-nil (IsRight facts);
     sums = tt;
@@ -56,9 +80,9 @@ checks_none facts files with_payload algs old = record {
 }
 
 module _ (facts : Facts) (files : List FileEntry) (i : ℕ) (entry : FileEntry) (with_payload : Bool) (algs : List Alg)
-    (old mid new : TreeState) (summed : List SummedFile)
+    (old mid new : TreeState) (summed : List SummedFile) (info : List ℕ)
     (lt : i < length files) (is : entry ≡ get_or files i entry)
-    (before : ChecksFirst facts files i with_payload algs old mid summed) where
+    (before : ChecksFirst facts files i with_payload algs old mid summed info) where
   listed_next : (b : Bool) → is_to_read with_payload entry.path ≡ b
       → to_read with_payload (take (i + 1) files) ≡ to_read with_payload (take i files) ++ cond b (entry ∷ []) []
   listed_next b read =
@@ -68,29 +92,30 @@ module _ (facts : Facts) (files : List FileEntry) (i : ℕ) (entry : FileEntry) 
 
   -- a file isn't read
   pub passes_over : is_to_read with_payload entry.path ≡ false
-      → ChecksFirst facts files (i + 1) with_payload algs old mid summed
+      → ChecksFirst facts files (i + 1) with_payload algs old mid summed info
   passes_over other =
       let same = listed_next false other ∙ append-nil (to_read with_payload (take i files)) in record {
         keeps = before.keeps;
         no_failure = before.no_failure;
         opened = before.opened ∙ ap (λ xs. old.openings ++ paths_of xs) (sym same);
-        checked = subst (λ xs. AreChecked old facts xs algs summed) (sym same) before.checked;
+        checked = subst (λ xs. AreChecked old facts xs algs summed info) (sym same) before.checked;
       }
 
 module _ (facts : Facts) (files : List FileEntry) (i : ℕ) (entry : FileEntry) (with_payload : Bool) (algs : List Alg)
-    (old mid new : TreeState) (summed : List SummedFile)
+    (old mid new : TreeState) (summed : List SummedFile) (info : List ℕ)
     (lt : i < length files) (is : entry ≡ get_or files i entry)
-    (before : ChecksFirst facts files i with_payload algs old mid summed)
+    (before : ChecksFirst facts files i with_payload algs old mid summed info)
     (read : is_to_read with_payload entry.path ≡ true) where
   next : to_read with_payload (take (i + 1) files) ≡ to_read with_payload (take i files) ++ entry ∷ []
-  next = listed_next facts files i entry with_payload algs old mid new summed lt is before true read
+  next = listed_next facts files i entry with_payload algs old mid new summed info lt is before true read
 
-  added : (one : SummedFile) → IsCheckedFile mid facts entry algs one
-      → AreChecked old facts (to_read with_payload (take (i + 1) files)) algs (summed ++ one ∷ [])
-  added one e =
+  added : (one : SummedFile) (kept : Option (List ℕ)) → IsCheckedFile mid facts entry algs one kept
+      → AreChecked old facts (to_read with_payload (take (i + 1) files)) algs (summed ++ one ∷ []) (unwrap_or kept info)
+  added one kept e =
       let so_far = before.checked in
       let last : File = (entry.path, e.content) in record {
         files = so_far.files ++ last ∷ [];
+        info_of = info_more so_far.files info last kept so_far.info_of e.kept_of;
         listed =
             map-append entry_of_file so_far.files (last ∷ [])
             ∙ (λ j. so_far.listed j ++ record { path = entry.path; size = e.size j } ∷ []) ∙ sym next;
@@ -103,16 +128,16 @@ module _ (facts : Facts) (files : List FileEntry) (i : ℕ) (entry : FileEntry) 
             (All-nil (λ (x : File). file old.bag x.0 ≡ Some x.1)));
       }
 
-  opened_more : new.openings ≡ mid.openings ++ entry.path ∷ []
+  pub opened_more : new.openings ≡ mid.openings ++ entry.path ∷ []
       → new.openings ≡ old.openings ++ paths_of (to_read with_payload (take (i + 1) files))
   opened_more once = grind (arith, append_assoc, next, map-append)
 
   -- one more was
-  pub checks_one_more : (after : List SummedFile) (one : SummedFile) → after ≡ summed ++ one ∷ [] → Keeps mid new
-      → NothingFailed mid new
-      → new.openings ≡ mid.openings ++ entry.path ∷ [] → IsCheckedFile mid facts entry algs one
-      → ChecksFirst facts files (i + 1) with_payload algs old new after
-  checks_one_more after one e k no_failure once s = grind (arith, keeps_on, nothing_then, opened_more, added)
+  pub checks_one_more : (after : List SummedFile) (one : SummedFile) (kept : Option (List ℕ))
+      → after ≡ summed ++ one ∷ [] → Keeps mid new → NothingFailed mid new
+      → new.openings ≡ mid.openings ++ entry.path ∷ [] → IsCheckedFile mid facts entry algs one kept
+      → ChecksFirst facts files (i + 1) with_payload algs old new after (unwrap_or kept info)
+  checks_one_more after one kept e k no_failure once s = grind (arith, keeps_on, nothing_then, opened_more, added)
 
 -- a file was found to have another digest, or was refused
 module _ (facts : Facts) (state : TreeState) where
@@ -133,11 +158,25 @@ module _ (facts : Facts) (state : TreeState) where
 
 -- all were gone through
 module _ (facts : Facts) (files : List FileEntry) (count : ℕ) (with_payload : Bool) (algs : List Alg)
-    (old new : TreeState) (summed : List SummedFile)
-    (le : length files ≤ count) (all : ChecksFirst facts files count with_payload algs old new summed) where
+    (old new : TreeState) (summed : List SummedFile) (info : List ℕ)
+    (le : length files ≤ count) (all : ChecksFirst facts files count with_payload algs old new summed info) where
   pub opens_all : new.openings ≡ old.openings ++ paths_of (to_read with_payload files)
   opens_all = all.opened ∙ ap (λ xs. old.openings ++ paths_of (to_read with_payload xs)) (take_all count files le)
 
-  pub checks_all : AreChecked old facts (to_read with_payload files) algs summed
+  pub checks_all : AreChecked old facts (to_read with_payload files) algs summed info
   checks_all =
-      subst (λ xs. AreChecked old facts (to_read with_payload xs) algs summed) (take_all count files le) all.checked
+      subst (λ xs. AreChecked old facts (to_read with_payload xs) algs summed info) (take_all count files le) all.checked
+
+-- for the checking of files, and of one of them
+pub ruleset summing = (
+  stops_for_memory,
+  stops_at,
+  nothing_then,
+  checks_none,
+  checks_one_more,
+  opens_all,
+  checks_all,
+  faulty_before,
+)
+
+pub ruleset summing_one = (stops_for_memory, nothing_asked, faulty_file)

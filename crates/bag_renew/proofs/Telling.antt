@@ -21,7 +21,7 @@ use Rattle.bag_stages.specs.TagFiles.{HasSupported, Names, lines_or_none, manife
 use Rattle.bag_stages.specs.ValidityStage.{Differs, IsEntryIn, IsOfValidity, ValidityHolds}
 use Rattle.bag_renew.specs.Telling.{BagsThatNameTheirFilesAreComplete, BagsThatTellTheirFilesAreValid, GivesDigests}
 use Rattle.bag_renew.specs.Telling.{NamesItsFiles, TellsItsFiles, is_to_name}
-use Rattle.bag_renew.proofs.Found.{content_of}
+use Rattle.bag_facts.proofs.Found.{content_of}
 use Rattle.bag_renew.proofs.TagNames.{named_so}
 
 pub no_line : (k : ℕ) (line : List ℕ) → slice_get {X = List ℕ} [] k ≡ Some line → ⊥
@@ -68,7 +68,7 @@ module _ (bag : Bag) (names : NamesItsFiles bag) where
 
     manifest_holds : (code : Code) → ManifestHolds bag f code → ⊥
     unfolding ManifestHolds
-    manifest_holds PayloadManifestNotListed (ruled, alg, other, at, has, held, unnamed) =
+    manifest_holds PayloadManifestNotListed (alg, other, at, ruled, has, held, unnamed) =
         let m = names.known Payload other held in
         let path : manifest_name Payload other ≡ tag_path (Manifest Payload m.0) = ap (manifest_name Payload) m.1 in
         unnamed (there_named Tag alg (manifest_name Payload other) has held.1
@@ -101,7 +101,7 @@ module _ (bag : Bag) (names : NamesItsFiles bag) where
   pub none_differs : (f : Fault) (kind : Kind)
       → ((alg : Alg) (text : List ℕ) → file bag (manifest_of kind alg) ≡ Some text → GivesDigests bag kind alg text)
       → Differs bag f kind → ⊥
-  none_differs f kind right (alg, entry, content, is, held, other, at) =
+  none_differs f kind right (alg, entry, content, at, is, held, other) =
       let t = text_of_entry bag kind alg entry is in
       other (right alg t.0 t.1 entry content
       (subst (λ rules. IsEntry rules kind alg (lines_of_file t.0) entry) names.rules t.2) held)

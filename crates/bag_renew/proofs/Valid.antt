@@ -52,7 +52,7 @@ use Rattle.bag_renew.specs.Valid.{CanRenew, HasGoodInfo, IsFaultOf, IsOldDamage}
 use Rattle.bag_renew.specs.Valid.{RenewedHasOldFaults, RenewedIsValid, full}
 use Rattle.bag_renew.proofs.AlgsWhere.{passes}
 use Rattle.bag_renew.proofs.Contents.{these_files}
-use Rattle.bag_renew.proofs.Found.{same_option}
+use Rattle.bag_facts.proofs.Found.{same_option}
 use Rattle.bag_renew.proofs.KeptOr.{kept_or_written, of_v10}
 use Rattle.bag_renew.proofs.OldBag.{fetched, has_data, known, names_its_payload, no_declaration_fault, no_fetch_fault}
 use Rattle.bag_renew.proofs.OldBag.{old_text}
@@ -264,12 +264,12 @@ module _ (bag : Bag) (renewal : Renewal) (can : CanRenew bag renewal) (info : Ha
                   alg,
                   entry,
                   content,
+                  at,
                   subst (λ o. IsEntry (rules_in bag) Payload alg (lines_or_none o) entry) (sym there_too)
                       (subst (λ rules. IsEntry rules Payload alg (lines_of_file text) entry)
                       (sym (of_v10 bag path new was.0)) is),
                   sym (same_file bag renewal entry.path of_it) ∙ held,
                   other,
-                  at,
                 ),
                 (
                   alg,
@@ -281,7 +281,7 @@ module _ (bag : Bag) (renewal : Renewal) (can : CanRenew bag renewal) (info : Ha
         ]
 
     payload_differs : Differs now f Payload → OldDiffers
-    payload_differs (alg, entry, content, is, held, other, at) =
+    payload_differs (alg, entry, content, at, is, held, other) =
         let t = text_of_entry now Payload alg entry is in
         differs_by alg entry content t.0 t.1
         (subst (λ rules. IsEntry rules Payload alg (lines_of_file t.0) entry) names.rules t.2) held other at

@@ -1,23 +1,25 @@
 -- What renewing a bag promises follows from what reading it and changing its files promise.
 use Rattle.bag_renew.proofs.Common.{arith, ◌≡◌, ◌≤◌, ◌++◌, ◌∷◌, ◌∙◌, inl, inr, ℕ, true, false, IsTrue, List, [], refl, sym}
 use Rattle.bag_renew.proofs.Common.{ap, subst, append-nil, false≢true, Bag, FileChange, Put, Remove, Renewal, begun_file}
-use Rattle.bag_renew.proofs.Common.{after_changes, changes, renewed, writes_info, HasKnownManifests, IsOutOfTheWay}
+use Rattle.bag_renew.proofs.Common.{after_changes, changes, renewed, IsOutOfTheWay}
 use Rattle.bag_renew.proofs.CanChange.{changes_can_be_made}
 use Rattle.bag_renew.proofs.ChangesRenew.{changes_renew}
 use Rattle.bag_renew.proofs.GoodInfo.{good_elements_are_good_info}
 use Rattle.bag_renew.proofs.OldBag.{known}
 use Rattle.bag_renew.proofs.Valid.{renewed_has_old_faults}
-use Rattle.std.specs.Prelude.{Result, Ok, Err, IfErr, OnOk, MatchResult}
+use Rattle.std.specs.Prelude.{Result, Ok, Err, IfErr, OnOk}
 use Rattle.bag_facts.specs.Facts.{IsByV10}
 use Rattle.bag_facts.specs.declared.fault.Fault.{Fault}
-use Rattle.bag_tree.specs.ChangeFiles.{HasChanged, HasStopped, LastsChanged, LeavesChange, OutlastsChanges}
-use Rattle.bag_tree.specs.Cut.{EachCut, IsDurableAs, LeavesOnly, MayLeave}
+use Rattle.bag_tree.specs.ChangeFiles.{HasChanged, LastsChanged, LeavesChange, OutlastsChanges}
+use Rattle.bag_tree.specs.Cut.{EachCut, LeavesOnly, MayLeave}
 use Rattle.bag_tree.specs.FileChanges.{CanChangeAll, IsAfterFirst}
 use Rattle.bag_tree.specs.Tree.{Keeps, TreeState}
 use Rattle.bag_tree.specs.declared.event.DeviceEvent.{DeviceEvent}
+use Rattle.bag_renew.proofs.Openings.{for_renewal_still}
+use Rattle.bag_renew.specs.Openings.{OpensBefore, OpensForRenewal}
 use Rattle.bag_renew.specs.Reading.{HasKnownSize, MayRefuseReading}
 use Rattle.bag_renew.specs.OnTheWay.{CanRenewInPlace}
-use Rattle.bag_renew.specs.Renew.{HasBegun, HasNoNewFault, HasPlanned, HasRenewed, HasStoppedAt, IsRenewal, MayRefuseRenewing, told_as}
+use Rattle.bag_renew.specs.Renew.{HasNoNewFault, HasPlanned, HasStoppedAt, IsRenewal, MayRefuseRenewing, told_as}
 use Rattle.bag_renew.specs.Request.{is_bad_request}
 use Rattle.bag_renew.specs.Valid.{HasGoodInfo, IsFaultOf, IsOldDamage}
 use Rattle.bag_renew.proofs.OnTheWay.{each_cut_has_old_faults}
@@ -27,15 +29,19 @@ use Rattle.bag_renew.specs.declared.fault.RenewFault.TheVariants as why
 -- ---- what a change that was refused leaves of the rest
 
 abbrev IsAsBefore : TreeState → TreeState → Type 0
-IsAsBefore old new = (new.honest ≡ old.honest) × (old.failures ≤ new.failures) × (new.noted ≡ old.noted)
+IsAsBefore old new =
+    (new.honest ≡ old.honest) × (old.failures ≤ new.failures) × (new.noted ≡ old.noted) × (new.openings ≡ old.openings)
 
 left_so : (beside : List ℕ) (change : FileChange) (old new : TreeState) → LeavesChange beside change old new
     → IsAsBefore old new
-left_so beside (Put name bytes) old new (inl same) = (same.keeps.honest, same.keeps.failures, same.keeps.noted)
-left_so beside (Put name bytes) old new (inr (inl part)) = (part.begun.honest, part.begun.failures, part.begun.noted)
-left_so beside (Put name bytes) old new (inr (inr done)) = (done.honest, done.failures, done.noted)
-left_so beside (Remove name) old new (inl same) = (same.keeps.honest, same.keeps.failures, same.keeps.noted)
-left_so beside (Remove name) old new (inr done) = (done.honest, done.failures, done.noted)
+left_so beside (Put name bytes) old new (inl same) =
+    (same.keeps.honest, same.keeps.failures, same.keeps.noted, same.openings)
+left_so beside (Put name bytes) old new (inr (inl part)) =
+    (part.begun.honest, part.begun.failures, part.begun.noted, part.begun.openings)
+left_so beside (Put name bytes) old new (inr (inr done)) = (done.honest, done.failures, done.noted, done.openings)
+left_so beside (Remove name) old new (inl same) =
+    (same.keeps.honest, same.keeps.failures, same.keeps.noted, same.openings)
+left_so beside (Remove name) old new (inr done) = (done.honest, done.failures, done.noted, done.openings)
 
 -- ---- where nothing was asked of the device
 
@@ -78,8 +84,9 @@ module _ (renewal : Renewal) (old new : TreeState) where
 
   pub refused_before : (fault : RenewFault) → Keeps old new
       → (is_bad_request renewal.elements ≡ true → new ≡ old)
-      → MayRefuseReading renewal old new fault → IsRenewal renewal old new (Err fault)
-  refused_before fault keeps untouched h = record {
+      → MayRefuseReading renewal old new fault → OpensForRenewal renewal old new → OpensBefore old new fault
+      → IsRenewal renewal old new (Err fault)
+  refused_before fault keeps untouched h opens before = record {
     honest = keeps.honest;
     failures = keeps.failures;
     noted = keeps.noted;
@@ -87,6 +94,8 @@ module _ (renewal : Renewal) (old new : TreeState) where
     is_renewed = tt;
     valid = tt;
     refused = told_before fault keeps h;
+    opens = opens;
+    opens_before = before;
     any_moment = λ honest noted way.
         nothing_asked (IsAfterFirst begun_file (changes old.bag renewal) old.bag) old.bag old.trail new.trail
         (none_made (changes old.bag renewal) old.bag) keeps.trail;
@@ -98,7 +107,7 @@ module _ (renewal : Renewal) (old new : TreeState) where
 -- ---- and one whose files were changed
 
 module _ (renewal : Renewal) (old read new : TreeState) (planned : List FileChange)
-    (plan : HasPlanned renewal old read planned) where
+    (plan : HasPlanned renewal old read planned) (opens : OpensForRenewal renewal old read) where
   keeps : Keeps old read
   keeps = plan.read.bag.keeps
 
@@ -175,6 +184,8 @@ module _ (renewal : Renewal) (old read new : TreeState) (planned : List FileChan
     };
     valid = λ honest way size. its_faults honest way changed size;
     refused = tt;
+    opens = for_renewal_still renewal old read new opens changed.openings;
+    opens_before = tt;
     any_moment = λ honest noted way. at_any_moment honest way noted outlasts;
     no_new_fault = λ honest noted way rules size. no_new_one honest way noted rules size outlasts;
     lasting = λ honest noted way. lasts honest way noted lasting;
@@ -190,6 +201,13 @@ module _ (renewal : Renewal) (old read new : TreeState) (planned : List FileChan
       never (Put name bytes) same = cc
       never (Remove name) same = cc
 
+  none_before_it : (fault : RenewFault) → HasStoppedAt planned read new fault → OpensBefore old new fault
+  none_before_it fault h = by_change h.change h.told
+    where
+      by_change : (change : FileChange) → fault ≡ told_as change h.refused.cause → OpensBefore old new fault
+      by_change (Put name bytes) same = subst (OpensBefore old new) (sym same) (λ before. absurd before)
+      by_change (Remove name) same = subst (OpensBefore old new) (sym same) (λ before. absurd before)
+
   pub one_refused : (fault : RenewFault) → HasStoppedAt planned read new fault
       → OutlastsChanges begun_file planned read new → IsRenewal renewal old new (Err fault)
   one_refused fault h outlasts =
@@ -202,6 +220,8 @@ module _ (renewal : Renewal) (old read new : TreeState) (planned : List FileChan
         is_renewed = tt;
         valid = tt;
         refused = told_stopped fault h;
+        opens = for_renewal_still renewal old read new opens (left.3 ∙ so_far.openings);
+        opens_before = none_before_it fault h;
         any_moment = λ honest noted way. at_any_moment honest way noted outlasts;
         no_new_fault = λ honest noted way rules size. no_new_one honest way noted rules size outlasts;
         lasting = tt;

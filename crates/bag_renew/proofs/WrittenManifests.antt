@@ -1,4 +1,4 @@
--- The payload manifests that are put are those of the payload that was summed.
+-- The payload manifests that are put are those of the payload that was read.
 use Rattle.bag_renew.proofs.Common.{arith, ◌≡◌, ◌&&◌, ◌∷◌, ◌∙◌, inl, inr, ℕ, Bool, true, false, cond, not, List, []}
 use Rattle.bag_renew.proofs.Common.{Option, None, Some, map, filter, refl, sym, ap, subst, Contains}
 use Rattle.bag_renew.proofs.Common.{contains_behind, contains_first, any_from, algs, is_payload_path}
@@ -13,13 +13,12 @@ use Rattle.bag_renew.proofs.AlgsMade.{any_where, has_member_where}
 use Rattle.bag_renew.proofs.AlgsWhere.{alg_in, passes}
 use Rattle.bag_renew.proofs.KeptOr.{kept_or_written}
 use Rattle.bag_renew.proofs.Passing.{same_where}
-use Rattle.bag_renew.proofs.SummedFiles.{filter_within, passing_summed}
-use Rattle.bag_renew.specs.Composing.{AreSummedFor, of_path}
+use Rattle.bag_renew.proofs.SummedFiles.{filter_within}
 use Rattle.bag_renew.specs.Composing.{tag_manifests_of, written_algs}
-use Rattle.bag_renew.specs.NewManifests.{manifests_of, summed_entry}
+use Rattle.bag_renew.specs.NewManifests.{manifests_for, summed_entry}
 use Rattle.bag_renew.specs.Renewed.{algs_where, entries_of, is_kept_alg, reads_payload}
 use Rattle.bag_renew.specs.NewInfo.{IsNewInfo}
-use Rattle.bag_renew.specs.Summed.{AreSummed, files_to_read, is_to_read}
+use Rattle.bag_renew.specs.Summed.{AreSummed, files_to_read, is_to_read, payload_of}
 use Rattle.bag_renew.specs.declared.summed.SummedFile.{SummedFile}
 
 -- what a manifest says of files with their digests
@@ -116,35 +115,33 @@ module _ (bag : Bag) (renewal : Renewal) where
       ∙ any_from (λ alg. is_new_alg bag renewal alg && not (is_kept_alg bag renewal alg)) algs alg (each_is_listed alg)
       (both_by (is_new_alg bag renewal alg) (is_kept bag (path_of alg)) ∙ is)
 
-  -- ---- the manifests that are put
+  -- ---- the manifests that are put, of the files that are read
 
-  module _ (summed : List SummedFile) (are : AreSummedFor bag renewal summed) where
-    abbrev of_payload : List SummedFile
-    of_payload = filter (of_path is_payload_path) summed
+  abbrev read_files : List File
+  read_files = files_to_read (reads_payload bag renewal) (files_of bag)
 
-    payload_summed : reads_payload bag renewal ≡ true → AreSummed (new_algs bag renewal) (payload bag) of_payload
-    payload_summed read =
-        let with_payload = reads_payload bag renewal in
-        subst (λ files. AreSummed (new_algs bag renewal) files of_payload)
-        (filter_within (λ (e : File). is_payload_path e.0) (λ e. is_to_read with_payload e.0) (λ e is.
-        or_left with_payload (not (is_payload_path e.0)) read) (files_of bag))
-        (passing_summed (new_algs bag renewal) is_payload_path (files_to_read with_payload (files_of bag)) summed are)
+  payload_read : reads_payload bag renewal ≡ true → payload_of read_files ≡ payload bag
+  payload_read read =
+      filter_within (λ (e : File). is_payload_path e.0) (λ e. is_to_read (reads_payload bag renewal) e.0) (λ e is.
+      or_left (reads_payload bag renewal) (not (is_payload_path e.0)) read) (files_of bag)
 
-    summed_manifest : (alg : Alg) → Contains (algs_where is_written) alg
-        → ◌≡◌ {A = File} (path_of alg, manifest_text (map (summed_entry alg) of_payload)) (new_manifest alg)
-    summed_manifest alg has =
-        let read = reads_where_written alg (passes is_written alg has) in
-        let new : Contains (new_algs bag renewal) alg = alg_in (is_new_alg bag renewal) alg (written_new alg has) in
-        λ i. (
-          path_of alg,
-          manifest_text (entries_are (new_algs bag renewal) alg new (payload bag) of_payload
-              (payload_summed read) i),
-        )
+  read_manifest : (alg : Alg) → Contains (algs_where is_written) alg
+      → ◌≡◌ {A = File} (path_of alg, manifest alg (payload_of read_files)) (new_manifest alg)
+  read_manifest alg has =
+      let read = reads_where_written alg (passes is_written alg has) in
+      λ i. (path_of alg, manifest alg (payload_read read i))
 
-    pub manifests_put : manifests_of (written_algs bag renewal) of_payload ≡ unkept bag (payload_manifests bag renewal)
-    manifests_put =
-        ap (λ some. manifests_of some of_payload) written_are
-        ∙ mapped_alike {B = File} _ new_manifest (algs_where is_written) summed_manifest ∙ sym unkept_are
+  pub manifests_put : manifests_for (written_algs bag renewal) (payload_of read_files)
+      ≡ unkept bag (payload_manifests bag renewal)
+  manifests_put =
+      ap (λ some. manifests_for some (payload_of read_files)) written_are
+      ∙ mapped_alike {B = File} _ new_manifest (algs_where is_written) read_manifest ∙ sym unkept_are
+
+  -- each is of a new algorithm
+  pub written_is_new : (alg : Alg) → Contains (written_algs bag renewal) alg → Contains (new_algs bag renewal) alg
+  written_is_new alg has =
+      alg_in (is_new_alg bag renewal) alg
+      (written_new alg (subst (λ (some : List Alg). Contains some alg) written_are has))
 
   -- ---- and the metadata
 

@@ -33,7 +33,7 @@ use Rattle.bag_renew.specs.Renewed.{entries_of}
 use Rattle.bag_renew.specs.Telling.{ArePaths, AreUnmarked, GivesDigests, IsManifestOf, NamesAll, WrittenManifestsTell}
 use Rattle.bag_renew.specs.Telling.{is_to_name, paths_named, to_name}
 use Rattle.bag_renew.proofs.Digests.{good_digest}
-use Rattle.bag_renew.proofs.Found.{content_of, held_at, listed}
+use Rattle.bag_facts.proofs.Found.{content_of, held_at, listed}
 use Rattle.bag_renew.proofs.Places.{at_place, place_of}
 
 -- the paths of an ordered list ascend

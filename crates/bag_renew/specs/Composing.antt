@@ -2,6 +2,7 @@
 use Rattle.std.specs.Prelude.{ℕ, ◌||◌, ◌&&◌, Bool, not, List, [], ◌∷◌, ◌++◌, Option, bytes_eq}
 use Rattle.std.specs.Prelude.{All, map, if◌then◌else◌}
 use Rattle.std.specs.List.{list_any}
+use Rattle.bag_text.specs.Bytes.{Path}
 use Rattle.bag_text.specs.AlgList.{has_member}
 use Rattle.bag_text.specs.Path.{is_payload_path}
 use Rattle.bag_text.specs.declared.alg.Alg.{Alg}
@@ -11,7 +12,7 @@ use Rattle.bag_read.specs.declared.kind.Kind.TheVariants.{Payload, Tag}
 use Rattle.bag_read.specs.declared.tag_name.TagName.{TagName}
 use Rattle.bag_read.specs.declared.tag_name.TagName.TheVariants.{Declaration, Info, Manifest}
 use Rattle.bag_tags.specs.Entry.{manifest_text}
-use Rattle.bag_tree.specs.Bag.{Bag, files_of}
+use Rattle.bag_tree.specs.Bag.{Bag}
 use Rattle.bag_tree.specs.ChangeFiles.{IsOfFile}
 use Rattle.bag_tree.specs.declared.file_change.FileChange.{FileChange}
 use Rattle.bag_tree.specs.declared.file_change.FileChange.TheVariants.{Put, Remove}
@@ -19,8 +20,8 @@ use Rattle.bag_renew.specs.Changes.{unkept}
 use Rattle.bag_renew.specs.NewManifests.{summed_entry}
 use Rattle.bag_renew.specs.Renewed.{File, algs_where, begun_file, declaration_file, in_path_order}
 use Rattle.bag_renew.specs.Renewed.{info_files, is_kept, is_kept_alg, new_algs, payload_manifests}
-use Rattle.bag_renew.specs.Renewed.{reads_payload, stays, writes_info}
-use Rattle.bag_renew.specs.Summed.{AreSummed, files_to_read}
+use Rattle.bag_renew.specs.Renewed.{stays, writes_info}
+use Rattle.bag_renew.specs.Summed.{AreSummed}
 use Rattle.bag_renew.specs.declared.renewal.Renewal.{Renewal}
 use Rattle.bag_renew.specs.declared.summed.SummedFile.{SummedFile}
 
@@ -36,7 +37,7 @@ abbrev pub of_path : (List ℕ → Bool) → SummedFile → Bool
 of_path test one = test one.path
 
 -- a path that isn't one of the payload
-abbrev pub is_tag_path : List ℕ → Bool
+abbrev pub is_tag_path : Path → Bool
 is_tag_path path = not (is_payload_path path)
 
 -- these digests are of these files in the order of their paths
@@ -65,7 +66,7 @@ tag_manifests_of algs files =
     map (λ alg. Put (tag_path (Manifest Tag alg)) (manifest_text (map (summed_entry alg) files))) algs
 
 -- the file of this name stays, or is one whose bytes are kept
-abbrev pub keeps_bytes : List TagName → List ℕ → Bool
+abbrev pub keeps_bytes : List TagName → Path → Bool
 keeps_bytes kept path = stays path || list_any (λ name. bytes_eq (tag_path name) path) kept
 
 -- the declaration, where it is put, which is after manifests are dropped
@@ -73,13 +74,6 @@ abbrev pub last_files : Bag → List File
 last_files bag = unkept bag (declaration_file bag ∷ [])
 
 module _ (bag : Bag) (renewal : Renewal) where
-  -- these are the files that a renewal reads, in path order, each with its digests by all new
-  -- algorithms: the tag files, and the payload where it is read
-  abbrev pub AreSummedFor : List SummedFile → Type 0
-  AreSummedFor summed =
-      AreSummed (new_algs bag renewal) (files_to_read (reads_payload bag renewal) (files_of bag))
-      summed
-
   -- the tag files whose names a renewal writes, and that are kept
   abbrev pub kept_names : List TagName
   kept_names =

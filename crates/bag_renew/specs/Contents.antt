@@ -1,5 +1,6 @@
 -- What stands in the renewed bag, path by path.
 use Rattle.std.specs.Prelude.{ℕ, ◌≡◌, ◌⊎◌, ◌↔◌, true, List, Some, Contains, if◌then◌else◌}
+use Rattle.bag_text.specs.Bytes.{Content, Path}
 use Rattle.bag_text.specs.Path.{is_payload_path}
 use Rattle.bag_read.specs.ManifestName.{tag_path}
 use Rattle.bag_read.specs.declared.kind.Kind.TheVariants.{Payload, Tag}
@@ -14,13 +15,13 @@ use Rattle.bag_renew.specs.Renewed.{renewed, stays, writes_info}
 use Rattle.bag_renew.specs.declared.renewal.Renewal.{Renewal}
 
 -- a file of the bag that stays: one of the payload, or a tag file that isn't written anew
-abbrev pub IsOld : Bag → List ℕ → List ℕ → Type 0
+abbrev pub IsOld : Bag → Path → Content → Type 0
 IsOld bag path content =
     (file bag path ≡ Some content) × ((is_payload_path path ≡ true) ⊎ (stays path ≡ true))
 
 module _ (bag : Bag) (renewal : Renewal) where
   -- the bytes of a file that is kept, else these
-  abbrev pub IsKeptOr : List ℕ → List ℕ → List ℕ → Type 0
+  abbrev pub IsKeptOr : Path → List ℕ → List ℕ → Type 0
   IsKeptOr path new text = text ≡ kept_or bag path new
 
   -- the text of a tag file whose name a renewal writes (2.1.1, 2.1.3, 2.2.1 and 2.2.2); fetch.txt
@@ -38,15 +39,15 @@ module _ (bag : Bag) (renewal : Renewal) where
       Contains (new_algs bag renewal) alg
       × (text ≡ manifest alg (named_tag_files bag renewal))
 
-  abbrev pub IsNew : List ℕ → List ℕ → Type 0
+  abbrev pub IsNew : Path → List ℕ → Type 0
   IsNew path text = (name : TagName) × (path ≡ tag_path name) × IsNewText name text
 
   -- a file of the renewed bag, with its bytes
-  abbrev pub Stands : List ℕ → List ℕ → Type 0
+  abbrev pub Stands : Path → Content → Type 0
   Stands path content = IsOld bag path content ⊎ IsNew path content
 
 -- the law: these files stand in the renewed bag, and no others
 abbrev pub RenewedHasTheseFiles : Type 0
 RenewedHasTheseFiles =
-    (bag : Bag) (renewal : Renewal) (path content : List ℕ)
+    (bag : Bag) (renewal : Renewal) (path : Path) (content : Content)
     → (file (renewed bag renewal) path ≡ Some content) ↔ Stands bag renewal path content

@@ -3,6 +3,7 @@ use Rattle.std.specs.Prelude.{ℕ, ◌+◌, ◌&&◌, Bool, true, false, not, Li
 use Rattle.std.specs.Prelude.{drop, filter, length, map, take_while, if◌then◌else◌}
 use Rattle.std.specs.List.{enumerate_from, list_any}
 use Rattle.bag_text.specs.Text.{same_label}
+use Rattle.bag_text.specs.declared.rules.Rules.{Rules}
 use Rattle.bag_read.specs.InfoReader.{elements}
 use Rattle.bag_facts.specs.Facts.{rules_in}
 use Rattle.bag_tree.specs.Bag.{Bag}
@@ -11,11 +12,14 @@ use Rattle.bag_stages.specs.MetadataStage.{bag_info_txt, oxum_label}
 use Rattle.bag_stages.specs.TagFiles.{lines_in}
 use Rattle.bag_renew.specs.declared.renewal.ElementChanges.{ElementChanges}
 
--- the elements that a bag has, in their order
+-- the elements on the lines of a bag-info.txt, in their order
+abbrev pub elements_on : Rules → List (List ℕ) → List NewElement
+elements_on rules lines =
+    map {B = NewElement} (λ e. (e.label, e.value)) (elements rules (enumerate_from 1 lines))
+
+-- the elements that a bag has
 abbrev pub elements_of : Bag → List NewElement
-elements_of bag =
-    map {B = NewElement} (λ e. (e.label, e.value))
-    (elements (rules_in bag) (enumerate_from 1 (lines_in bag bag_info_txt)))
+elements_of bag = elements_on (rules_in bag) (lines_in bag bag_info_txt)
 
 -- labels are compared ignoring ASCII case
 abbrev pub has_label : List ℕ → NewElement → Bool

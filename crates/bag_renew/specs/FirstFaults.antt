@@ -3,7 +3,7 @@ use Rattle.std.specs.Prelude.{ℕ, ◌≡◌, ◌<◌, None}
 use Rattle.bag_text.specs.Code.{stage}
 use Rattle.bag_tree.specs.Bag.{Bag}
 use Rattle.bag_facts.specs.FactsOfBag.{IsFactsOf}
-use Rattle.bag_facts.specs.Stops.{IsOutOfMemory}
+use Rattle.bag_tree.specs.Stop.{IsOutOfMemory}
 use Rattle.bag_facts.specs.declared.facts.Facts.{Facts}
 use Rattle.bag_facts.specs.declared.fault.Fault.{Fault}
 use Rattle.bag_report.specs.Report.{IsReported}

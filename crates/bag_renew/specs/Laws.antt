@@ -1,5 +1,6 @@
 -- Laws about renewals.
 use Rattle.std.specs.Prelude.{ℕ, ◌≡◌, false, List}
+use Rattle.bag_text.specs.Bytes.{Name, Path}
 use Rattle.bag_text.specs.Alg.{name}
 use Rattle.bag_text.specs.Path.{under}
 use Rattle.bag_text.specs.declared.alg.Alg.{Alg}
@@ -27,7 +28,7 @@ HasKnownManifests bag =
 -- the law: after any number of changes each file below a folder is as it was
 abbrev pub ChangesKeepPayload : Type 0
 ChangesKeepPayload =
-    (bag : Bag) (renewal : Renewal) (k : ℕ) (folder rest : List ℕ) → IsBag bag
+    (bag : Bag) (renewal : Renewal) (k : ℕ) (folder : Name) (rest : Path) → IsBag bag
     → IsOutOfTheWay bag
     → file (after bag renewal k) (under folder rest) ≡ file bag (under folder rest)
 

@@ -2,6 +2,7 @@ pub mod Again
 pub mod Asked
 pub mod Changes
 pub mod Checked
+pub mod Compared
 pub mod Composed
 pub mod Composing
 pub mod Contents
@@ -12,7 +13,9 @@ pub mod NewInfo
 pub mod NewManifests
 pub mod Obstacles
 pub mod OnTheWay
+pub mod Openings
 pub mod Placed
+pub mod Planned
 pub mod Reading
 pub mod Renew
 pub mod Renewed

@@ -2,13 +2,17 @@
 use Rattle.std.specs.Prelude.{ℕ, ◌≡◌, All, List, Option, None, Some, false, map, true}
 use Rattle.std.specs.List.{list_any}
 use Rattle.bag_read.specs.declared.info.Element.{Element}
-use Rattle.bag_facts.specs.FactsOfBag.{IfBagRead}
-use Rattle.bag_facts.specs.declared.facts.Facts.{Facts}
+use Rattle.bag_facts.specs.Facts.{rules_in}
+use Rattle.bag_stages.specs.MetadataStage.{bag_info_txt}
+use Rattle.bag_stages.specs.Payload.{oxum}
+use Rattle.bag_read.specs.Oxum.{oxum_text}
+use Rattle.bag_stages.specs.TagFiles.{lines_in}
 use Rattle.bag_text.specs.Text.{IsText}
 use Rattle.bag_tags.specs.Element.{NewElement}
 use Rattle.bag_tags.specs.OnLines.{is_bad_long_element, text_on_lines}
 use Rattle.bag_tree.specs.Bag.{Bag}
-use Rattle.bag_renew.specs.Renewed.{new_elements, writes_info}
+use Rattle.bag_renew.specs.Elements.{elements_on, renewed_elements}
+use Rattle.bag_renew.specs.Renewed.{writes_info}
 use Rattle.bag_renew.specs.declared.fault.RenewFault.{RenewFault}
 use Rattle.bag_renew.specs.declared.fault.RenewFault.TheVariants.{BadValue, Memory}
 use Rattle.bag_renew.specs.declared.renewal.Renewal.{Renewal}
@@ -26,17 +30,33 @@ pub record CanBeWritten (elements : List NewElement) : Type 0 where
   pub texts : All AreTexts elements
   pub good : list_any is_bad_long_element elements ≡ false
 
--- what is written: the text of the new elements, which can be written; nothing where the one that
--- is there is kept
-abbrev pub IsNewInfo : Bag → Renewal → Option (List ℕ) → Type 0
-IsNewInfo bag renewal None = writes_info bag renewal ≡ false
-IsNewInfo bag renewal (Some text) =
-    (writes_info bag renewal ≡ true) × CanBeWritten (new_elements bag renewal)
-    × (text ≡ text_on_lines (new_elements bag renewal))
+-- the elements of the renewed bag, where the bag had these
+abbrev pub elements_from : Bag → Renewal → List NewElement → List NewElement
+elements_from bag renewal old = renewed_elements renewal.elements (oxum_text (oxum bag)) old
 
--- an element can't be written; or memory ran out
-abbrev pub IsInfoRefusal : Facts → Renewal → RenewFault → Type 0
-IsInfoRefusal facts renewal BadValue =
-    IfBagRead facts (λ bag. list_any is_bad_long_element (new_elements bag renewal) ≡ true)
-IsInfoRefusal facts renewal Memory = Unit {0}
-IsInfoRefusal facts renewal fault = ⊥
+-- and where these were the lines of its bag-info.txt
+abbrev pub elements_after : Bag → Renewal → List (List ℕ) → List NewElement
+elements_after bag renewal lines = elements_from bag renewal (elements_on (rules_in bag) lines)
+
+-- what is written then: the text of the new elements, which can be written; nothing where the
+-- bag-info.txt that is there is kept
+abbrev pub IsInfoAfter : Bag → Renewal → List (List ℕ) → Option (List ℕ) → Type 0
+IsInfoAfter bag renewal lines None = writes_info bag renewal ≡ false
+IsInfoAfter bag renewal lines (Some text) =
+    (writes_info bag renewal ≡ true) × CanBeWritten (elements_after bag renewal lines)
+    × (text ≡ text_on_lines (elements_after bag renewal lines))
+
+-- and what is written of the bag
+abbrev pub IsNewInfo : Bag → Renewal → Option (List ℕ) → Type 0
+IsNewInfo bag renewal info = IsInfoAfter bag renewal (lines_in bag bag_info_txt) info
+
+-- elements aren't written, for one that can't be; or memory ran out
+abbrev pub AreRefused : List NewElement → RenewFault → Type 0
+AreRefused elements BadValue = list_any is_bad_long_element elements ≡ true
+AreRefused elements Memory = Unit {0}
+AreRefused elements fault = ⊥
+
+-- so it is of a bag-info.txt that is to be written, where these were the lines of the old one
+abbrev pub IsInfoRefusal : Bag → Renewal → List (List ℕ) → RenewFault → Type 0
+IsInfoRefusal bag renewal lines fault =
+    (writes_info bag renewal ≡ true) × AreRefused (elements_after bag renewal lines) fault

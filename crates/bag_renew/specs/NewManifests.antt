@@ -2,6 +2,7 @@
 use Rattle.std.specs.Prelude.{ℕ, ◌≡◌, ◌<◌, ◌++◌, All, Bool, IsTrue, List, None, Option, Some, [], map}
 use Rattle.std.specs.Prelude.{true}
 use Rattle.std.specs.List.Sorted.{IsStrictlySortedBy}
+use Rattle.bag_text.specs.Bytes.{Path}
 use Rattle.bag_text.specs.Code.{stage}
 use Rattle.bag_text.specs.Text.{text_cmp}
 use Rattle.bag_text.specs.declared.alg.Alg.{Alg}
@@ -17,10 +18,11 @@ use Rattle.bag_tags.specs.Entry.{NewEntry, manifest_text}
 use Rattle.bag_tree.specs.Bag.{Bag, IsBag, files_of}
 use Rattle.bag_tree.specs.DigestsOf.{sum_at}
 use Rattle.bag_tree.specs.Tree.{TreeState}
+use Rattle.bag_renew.specs.Compared.{AreCompared}
 use Rattle.bag_renew.specs.FirstFaults.{HasNoneBefore}
 use Rattle.bag_renew.specs.Renewed.{File, manifest}
-use Rattle.bag_renew.specs.Summed.{AreChecked, IsRight, entry_of_file, files_to_read, payload_of}
-use Rattle.bag_renew.specs.Summed.{to_read}
+use Rattle.bag_renew.specs.Summed.{AreChecked, files_to_read, payload_of, to_read}
+use Rattle.bag_tree.specs.Listing.{entry_of_file}
 use Rattle.bag_renew.specs.Valid.{full}
 use Rattle.bag_renew.specs.declared.checked.Unchecked.{Unchecked}
 use Rattle.bag_renew.specs.declared.checked.Unchecked.TheVariants.{Faulty, Stopped}
@@ -57,37 +59,36 @@ OpensTwice old new =
     (tags : List (List ℕ)) × IsStrictlySortedBy text_cmp tags × All (IsWanted full) tags
     × (new.openings ≡ (old.openings ++ tags) ++ map (λ e. e.0) (files_of old.bag))
 
--- Over any tree: what manifests give was compared with the digests of the very bytes of which these
--- manifests give the new ones.
+-- Over any tree: there is a bag that has the files that were listed, and whose tag files say what
+-- was read first; these manifests give the digests of the very bytes of which the digests that the
+-- bag's manifests give were compared.
 pub record AreOfSameBytes (algs : List Alg) (made : List File) : Type 0 where
-  pub facts : Facts
   pub bag : Bag
   pub is_bag : IsBag bag
-  pub facts_of : IsFactsOf bag facts
   pub files : List File
-  pub listed : map entry_of_file files ≡ facts.listing.files
-  pub right : All (IsRight facts) files
+  pub compared : AreCompared bag true files
   pub made_of : made ≡ manifests_for algs (payload_of files)
 
 -- All was read and checked: the tag files, of what they say no fault of stages 1 to 6 was found, and
 -- each listed file that is to be read, which has the digests that manifests give for it. Of an
 -- honest tree this is of its bag.
 pub record HasChecked (facts : Facts) (with_payload : Bool) (algs : List Alg) (old new : TreeState)
-    (summed : List SummedFile) : Type 0 where
+    (summed : List SummedFile) (info : List ℕ) : Type 0 where
   pub options : facts.options ≡ full
   pub seen : (bag : Bag) × IsBag bag × IsFactsOf bag facts
   pub none : HasNoneBefore facts 7
-  pub tags : List (List ℕ)
+  pub tags : List Path
   pub ascend : IsStrictlySortedBy text_cmp tags
   pub wanted : All (IsWanted full) tags
   pub opened : new.openings
       ≡ (old.openings ++ tags) ++ paths_of (to_read with_payload facts.listing.files)
   pub of_bag : IsTrue old.honest → IsFactsOf old.bag facts
-  pub checked : AreChecked old facts (to_read with_payload facts.listing.files) algs summed
+  pub checked : AreChecked old facts (to_read with_payload facts.listing.files) algs summed info
 
 -- so it was with all listed files
 abbrev pub HasCheckedAll : List Alg → TreeState → TreeState → List SummedFile → Type 0
-HasCheckedAll algs old new summed = (facts : Facts) × HasChecked facts true algs old new summed
+HasCheckedAll algs old new summed =
+    (facts : Facts) × (info : List ℕ) × HasChecked facts true algs old new summed info
 
 -- a fault of the bag, checked in full but for names that clash
 abbrev pub HasFault : Bag → Fault → Type 0

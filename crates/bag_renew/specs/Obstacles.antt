@@ -2,6 +2,7 @@
 use Rattle.std.specs.Prelude.{ℕ, ◌≡◌, ◌≢◌, ◌⊎◌, ◌==◌, ◌&&◌, ◌||◌, Bool, true, false, not, List, [], ◌∷◌}
 use Rattle.std.specs.Prelude.{◌++◌, Option, Some, Contains, find, map, nat_eq}
 use Rattle.std.specs.List.{list_any, starts_with}
+use Rattle.bag_text.specs.Bytes.{Name, Path}
 use Rattle.bag_text.specs.Alg.{algs}
 use Rattle.bag_text.specs.Path.{under}
 use Rattle.bag_text.specs.Spelling.{percent}
@@ -22,17 +23,17 @@ use Rattle.bag_renew.specs.declared.fault.RenewFault.TheVariants as why
 use Rattle.bag_renew.specs.declared.renewal.Renewal.{Renewal}
 
 -- the names of the manifests of a kind, of each supported algorithm
-unfoldable pub manifest_names : Kind → List (List ℕ)
+unfoldable pub manifest_names : Kind → List Name
 manifest_names kind = map (λ alg. tag_path (Manifest kind alg)) algs
 
 -- the names of the tag files that a renewal puts or removes, and of one that is begun
-abbrev pub reserved_names : List (List ℕ)
+abbrev pub reserved_names : List Name
 reserved_names =
     tag_path Declaration ∷ tag_path Info ∷ begun_file
     ∷ (manifest_names Payload ++ manifest_names Tag)
 
 -- some file of the bag stands below the name
-abbrev pub HasBelow : Bag → List ℕ → Type 0
+abbrev pub HasBelow : Bag → Name → Type 0
 HasBelow bag name = (rest : List ℕ) × HasFile bag (under name rest)
 
 -- no file stands below a reserved name
@@ -40,29 +41,29 @@ abbrev pub AreFree : Bag → Type 0
 AreFree bag = (name : List ℕ) → Contains reserved_names name → ¬ (HasBelow bag name)
 
 -- a tag manifest names the path
-abbrev pub IsNamedAsTag : Bag → List ℕ → Type 0
+abbrev pub IsNamedAsTag : Bag → Path → Type 0
 IsNamedAsTag bag path = (alg : Alg) × Names bag Tag alg path
 
 -- A reserved name below which files stand; or that of a begun file, where a tag manifest names it:
 -- so it's a user's own, and not what a renewal that was cut off has begun.
-abbrev pub IsInTheWay : Bag → List ℕ → Type 0
+abbrev pub IsInTheWay : Bag → Name → Type 0
 IsInTheWay bag name =
     (Contains reserved_names name × HasBelow bag name)
     ⊎ ((name ≡ begun_file) × IsNamedAsTag bag begun_file)
 
-abbrev pub has_percent : List ℕ → Bool
+abbrev pub has_percent : Path → Bool
 has_percent path = list_any (λ c. c == percent) path
 
 -- a path that begins with a blank or a *, which readers of manifests drop; or, of a bag of 0.97,
 -- which spells it otherwise than one of 1.0, one with a %
-abbrev pub is_unnameable : Bool → List ℕ → Bool
+abbrev pub is_unnameable : Bool → Path → Bool
 is_unnameable is_kept path = begins_with_mark path || (not is_kept && has_percent path)
 
-abbrev pub paths_of : Bag → List (List ℕ)
+abbrev pub paths_of : Bag → List Path
 paths_of bag = map (λ e. e.0) (files_of bag)
 
 -- the first of them in path order, if any
-abbrev pub first_unnameable : Bag → Option (List ℕ)
+abbrev pub first_unnameable : Bag → Option Path
 first_unnameable bag = find (is_unnameable (keeps bag)) (paths_of bag)
 
 -- nothing keeps the bag from being renewed
@@ -74,7 +75,7 @@ pub record HasNoObstacle (bag : Bag) (renewal : Renewal) : Type 0 where
   pub own : ¬ (IsNamedAsTag bag begun_file)
   pub unmarked : AreUnmarked bag
   pub spelled : (keeps bag ≡ true)
-      ⊎ ((path : List ℕ) → HasFile bag path → has_percent path ≡ false)
+      ⊎ ((path : Path) → HasFile bag path → has_percent path ≡ false)
 
 -- the fault is one for which the bag isn't renewed, though it may have no fault itself; memory may
 -- run out at any bag
@@ -88,8 +89,8 @@ IsObstacle bag renewal why.Memory = Unit {0}
 IsObstacle bag renewal fault = ⊥
 
 -- among listed files, some stands below the name
-abbrev pub is_below : List ℕ → List ℕ → Bool
+abbrev pub is_below : Name → Path → Bool
 is_below name path = starts_with nat_eq path (under name [])
 
-abbrev pub has_below : List FileEntry → List ℕ → Bool
+abbrev pub has_below : List FileEntry → Name → Bool
 has_below files name = list_any (λ entry. is_below name entry.path) files

@@ -1,25 +1,32 @@
 -- How a bag is read that is to be renewed.
-use Rattle.std.specs.Prelude.{◌≡◌, ◌≢◌, ◌⊎◌, ◌<◌, ◌^◌, true, IsTrue, List}
+use Rattle.std.specs.Prelude.{ℕ, ◌≡◌, ◌≢◌, ◌⊎◌, ◌<◌, ◌^◌, true, IsTrue, List}
 use Rattle.std.specs.List.{list_any}
+use Rattle.bag_text.specs.Code.{stage}
+use Rattle.bag_text.specs.Lines.{lines_of_file}
 use Rattle.bag_text.specs.declared.alg.Alg.{Alg}
 use Rattle.bag_facts.specs.FactsOfBag.{IfBagRead, IsFactsOf}
 use Rattle.bag_facts.specs.Stops.{IsOfListing, MayRefuseFacts, ReportsAnswer}
 use Rattle.bag_facts.specs.declared.facts.Facts.{Facts}
+use Rattle.bag_facts.specs.declared.fault.Fault.{Fault}
 use Rattle.bag_facts.specs.declared.options.Depth.TheVariants.{Declaration}
+use Rattle.bag_stages.specs.MetadataStage.{bag_info_txt}
 use Rattle.bag_stages.specs.Payload.{oxum}
+use Rattle.bag_stages.specs.TagFiles.{lines_in}
 use Rattle.bag_tags.specs.OnLines.{is_bad_long_element}
 use Rattle.bag_tree.specs.Bag.{Bag, IsBag, files_of}
 use Rattle.bag_tree.specs.Tree.{Keeps, MayReportMemory, NothingFailed, TreeState}
 use Rattle.bag_tree.specs.declared.tree_fault.Stop.{Stop}
 use Rattle.bag_tree.specs.declared.tree_fault.TreeFault.TheVariants as cause_of
+use Rattle.bag_renew.specs.Compared.{AreCompared}
 use Rattle.bag_renew.specs.FirstFaults.{HasNoneBefore, IsFoundFirst}
+use Rattle.bag_renew.specs.NewInfo.{IsInfoRefusal}
 use Rattle.bag_renew.specs.NewManifests.{IsRefusedFor, OpensRead}
 use Rattle.bag_renew.specs.Obstacles.{HasNoObstacle, IsObstacle}
-use Rattle.bag_renew.specs.Renewed.{new_algs, new_elements, reads_payload, writes_info}
+use Rattle.bag_renew.specs.Renewed.{File, new_algs, new_elements, reads_payload, writes_info}
 use Rattle.bag_renew.specs.Request.{is_bad_request}
 use Rattle.bag_renew.specs.Stops.{IsOfFile}
-use Rattle.bag_renew.specs.Summed.{AreSummed, files_to_read}
-use Rattle.bag_renew.specs.Valid.{CanRenew, HasGoodElements, HasNoFault, full}
+use Rattle.bag_renew.specs.Summed.{AreSummed, IsInfoAmong, files_to_read}
+use Rattle.bag_renew.specs.Valid.{CanRenew, HasGoodElements, HasNoFault, IsFaultOf, full}
 use Rattle.bag_renew.specs.declared.checked.Unchecked.{Unchecked}
 use Rattle.bag_renew.specs.declared.checked.Unchecked.TheVariants as checked
 use Rattle.bag_renew.specs.declared.fault.RenewFault.{RenewFault}
@@ -45,13 +52,20 @@ pub record IsReadBag (renewal : Renewal) (old new : TreeState) : Type 0 where
 -- So it was, and these are what is known of it and the digests of the files that were read. What is
 -- known is of the bag of an honest tree, and else of some bag.
 pub record HasReadBag (renewal : Renewal) (old new : TreeState) (facts : Facts)
-    (summed : List SummedFile) : Type 0 where
+    (summed : List SummedFile) (info : List ℕ) : Type 0 where
   pub read : IsReadBag renewal old new
   pub options : facts.options ≡ full
   pub seen : (bag : Bag) × IsBag bag × IsFactsOf bag facts
   pub of_bag : IsTrue old.honest → IsFactsOf old.bag facts
   pub sums : IsTrue old.honest → AreSummed (new_algs old.bag renewal)
       (files_to_read (reads_payload old.bag renewal) (files_of old.bag)) summed
+  -- over any tree these files were read, of which digests were compared and computed
+  pub files : List File
+  pub compared : AreCompared seen.0 (reads_payload seen.0 renewal) files
+  pub summed_of : (bag : Bag) → IsFactsOf bag facts
+      → AreSummed (new_algs bag renewal) files summed
+  pub info_of : IsInfoAmong files info
+  pub lines : IsTrue old.honest → lines_of_file info ≡ lines_in old.bag bag_info_txt
 
 -- A bag was read that can be renewed, and the metadata that is written of it can be.
 pub record IsReadForRenewal (renewal : Renewal) (old new : TreeState) : Type 0 where
@@ -67,33 +81,47 @@ pub record MayStopReadingBag (old new : TreeState) (stop : Stop) : Type 0 where
   pub answered : ReportsAnswer new stop
   pub path : IsOfListing old new stop ⊎ IsOfFile old stop
 
--- Why a bag isn't renewed before a file of it was changed: of an honest tree for what its bag is.
--- Out of memory is reported only where the tree reported it or refused nothing.
+-- the bag has no fault of the stages that open no payload file
+abbrev pub HasNoEarlyFault : Bag → Type 0
+HasNoEarlyFault bag = (f : Fault) → IsFaultOf bag f → stage f.code < 7 → ⊥
+
+-- Why a bag isn't renewed before a file of it was changed: of an honest tree for what its bag is, a
+-- fault of stages 1 to 6 first, then an obstacle, and then an element that can't be written. Out of
+-- memory is reported only where the tree reported it or refused nothing.
 abbrev pub MayRefuseReading : Renewal → TreeState → TreeState → RenewFault → Type 0
 MayRefuseReading renewal old new (why.Faulty fault) =
     IsTrue old.honest → IsRefusedFor old.bag (checked.Faulty fault)
 MayRefuseReading renewal old new why.BadValue =
     (is_bad_request renewal.elements ≡ true)
-    ⊎ (IsTrue old.honest → list_any is_bad_long_element (new_elements old.bag renewal) ≡ true)
+    ⊎ (IsTrue old.honest → HasNoEarlyFault old.bag × HasNoObstacle old.bag renewal
+    × (writes_info old.bag renewal ≡ true)
+    × (list_any is_bad_long_element (new_elements old.bag renewal) ≡ true))
 MayRefuseReading renewal old new (why.ReadStopped stop) = MayStopReadingBag old new stop
 MayRefuseReading renewal old new why.Memory = MayReportMemory old new
 MayRefuseReading renewal old new (why.PutRefused name cause) = ⊥
 MayRefuseReading renewal old new (why.RemoveRefused name cause) = ⊥
 MayRefuseReading renewal old new fault =
-    IsTrue old.honest → IsObstacle old.bag renewal fault
+    IsTrue old.honest → HasNoEarlyFault old.bag × IsObstacle old.bag renewal fault
 
 -- What is known of a bag allows that it is renewed: there is no fault of the stages that open no
--- payload file, and no obstacle, and these are the algorithms of its new manifests.
+-- payload file, and no obstacle; and these are the algorithms of its new manifests.
 pub record AllowsRenewal (facts : Facts) (renewal : Renewal) (algs : List Alg) : Type 0 where
   pub none : HasNoneBefore facts 7
   pub no_obstacle : IfBagRead facts (λ bag. HasNoObstacle bag renewal)
   pub new : (bag : Bag) → IsFactsOf bag facts → algs ≡ new_algs bag renewal
 
--- or doesn't: by the first fault, or by an obstacle; or memory ran out
+-- Or it doesn't: by the first fault; where there is none, by an obstacle; and else by an element
+-- that can't be written. Or memory ran out.
 abbrev pub IsRefusedByFacts : Facts → Renewal → RenewFault → Type 0
 IsRefusedByFacts facts renewal (why.Faulty fault) =
     facts.options.depth ≢ Declaration → IsFoundFirst facts (checked.Faulty fault)
-IsRefusedByFacts facts renewal fault = IfBagRead facts (λ bag. IsObstacle bag renewal fault)
+IsRefusedByFacts facts renewal why.Memory = Unit {0}
+IsRefusedByFacts facts renewal why.BadValue =
+    HasNoneBefore facts 7
+    × IfBagRead facts (λ bag. HasNoObstacle bag renewal
+    × IsInfoRefusal bag renewal (lines_in bag bag_info_txt) why.BadValue)
+IsRefusedByFacts facts renewal fault =
+    HasNoneBefore facts 7 × IfBagRead facts (λ bag. IsObstacle bag renewal fault)
 
 -- the refusal that a stop is: out of memory is one of its own
 abbrev pub IsRefusalOfStop : Stop → RenewFault → Type 0

@@ -14,6 +14,8 @@ use Rattle.bag_facts.specs.Facts.{IsByV10}
 use Rattle.bag_facts.specs.declared.fault.Fault.{Fault}
 use Rattle.bag_renew.specs.Changes.{changes}
 use Rattle.bag_renew.specs.Laws.{IsOutOfTheWay}
+use Rattle.bag_renew.specs.Openings.{OpensBefore, OpensForRenewal}
+use Rattle.bag_renew.specs.Planned.{ChangesCompared}
 use Rattle.bag_renew.specs.Reading.{HasKnownSize, IsReadForRenewal, MayRefuseReading}
 use Rattle.bag_renew.specs.Renewed.{begun_file, renewed}
 use Rattle.bag_renew.specs.Request.{is_bad_request}
@@ -29,6 +31,7 @@ pub record HasPlanned (renewal : Renewal) (old new : TreeState) (planned : List 
     pub read : IsReadForRenewal renewal old new
     pub changes_are : IsTrue old.honest → planned ≡ changes old.bag renewal
     pub of_files : All (IsOfFile begun_file) planned
+    pub compared : ChangesCompared renewal planned
 
 -- The bag was renewed: all was read for it, and then the changes were made. Of an honest tree it is
 -- the renewed bag then.
@@ -86,6 +89,9 @@ pub record IsRenewal (renewal : Renewal) (old new : TreeState)
   pub valid : OnOk result (IsTrue old.honest → IsOutOfTheWay old.bag → HasKnownSize old.bag
       → (f : Fault) → IsFaultOf new.bag f → IsOldDamage old.bag renewal f)
   pub refused : IfErr result (MayRefuseRenewing renewal old new)
+  -- over any tree, and however it ends
+  pub opens : OpensForRenewal renewal old new
+  pub opens_before : IfErr result (OpensBefore old new)
   -- a power cut at any moment leaves what the first of the changes made
   pub any_moment : IsTrue old.honest → IsTrue old.noted → IsOutOfTheWay old.bag
       → EachCut old.trail new.trail old.bag

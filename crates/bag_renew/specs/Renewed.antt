@@ -4,6 +4,7 @@ use Rattle.std.specs.Prelude.{codes, Option, None, Some, filter, map, if◌then�
 use Rattle.std.specs.FinMap as fin
 use Rattle.std.specs.List.{list_any}
 use Rattle.std.specs.Option.{unwrap_or}
+use Rattle.bag_text.specs.Bytes.{Content, Name, Path}
 use Rattle.bag_text.specs.Alg.{algs}
 use Rattle.bag_text.specs.AlgList.{has_member}
 use Rattle.bag_text.specs.Path.{is_payload_path}
@@ -17,7 +18,8 @@ use Rattle.bag_text.specs.declared.rules.Rules.TheVariants.{V10, V097}
 use Rattle.bag_tree.specs.Bag.{Bag, file, files_of, has_file}
 use Rattle.bag_facts.specs.Facts.{rules_in}
 use Rattle.bag_tree.specs.Digest.{digest}
-use Rattle.bag_stages.specs.Payload.{oxum, oxum_text, payload}
+use Rattle.bag_read.specs.Oxum.{oxum_text}
+use Rattle.bag_stages.specs.Payload.{oxum, payload}
 use Rattle.bag_tags.specs.Declaration.{declaration_text}
 use Rattle.bag_tags.specs.Element.{NewElement}
 use Rattle.bag_tags.specs.Entry.{NewEntry, manifest_text}
@@ -27,10 +29,10 @@ use Rattle.bag_renew.specs.declared.renewal.Renewal.{Renewal}
 
 -- a file: its path and its bytes
 abbrev pub File : Type 0
-File = List ℕ × List ℕ
+File = Path × Content
 
 -- the name that a tag file has while it is written
-abbrev pub begun_file : List ℕ
+abbrev pub begun_file : Name
 begun_file = codes ".bagit-begun"
 
 -- the digest of each file, with its path
@@ -38,7 +40,7 @@ abbrev pub entries_of : Alg → List File → List NewEntry
 entries_of alg files = map (λ e. (digest alg e.1, e.0)) files
 
 -- the manifest that names these files, in their order
-abbrev pub manifest : Alg → List File → List ℕ
+abbrev pub manifest : Alg → List File → Content
 manifest alg files = manifest_text (entries_of alg files)
 
 -- files in the order of their paths
@@ -58,7 +60,7 @@ has_tag_manifest bag alg = has_file bag (tag_path (Manifest Tag alg))
 
 -- a path that isn't of the payload, and not the name of a tag file that a renewal writes or leaves
 -- out
-abbrev pub stays : List ℕ → Bool
+abbrev pub stays : Path → Bool
 stays path =
     not (is_payload_path path) && not (bytes_eq path (tag_path Declaration))
     && not (bytes_eq path (tag_path Info)) && not (is_manifest_name Payload path)
@@ -77,19 +79,19 @@ abbrev pub keeps : Bag → Bool
 keeps bag = is_v10 (rules_in bag)
 
 -- a file that is there and is kept
-abbrev pub is_kept : Bag → List ℕ → Bool
+abbrev pub is_kept : Bag → Path → Bool
 is_kept bag path = keeps bag && has_file bag path
 
 -- the file at a path, if any
-abbrev pub with_path : List ℕ → Option (List ℕ) → List File
+abbrev pub with_path : Path → Option Content → List File
 with_path path None = []
 with_path path (Some content) = (path, content) ∷ []
 
-abbrev pub file_at : Bag → List ℕ → List File
+abbrev pub file_at : Bag → Path → List File
 file_at bag path = with_path path (file bag path)
 
 -- the bytes of a file that is kept, else these
-abbrev pub kept_or : Bag → List ℕ → List ℕ → List ℕ
+abbrev pub kept_or : Bag → Path → List ℕ → List ℕ
 kept_or bag path text = if keeps bag then unwrap_or (file bag path) text else text
 
 -- the declaration (2.1.1)

@@ -1,38 +1,38 @@
 -- Files of a bag that were checked, with the digests that manifests are to give.
-use Rattle.std.specs.Prelude.{ℕ, ◌≡◌, ◌≢◌, ◌∷◌, [], ⊤, All, Contains, IsTrue, List, Some, filter, length}
-use Rattle.std.specs.Prelude.{◌||◌, Bool, map, not}
+use Rattle.std.specs.Prelude.{◌≡◌, ◌≢◌, ◌∷◌, [], ⊤, All, Contains, IsTrue, List, Some, filter, length}
+use Rattle.std.specs.Prelude.{◌||◌, ◌⊎◌, Bool, Option, map, not}
+use Rattle.bag_text.specs.Bytes.{Content, Path}
 use Rattle.bag_text.specs.Order.{IsListOf}
 use Rattle.bag_text.specs.Path.{is_payload_path}
 use Rattle.bag_text.specs.declared.alg.Alg.{Alg}
 use Rattle.bag_tree.specs.Bag.{file}
 use Rattle.bag_tree.specs.Digest.{digest}
+use Rattle.bag_tree.specs.Listing.{entry_of_file}
 use Rattle.bag_tree.specs.DigestsOf.{sum_at}
 use Rattle.bag_tree.specs.Tree.{TreeState}
 use Rattle.bag_tree.specs.declared.listing.FileEntry.{FileEntry}
 use Rattle.bag_facts.specs.FactsOfBag.{IfBagRead, IsFactsOf}
 use Rattle.bag_facts.specs.FaultOrder.{fault_cmp}
-use Rattle.bag_facts.specs.Stops.{IsOutOfMemory}
+use Rattle.bag_tree.specs.Stop.{IsOutOfMemory}
 use Rattle.bag_facts.specs.declared.facts.Facts.{Facts}
 use Rattle.bag_facts.specs.declared.options.Depth.TheVariants.{Declaration}
+use Rattle.bag_stages.specs.Expected.{Expected}
 use Rattle.bag_stages.specs.Given.{AreNaming}
+use Rattle.bag_stages.specs.MetadataStage.{bag_info_txt}
 use Rattle.bag_stages.specs.SumFaults.{IsFaultOfFile, faults_of_bytes}
 use Rattle.bag_stages.specs.ValidityStage.{IsOfValidity}
-use Rattle.bag_stages.specs.declared.expected.Expected.{Expected}
+use Rattle.bag_renew.specs.Checked.{IsKeptOf}
 use Rattle.bag_renew.specs.Renewed.{File}
 use Rattle.bag_renew.specs.declared.checked.Unchecked.{Unchecked}
 use Rattle.bag_renew.specs.declared.checked.Unchecked.TheVariants.{Faulty, Stopped}
 use Rattle.bag_renew.specs.declared.summed.SummedFile.{SummedFile}
-
--- how a file is listed
-abbrev pub entry_of_file : File → FileEntry
-entry_of_file e = record { path = e.0; size = length e.1 }
 
 -- those of the payload
 abbrev pub payload_of : List File → List File
 payload_of files = filter (λ e. is_payload_path e.0) files
 
 -- a file that is read: every one, or every one that isn't of the payload
-abbrev pub is_to_read : Bool → List ℕ → Bool
+abbrev pub is_to_read : Bool → Path → Bool
 is_to_read with_payload path = with_payload || not (is_payload_path path)
 
 -- the listed files that are read
@@ -44,9 +44,9 @@ abbrev pub files_to_read : Bool → List File → List File
 files_to_read with_payload files = filter (λ e. is_to_read with_payload e.0) files
 
 -- this is what the manifests of which these are the facts give for the path
-pub record IsGivenFor (facts : Facts) (path : List ℕ) (expected : List Expected) : Type 0 where
+pub record IsGivenFor (facts : Facts) (path : Path) (expected : List Expected) : Type 0 where
   pub algs : IfBagRead facts (λ bag. AreNaming bag path (map (λ one. one.alg) expected))
-  pub faults : IfBagRead facts (λ bag. (content : List ℕ) → file bag path ≡ Some content
+  pub faults : IfBagRead facts (λ bag. (content : Content) → file bag path ≡ Some content
       → IsListOf fault_cmp (IsFaultOfFile bag path) (faults_of_bytes path content expected))
 
 -- a file all of whose digests that manifests give are those of its bytes
@@ -69,17 +69,25 @@ AreSummed algs files summed = ⊥
 -- A listed file was read: as many bytes as were listed, of which all digests that are given are
 -- right, and these the new ones. Of an honest tree they are those of the bag's file.
 pub record IsCheckedFile (state : TreeState) (facts : Facts) (entry : FileEntry) (algs : List Alg)
-    (one : SummedFile) : Type 0 where
-  pub content : List ℕ
+    (one : SummedFile) (kept : Option Content) : Type 0 where
+  pub content : Content
+  pub kept_of : IsKeptOf entry.path content kept
   pub size : length content ≡ entry.size
   pub honest : IsTrue state.honest → file state.bag entry.path ≡ Some content
   pub right : IsRight facts (entry.path, content)
   pub sums : HasItsSums algs (entry.path, content) one
 
--- so these listed files were, one after another
+-- the bytes of bag-info.txt among these files, and none where it isn't there
+abbrev pub IsInfoAmong : List File → Content → Type 0
+IsInfoAmong files info =
+    Contains files (bag_info_txt, info)
+    ⊎ ((info ≡ []) × ((e : File) → Contains files e → e.0 ≢ bag_info_txt))
+
+-- so these listed files were, one after another, and these are the bytes of bag-info.txt among them
 pub record AreChecked (state : TreeState) (facts : Facts) (entries : List FileEntry)
-    (algs : List Alg) (summed : List SummedFile) : Type 0 where
+    (algs : List Alg) (summed : List SummedFile) (info : Content) : Type 0 where
   pub files : List File
+  pub info_of : IsInfoAmong files info
   pub listed : map entry_of_file files ≡ entries
   pub right : All (IsRight facts) files
   pub sums : AreSummed algs files summed

@@ -1,6 +1,7 @@
 -- Bags whose manifests tell what they hold (RFC 8493, 2.1.3, 2.2.1 and 3).
 use Rattle.std.specs.Prelude.{ℕ, ◌≡◌, ◌≢◌, ◌&&◌, ◌↔◌, Bool, true, false, not, IsTrue, IsUtf8, List}
 use Rattle.std.specs.Prelude.{Some, Contains, filter}
+use Rattle.bag_text.specs.Bytes.{Content, Path}
 use Rattle.bag_text.specs.Lines.{lines_of_file}
 use Rattle.bag_text.specs.Path.{is_path, is_payload_path}
 use Rattle.bag_text.specs.declared.alg.Alg.{Alg}
@@ -28,7 +29,7 @@ use Rattle.bag_renew.specs.declared.renewal.Renewal.{Renewal}
 
 -- a manifest of a kind is to name the path: one of the payload, or of another file that is no tag
 -- manifest
-abbrev pub is_to_name : Kind → List ℕ → Bool
+abbrev pub is_to_name : Kind → Path → Bool
 is_to_name Payload path = is_payload_path path
 is_to_name Tag path = not (is_payload_path path) && not (is_manifest_name Tag path)
 
@@ -37,18 +38,18 @@ abbrev pub to_name : Bag → Kind → List File
 to_name bag kind = filter (λ e. is_to_name kind e.0) (files_of bag)
 
 -- the paths that a manifest with these bytes names, by the rules of 1.0
-abbrev pub paths_named : Kind → Alg → List ℕ → List (List ℕ)
+abbrev pub paths_named : Kind → Alg → Content → List Path
 paths_named kind alg text = named V10 kind alg (lines_of_file text)
 
 -- A manifest of a bag names just what it is to name, and none of its lines is wrong.
-pub record NamesAll (bag : Bag) (kind : Kind) (alg : Alg) (text : List ℕ) : Type 0 where
+pub record NamesAll (bag : Bag) (kind : Kind) (alg : Alg) (text : Content) : Type 0 where
   pub no_fault : (f : LineFault) → ¬ (IsManifestFault V10 kind alg text f)
-  pub paths : (path : List ℕ)
+  pub paths : (path : Path)
       → Contains (paths_named kind alg text) path
       ↔ (HasFile bag path × (is_to_name kind path ≡ true))
 
 -- It gives the digest of each file that it names.
-abbrev pub GivesDigests : Bag → Kind → Alg → List ℕ → Type 0
+abbrev pub GivesDigests : Bag → Kind → Alg → Content → Type 0
 GivesDigests bag kind alg text =
     (entry : ManifestEntry) (content : List ℕ) → IsEntry V10 kind alg (lines_of_file text) entry
     → file bag entry.path ≡ Some content → entry.digest ≡ digest alg content
@@ -63,7 +64,7 @@ NamesItsPayload bag =
 pub record NamesItsFiles (bag : Bag) : Type 0 where
   pub rules : IsByV10 bag
   pub known : HasKnownManifests bag
-  pub told : (kind : Kind) (alg : Alg) (text : List ℕ)
+  pub told : (kind : Kind) (alg : Alg) (text : Content)
       → file bag (tag_path (Manifest kind alg)) ≡ Some text → NamesAll bag kind alg text
 
 -- the law: it has no fault of its manifests, and is complete, but for names that clash
@@ -76,7 +77,7 @@ BagsThatNameTheirFilesAreComplete =
 -- Such a bag, of which each manifest gives the digests.
 pub record TellsItsFiles (bag : Bag) : Type 0 where
   pub names : NamesItsFiles bag
-  pub right : (kind : Kind) (alg : Alg) (text : List ℕ)
+  pub right : (kind : Kind) (alg : Alg) (text : Content)
       → file bag (tag_path (Manifest kind alg)) ≡ Some text → GivesDigests bag kind alg text
 
 -- the law: it has no fault of its manifests, is complete and valid, but for names that clash
@@ -88,7 +89,7 @@ BagsThatTellTheirFilesAreValid =
     × (IsOfValidity bag f → ⊥)
 
 -- the text is that of the manifest that is written
-abbrev pub IsManifestOf : Bag → Kind → Alg → List ℕ → Type 0
+abbrev pub IsManifestOf : Bag → Kind → Alg → Content → Type 0
 IsManifestOf bag kind alg text = text ≡ manifest alg (to_name bag kind)
 
 -- no path begins with a blank or a *, which readers of manifests drop
@@ -102,7 +103,7 @@ ArePaths bag = (path : List ℕ) → HasFile bag path → IsTrue (is_path path) 
 -- the law: a manifest that is written names just what it is to name, with the digests
 abbrev pub WrittenManifestsTell : Type 0
 WrittenManifestsTell =
-    (bag : Bag) (kind : Kind) (alg : Alg) (text : List ℕ) → ArePaths bag → AreUnmarked bag
+    (bag : Bag) (kind : Kind) (alg : Alg) (text : Content) → ArePaths bag → AreUnmarked bag
     → IsManifestOf bag kind alg text
     → NamesAll bag kind alg text × GivesDigests bag kind alg text
 

@@ -1,6 +1,7 @@
 -- When a renewed bag has no fault.
-use Rattle.std.specs.Prelude.{ℕ, ◌⊎◌, ◌<◌, ◌^◌, ◌≡◌, ◌≢◌, All, List, false, true, [], None, Some}
+use Rattle.std.specs.Prelude.{◌⊎◌, ◌<◌, ◌^◌, ◌≡◌, ◌≢◌, All, false, true, [], None, Some}
 use Rattle.std.specs.List.{list_any}
+use Rattle.bag_text.specs.Bytes.{Content}
 use Rattle.bag_text.specs.Text.{IsText}
 use Rattle.bag_text.specs.declared.alg.Alg.{Alg}
 use Rattle.bag_text.specs.declared.code.Code.TheVariants.{PayloadSumDiffers}
@@ -47,7 +48,7 @@ pub record CanRenew (bag : Bag) (renewal : Renewal) : Type 0 where
 
 -- the bag-info.txt that is there is a text, and the renewed bag has no fault of it
 pub record HasGoodInfo (bag : Bag) (renewal : Renewal) : Type 0 where
-  pub text : (content : List ℕ) → file (renewed bag renewal) (tag_path Info) ≡ Some content
+  pub text : (content : Content) → file (renewed bag renewal) (tag_path Info) ≡ Some content
       → IsText content
   pub no_fault : (f : Fault) → IsOfMetadata (renewed bag renewal) f → asks full f.code ≡ true → ⊥
 

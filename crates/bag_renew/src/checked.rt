@@ -1,18 +1,22 @@
 //! Reading a file once, to compare the digests that it has and to compute those that it is to have.
-ghost use Rattle.std.specs.Prelude.{◌≡◌, ◌<◌, ◌⊎◌, ◌∷◌, ◌++◌, [], Contains, length, IfOk, IfErr, OnOk};
-ghost use Rattle.std.specs.Prelude.{List, MatchOption, OnErr};
+ghost use Rattle.std.specs.Prelude.{◌≡◌, ◌<◌, ◌⊎◌, ◌∷◌, ◌++◌, [], ℕ, Contains, List, length};
+ghost use Rattle.std.specs.Prelude.{IfOk, IfErr, MatchOption, OnErr, OnOk};
 ghost use Rattle.bag_facts.specs.declared.fault.Fault.{Fault as Found};
 ghost use Rattle.bag_tree.specs.Tree.{Keeps, NothingFailed};
 ghost use Rattle.bag_tree.specs.FileReads.{OpensAtMost};
 ghost use Rattle.bag_text.specs.declared.alg.Alg.{Alg as Member};
-ghost use Rattle.bag_stages.specs.declared.expected.Expected.{Expected as Given};
-ghost use Rattle.bag_renew.specs.Checked.{IsChecked, IsUnchecked};
+ghost use Rattle.bag_stages.specs.Expected.{Expected};
+ghost use Rattle.bag_stages.specs.SumFaults.{AreSumsBy, faults_of_bytes};
+ghost use Rattle.bag_renew.specs.Checked.{DiffersFirst, IsChecked, IsCheckedAndKept, IsCheckedAs};
+ghost use Rattle.bag_renew.specs.Checked.{IsUnchecked};
 ghost use Rattle.bag_renew.specs.Stops.{StopsChecking};
 
-use bag_facts::{Fault, refusal_of};
+use crate::named::sums_of;
+use crate::tag_files::INFO;
+use bag_facts::Fault;
 use bag_stages::{Packed, faults_by};
-use bag_text::AlgSet;
-use bag_tree::{FileEntry, Stop, Sums, Tree, TreeFault, digest_file};
+use bag_text::{AlgSet, Items, Text};
+use bag_tree::{FileEntry, Stop, Sums, Tree, digest_file, read_whole};
 use std::alloc::Global;
 
 /// Why a file isn't known to have the digests that manifests give for it.
@@ -30,7 +34,7 @@ pub enum Unchecked {
 /// The file is opened once and read once. Over any tree the digests that are given are compared
 /// with those of the very bytes of which the new ones are computed, so that damage that comes after
 /// a check is never given a digest.
-#[tactic(auto, using(crate::proofs::Stopping::stop_of_memory, crate::proofs::Stopping::stop_of_refusal, bag_tree::proofs::Calm::nothing_asked))]
+#[tactic(auto, using(crate::proofs::Stopping::stopping))]
 pub fn check_and_sum<T: Tree>(
     alloc: Global,
     tree: &mut T,
@@ -53,15 +57,98 @@ pub fn check_and_sum<T: Tree>(
 {
     // Copied before the file is read, so that its refusal isn't reported as out of memory.
     let Ok(path) = file.path.copy(alloc) else {
-        return Err(Unchecked::Stopped(Stop::without_path(alloc, TreeFault::Memory)));
+        return Err(Unchecked::Stopped(Stop::out_of_memory(alloc)));
     };
     let asked = with_given(algs, expected);
     let sums = match digest_file(tree, file, asked, buffer) {
         Ok(sums) => sums,
-        Err(cause) => return Err(Unchecked::Stopped(refusal_of(alloc, cause, path))),
+        Err(cause) => return Err(Unchecked::Stopped(Stop::of_file(alloc, cause, path))),
     };
-    let Ok(faults) = faults_by(alloc, &file.path, expected, &sums) else {
-        return Err(Unchecked::Stopped(Stop::without_path(alloc, TreeFault::Memory)));
+    compare(alloc, &file.path, expected, sums)
+}
+
+/// The digests of a listed file, as `check_and_sum` gives them; and of `bag-info.txt` the bytes of
+/// which they are, so that what is written of them was compared.
+pub(crate) fn check_or_keep<T: Tree>(
+    alloc: Global,
+    tree: &mut T,
+    file: &FileEntry,
+    expected: &Packed,
+    algs: AlgSet,
+    buffer: &mut [u8],
+) -> Result<(Sums, Option<Items<u8>>), Unchecked>
+    requires { 0 < length buffer.old }
+    ensures keeps { Keeps (T.state tree.old) (T.state tree.new) }
+    ensures no_failure { OnOk result (NothingFailed (T.state tree.old) (T.state tree.new)) }
+    ensures opened { OnOk result
+        ((T.state tree.new).openings ≡ (T.state tree.old).openings ++ file.now.path ∷ []) }
+    ensures opens { OnErr result
+        (OpensAtMost (T.state tree.old) (T.state tree.new) file.now.path) }
+    ensures checked { IfOk result (λ checked.
+        IsCheckedAndKept (T.state tree.old) file.now expected.now algs checked.0 checked.1) }
+    ensures unchecked { IfErr result (IsUnchecked (T.state tree.old) file.now expected.now) }
+    ensures stopped { IfErr result
+        (StopsChecking (file.now ∷ []) (T.state tree.old) (T.state tree.new)) }
+{
+    if file.path.as_str() == INFO {
+        match check_and_keep(alloc, tree, file, expected, algs) {
+            Ok((sums, bytes)) => Ok((sums, Some(Items::from_vec(bytes)))),
+            Err(unchecked) => Err(unchecked),
+        }
+    } else {
+        match check_and_sum(alloc, tree, file, expected, algs, buffer) {
+            Ok(sums) => Ok((sums, None)),
+            Err(unchecked) => Err(unchecked),
+        }
+    }
+}
+
+/// The digests of a listed file, as `check_and_sum` gives them, with the bytes of which they were
+/// compared and computed, all in memory.
+#[tactic(auto, using(crate::proofs::Stopping::stopping))]
+fn check_and_keep<T: Tree>(
+    alloc: Global,
+    tree: &mut T,
+    file: &FileEntry,
+    expected: &Packed,
+    algs: AlgSet,
+) -> Result<(Sums, Vec<u8>), Unchecked>
+    ensures keeps { Keeps (T.state tree.old) (T.state tree.new) }
+    ensures no_failure { OnOk result (NothingFailed (T.state tree.old) (T.state tree.new)) }
+    ensures opened { OnOk result
+        ((T.state tree.new).openings ≡ (T.state tree.old).openings ++ file.now.path ∷ []) }
+    ensures opens { OnErr result
+        (OpensAtMost (T.state tree.old) (T.state tree.new) file.now.path) }
+    ensures checked { IfOk result (λ kept.
+        IsCheckedAs (T.state tree.old) file.now expected.now algs kept.1.items kept.0) }
+    ensures unchecked { IfErr result (IsUnchecked (T.state tree.old) file.now expected.now) }
+    ensures stopped { IfErr result
+        (StopsChecking (file.now ∷ []) (T.state tree.old) (T.state tree.new)) }
+{
+    // Copied before the file is read, so that its refusal isn't reported as out of memory.
+    let Ok(path) = file.path.copy(alloc) else {
+        return Err(Unchecked::Stopped(Stop::out_of_memory(alloc)));
+    };
+    let bytes = match read_whole(alloc, tree, file) {
+        Ok(bytes) => bytes,
+        Err(cause) => return Err(Unchecked::Stopped(Stop::of_file(alloc, cause, path))),
+    };
+    let found = sums_of(&bytes, with_given(algs, expected));
+    match compare(alloc, &file.path, expected, found) {
+        Ok(sums) => Ok((sums, bytes)),
+        Err(unchecked) => Err(unchecked),
+    }
+}
+
+/// The digests of a file, where they are those that are expected.
+fn compare(alloc: Global, path: &Text, expected: &Packed, sums: Sums) -> Result<Sums, Unchecked>
+    ensures same { IfOk result (λ kept. kept ≡ sums) }
+    ensures right { OnOk result ((content : List ℕ) → AreSumsBy expected.now content sums
+        → faults_of_bytes path.now content expected.now ≡ []) }
+    ensures differs { IfErr result (DiffersFirst path.now expected.now sums) }
+{
+    let Ok(faults) = faults_by(alloc, path, expected, &sums) else {
+        return Err(Unchecked::Stopped(Stop::out_of_memory(alloc)));
     };
     match first_of(faults) {
         None => Ok(sums),
@@ -84,12 +171,12 @@ pub(crate) fn first_of(faults: Vec<Fault>) -> Option<Fault>
 
 /// The set with the algorithms by which digests are given.
 fn with_given(algs: AlgSet, expected: &Packed) -> AlgSet
-    ensures given { (one : Given) → Contains expected.now one → Contains result one.alg }
+    ensures given { (one : Expected) → Contains expected.now one → Contains result one.alg }
     ensures kept { (alg : Member) → Contains algs alg → Contains result alg }
 {
     let mut all = algs;
-    for one in expected.iter() {
-        all = all.with(one.alg);
+    for (alg, _) in expected.iter() {
+        all = all.with(alg);
     }
     all
 }

@@ -1,11 +1,13 @@
 //! The changes that renew a bag, composed of what was read of it.
-ghost use Rattle.std.specs.Prelude.{◌≡◌, ◌++◌, IfOk, OnOk, map};
+ghost use Rattle.std.specs.Prelude.{◌≡◌, ◌++◌, IfOk, List, OnOk, is_some, map};
 ghost use Rattle.bag_facts.specs.FactsOfBag.{IsFactsOf};
 ghost use Rattle.bag_tree.specs.Bag.{Bag};
-ghost use Rattle.bag_renew.specs.Changes as spec;
-ghost use Rattle.bag_renew.specs.Composing.{AreOfFiles, AreSummedFor, tag_manifests_of};
-ghost use Rattle.bag_renew.specs.NewInfo.{IsNewInfo};
+ghost use Rattle.bag_renew.specs.Changes.{put};
 ghost use Rattle.bag_renew.specs.Composed.{IsComposed, PutsFiles};
+ghost use Rattle.bag_renew.specs.Composing.{AreOfFiles, tag_manifests_of};
+ghost use Rattle.bag_renew.specs.Planned.{changes_from};
+ghost use Rattle.bag_renew.specs.Renewed.{File, new_algs, writes_info};
+ghost use Rattle.bag_renew.specs.Summed.{AreSummed};
 
 use crate::Renewal;
 use crate::algorithms::new_algs;
@@ -40,9 +42,10 @@ pub(crate) fn changes_of(
     summed: Vec<SummedFile>,
     info: Option<Items<u8>>,
 ) -> Result<Vec<FileChange>, AllocError>
-    ensures changes { IfOk result (λ made. (bag : Bag) → IsFactsOf bag facts.now
-        → AreSummedFor bag renewal.now summed.items → IsNewInfo bag renewal.now info
-        → made.items ≡ spec.changes bag renewal.now) }
+    ensures changes { IfOk result (λ made. (bag : Bag) (files : List File) → IsFactsOf bag facts.now
+        → AreSummed (new_algs bag renewal.now) files summed.items
+        → is_some info ≡ writes_info bag renewal.now
+        → made.items ≡ changes_from bag renewal.now files info) }
     ensures files { IfOk result (λ made. AreOfFiles made.items) }
 {
     let algs = new_algs(facts, renewal).members(alloc)?;
@@ -63,9 +66,10 @@ fn compose(
     summed: Vec<SummedFile>,
     info: Option<Items<u8>>,
 ) -> Result<Composed, AllocError>
-    ensures composed { IfOk result (λ composed. (bag : Bag) → IsFactsOf bag facts.now
-        → AreSummedFor bag renewal.now summed.items → IsNewInfo bag renewal.now info
-        → IsComposed bag renewal.now composed) }
+    ensures composed { IfOk result (λ composed. (bag : Bag) (files : List File)
+        → IsFactsOf bag facts.now → AreSummed (new_algs bag renewal.now) files summed.items
+        → is_some info ≡ writes_info bag renewal.now
+        → IsComposed bag renewal.now files info composed) }
     ensures files { IfOk result PutsFiles }
 {
     let algs = new_algs(facts, renewal);
@@ -87,7 +91,7 @@ fn append(changes: &mut Vec<FileChange>, more: Vec<FileChange>) -> Result<(), Al
 
 /// The changes that put files.
 fn puts(alloc: Global, files: Vec<(Text, Items<u8>)>) -> Result<Vec<FileChange>, AllocError>
-    ensures { IfOk result (λ made. made.items ≡ map spec.put files.items) }
+    ensures { IfOk result (λ made. made.items ≡ map put files.items) }
 {
     let mut changes = Vec::with_capacity(alloc, files.len())?;
     for (path, bytes) in files {

@@ -1,12 +1,14 @@
 //! The payload manifests of further algorithms, of a bag that has no fault.
-ghost use Rattle.std.specs.Prelude.{◌≡◌, ◌∷◌, ◌++◌, [], IfOk, IfErr, IsTrue, OnOk, filter, map, string_bytes};
+ghost use Rattle.std.specs.Prelude.{◌≡◌, ◌∷◌, ◌++◌, [], IfOk, IfErr, IsTrue, OnOk};
+ghost use Rattle.std.specs.Prelude.{filter, map, string_bytes};
 ghost use Rattle.bag_text.specs.Path.{is_payload_path};
 ghost use Rattle.bag_text.specs.Lines.{line_feed};
 ghost use Rattle.bag_stages.specs.Payload.{payload};
 ghost use Rattle.bag_tags.specs.Entry as entry;
 ghost use Rattle.bag_tree.specs.Tree.{Keeps, NothingFailed};
-ghost use Rattle.bag_renew.specs.NewManifests.{AreOfSameBytes, HasCheckedAll, IsRefusedFor, OpensTwice};
-ghost use Rattle.bag_renew.specs.NewManifests.{manifests_for, manifests_of, summed_entry};
+ghost use Rattle.bag_renew.specs.NewManifests.{AreOfSameBytes, HasCheckedAll, IsRefusedFor};
+ghost use Rattle.bag_renew.specs.NewManifests.{OpensTwice, manifests_for, manifests_of, summed_entry};
+ghost use Rattle.bag_renew.specs.Openings.{OpensAllInTurn, OpensBeforeFiles};
 ghost use Rattle.bag_renew.specs.Stops.{MayStopUnchecked};
 ghost use Rattle.bag_renew.specs.Valid.{HasNoFault};
 
@@ -45,6 +47,8 @@ pub fn new_manifests<T: Tree>(
     ensures refused { IfErr result (λ fault.
         IsTrue (T.state tree.old).honest → IsRefusedFor (T.state tree.old).bag fault) }
     ensures stopped { IfErr result (MayStopUnchecked (T.state tree.old) (T.state tree.new)) }
+    ensures opens { OpensAllInTurn (T.state tree.old) (T.state tree.new) }
+    ensures opens_before { IfErr result (OpensBeforeFiles (T.state tree.old) (T.state tree.new)) }
 {
     let summed = match check_bag(alloc, tree, algs) {
         Ok(summed) => payload_only(summed),
@@ -67,7 +71,7 @@ fn payload_only(summed: Vec<SummedFile>) -> Vec<SummedFile>
 
 /// Checks a bag in full, but for names that clash, and gives the digests of its files in their
 /// order.
-#[tactic(auto, using(bag_tree::proofs::Calm::nothing_then, crate::proofs::ReadBag::stop_of_stages, crate::proofs::CheckedBag::stages_refuse, crate::proofs::CheckedBag::files_refuse, crate::proofs::CheckedBag::has_checked))]
+#[tactic(auto, using(crate::proofs::ReadBag::checking))]
 fn check_bag<T: Tree>(
     alloc: Global,
     tree: &mut T,
@@ -80,6 +84,8 @@ fn check_bag<T: Tree>(
     ensures refused { IfErr result (λ fault.
         IsTrue (T.state tree.old).honest → IsRefusedFor (T.state tree.old).bag fault) }
     ensures stopped { IfErr result (MayStopUnchecked (T.state tree.old) (T.state tree.new)) }
+    ensures opens { OpensAllInTurn (T.state tree.old) (T.state tree.new) }
+    ensures opens_before { IfErr result (OpensBeforeFiles (T.state tree.old) (T.state tree.new)) }
 {
     let facts = match Facts::read(alloc, tree, FULL) {
         Ok(facts) => facts,
@@ -89,7 +95,7 @@ fn check_bag<T: Tree>(
         return Err(unchecked);
     }
     match check_files(alloc, tree, &facts, algs, true) {
-        Ok(summed) => Ok(summed),
+        Ok(checked) => Ok(checked.summed),
         Err(unchecked) => Err(unchecked),
     }
 }

@@ -2,44 +2,69 @@
 ghost use Rattle.std.specs.Prelude.{◌≡◌, false, length, All, IfErr, IfOk};
 ghost use Rattle.std.specs.List.{list_any};
 ghost use Rattle.bag_facts.specs.FactsOfBag.{IfBagRead, IsFactsOf};
-ghost use Rattle.bag_stages.specs.Payload.{oxum_text};
+ghost use Rattle.bag_read.specs.Oxum.{oxum_text};
+ghost use Rattle.bag_stages.specs.MetadataStage.{bag_info_txt};
 ghost use Rattle.bag_stages.specs.PayloadSize.{listed_oxum, payload_entries};
 ghost use Rattle.bag_tags.specs.OnLines as bad;
+ghost use Rattle.bag_stages.specs.TagFiles.{lines_in};
+ghost use Rattle.bag_text.specs.Lines.{lines_of_file};
 ghost use Rattle.bag_text.specs.Text.{IsText};
 ghost use Rattle.bag_tree.specs.Bag.{Bag};
-ghost use Rattle.bag_renew.specs.Elements.{elements_of};
+ghost use Rattle.bag_renew.specs.Elements.{elements_of, elements_on};
 ghost use Rattle.bag_renew.specs.NewInfo as info;
-ghost use Rattle.bag_renew.specs.NewInfo.{AreTexts, IsInfoRefusal, IsNewInfo};
+ghost use Rattle.bag_renew.specs.NewInfo.{AreTexts, CanBeWritten, IsInfoAfter, IsInfoRefusal};
 ghost use Rattle.bag_renew.specs.Renewed as spec;
 
 use crate::algorithms::keeps;
 use crate::elements::{asks_nothing, renewed_elements};
 use crate::{RenewFault, Renewal};
 use bag_facts::Facts;
+use bag_read::read_info;
 use bag_tags::{Element, is_bad_long_element, write_long_info};
-use bag_text::{Items, Text, is_payload};
+use bag_text::{Items, Rules, Text, is_payload};
 use bag_tree::FileEntry;
 use std::alloc::{AllocError, Global};
 
-/// The bytes of the `bag-info.txt` that is written, where one is.
+/// Whether the `bag-info.txt` that is to be written can be, by what is known of the old one.
+pub(crate) fn check_info(alloc: Global, facts: &Facts, renewal: &Renewal) -> Result<(), RenewFault>
+    ensures { IfErr result (λ fault. IfBagRead facts.now (λ bag.
+        IsInfoRefusal bag renewal.now (lines_in bag bag_info_txt) fault)) }
+{
+    if !writes_info(facts, renewal) {
+        return Ok(());
+    }
+    let Ok(old) = known_elements(alloc, facts) else {
+        return Err(RenewFault::Memory);
+    };
+    match new_elements(alloc, facts, renewal, &old) {
+        Ok(_) => Ok(()),
+        Err(fault) => Err(fault),
+    }
+}
+
+/// The bytes of the `bag-info.txt` that is written, where one is. Of the old one these bytes are
+/// given, so that the elements that stay are theirs.
 pub(crate) fn info_file(
     alloc: Global,
     facts: &Facts,
     renewal: &Renewal,
+    old: &[u8],
 ) -> Result<Option<Items<u8>>, RenewFault>
-    ensures text { IfOk result (λ info.
-        IfBagRead facts.now (λ bag. IsNewInfo bag renewal.now info)) }
-    ensures refused { IfErr result (IsInfoRefusal facts.now renewal.now) }
+    ensures text { IfOk result (λ text. IfBagRead facts.now (λ bag.
+        IsInfoAfter bag renewal.now (lines_of_file old.now) text)) }
+    ensures refused { IfErr result (λ fault. IfBagRead facts.now (λ bag.
+        IsInfoRefusal bag renewal.now (lines_of_file old.now) fault)) }
 {
     if !writes_info(facts, renewal) {
         return Ok(None);
     }
-    let Ok(elements) = new_elements(alloc, facts, renewal) else {
+    let Ok(old) = elements_in(alloc, facts.rules(), old) else {
         return Err(RenewFault::Memory);
     };
-    if has_bad(&elements) {
-        return Err(RenewFault::BadValue);
-    }
+    let elements = match new_elements(alloc, facts, renewal, &old) {
+        Ok(elements) => elements,
+        Err(fault) => return Err(fault),
+    };
     // The elements were asked, so that only memory can be wanting.
     match write_long_info(alloc, &elements) {
         Ok(bytes) => Ok(Some(Items::from_vec(bytes))),
@@ -75,28 +100,58 @@ fn are_texts(label: &str, value: &str)
     ensures { IsText label.now × IsText value.now }
 {}
 
-/// The elements of the renewed bag.
+/// The elements of the renewed bag, which all can be written, where the bag had these.
 fn new_elements(
     alloc: Global,
     facts: &Facts,
     renewal: &Renewal,
-) -> Result<Vec<(Text, Text)>, AllocError>
-    ensures { IfOk result (λ made.
-        IfBagRead facts.now (λ bag. made.items ≡ spec.new_elements bag renewal.now)) }
+    old: &[(Text, Text)],
+) -> Result<Vec<(Text, Text)>, RenewFault>
+    ensures elements { IfOk result (λ made. (bag : Bag) → IsFactsOf bag facts.now
+        → made.items ≡ info.elements_from bag renewal.now old.now) }
+    ensures good { IfOk result (λ made. CanBeWritten made.items) }
+    ensures refused { IfErr result (λ fault. (bag : Bag) → IsFactsOf bag facts.now
+        → info.AreRefused (info.elements_from bag renewal.now old.now) fault) }
 {
-    let old = old_elements(alloc, facts)?;
-    let size = size_text(alloc, facts.files())?;
-    renewed_elements(alloc, &renewal.elements, size, &old)
+    let Ok(elements) = changed_elements(alloc, facts, renewal, old) else {
+        return Err(RenewFault::Memory);
+    };
+    if has_bad(&elements) {
+        return Err(RenewFault::BadValue);
+    }
+    Ok(elements)
 }
 
-/// The elements that the bag has.
-fn old_elements(alloc: Global, facts: &Facts) -> Result<Vec<(Text, Text)>, AllocError>
+/// The elements of the renewed bag, where the bag had these.
+fn changed_elements(
+    alloc: Global,
+    facts: &Facts,
+    renewal: &Renewal,
+    old: &[(Text, Text)],
+) -> Result<Vec<(Text, Text)>, AllocError>
+    ensures { IfOk result (λ made. (bag : Bag) → IsFactsOf bag facts.now
+        → made.items ≡ info.elements_from bag renewal.now old.now) }
+{
+    let size = size_text(alloc, facts.files())?;
+    renewed_elements(alloc, &renewal.elements, size, old)
+}
+
+/// The elements that the bag has, as they are known.
+fn known_elements(alloc: Global, facts: &Facts) -> Result<Vec<(Text, Text)>, AllocError>
     ensures { IfOk result (λ made. IfBagRead facts.now (λ bag. made.items ≡ elements_of bag)) }
 {
     match facts.metadata() {
         Some(metadata) => labels_and_values(alloc, metadata.elements.as_slice()),
         None => Ok(Vec::new(alloc)),
     }
+}
+
+/// The elements of the bytes of a `bag-info.txt`.
+fn elements_in(alloc: Global, rules: Rules, bytes: &[u8]) -> Result<Vec<(Text, Text)>, AllocError>
+    ensures { IfOk result (λ made. made.items ≡ elements_on rules (lines_of_file bytes.now)) }
+{
+    let read = read_info(alloc, rules, bytes)?;
+    labels_and_values(alloc, read.items.as_slice())
 }
 
 fn labels_and_values(alloc: Global, elements: &[Element]) -> Result<Vec<(Text, Text)>, AllocError>

@@ -9,13 +9,14 @@
 //! ```
 //!
 //! Manifests of further algorithms are made, elements of `bag-info.txt` are set, and the version
-//! becomes 1.0 (RFC 8493, 2.1.1, 2.1.3, 2.2.1 and 2.2.2). Each file of the bag is read once: the
-//! digests that its manifests give are compared, and the new ones computed, over the same bytes.
+//! becomes 1.0 (RFC 8493, 2.1.1, 2.1.3, 2.2.1 and 2.2.2). After the tag files were read for what
+//! they say, each file is read once: the digests that manifests give are compared, and the new ones
+//! computed, over the same bytes; and the elements that stay are read of these bytes.
 //!
-//! The payload manifests of further algorithms are given of a bag without a fault alone, and over
-//! any tree of the very bytes whose digests were compared. The renewed bag has no fault, and the
-//! payload of the old one. The changes that make it put or remove one tag file after the other, each
-//! can be made after those before it, and none touches the payload.
+//! Of a bag with a fault nothing is made. Over any tree the changes and the new manifests are of the
+//! very bytes whose digests were compared. The renewed bag has no fault, and the payload of the old
+//! one. The changes that make it put or remove one tag file after the other, each can be made after
+//! those before it, and none touches the payload.
 #![tactic(auto)]
 
 mod alg_choice;

@@ -152,7 +152,7 @@ fn sum_texts(
 }
 
 /// The digests of bytes.
-fn sums_of(bytes: &[u8], algs: AlgSet) -> Sums
+pub(crate) fn sums_of(bytes: &[u8], algs: AlgSet) -> Sums
     ensures { AreSumsOf algs bytes.now result }
 {
     let mut digests = Digests::new(algs);

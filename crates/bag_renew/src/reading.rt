@@ -1,14 +1,16 @@
 //! Reading a bag that is to be renewed.
 ghost use Rattle.std.specs.Prelude.{IfErr, IfOk};
 ghost use Rattle.bag_tree.specs.Tree.{Keeps};
+ghost use Rattle.bag_renew.specs.Openings.{OpensBefore, OpensForRenewal};
 ghost use Rattle.bag_renew.specs.Reading.{AllowsRenewal, IsRefusedByFacts};
 ghost use Rattle.bag_renew.specs.Reading.{HasReadBag, IsRefusalOf, IsRefusalOfStop};
 ghost use Rattle.bag_renew.specs.Reading.{MayRefuseReading};
 
 use crate::algorithms::{new_algs, reads_payload};
+use crate::info::check_info;
 use crate::obstacles::check_obstacles;
 use crate::stages::check_stages;
-use crate::summed::{SummedFile, check_files};
+use crate::summed::{CheckedFiles, check_files};
 use crate::{RenewFault, Renewal, Unchecked};
 use bag_facts::{Depth, Facts, Options};
 use bag_text::AlgSet;
@@ -24,19 +26,23 @@ pub(crate) const FULL: Options = Options {
 /// Reads a bag, which can be renewed, and the digests by the algorithms of its new manifests.
 ///
 /// It is refused with the first of its faults of the stages that open no file; then for what stands
-/// in the way of a renewal; and then for the first file that has another digest than a manifest
-/// gives. The tag files are read first. Then each file is opened once, but the payload only where a
-/// payload manifest is written.
+/// in the way of a renewal; then for an element that can't be written; and then for the first file
+/// that has another digest than a manifest gives. The tag files are read first. Then each file is
+/// opened once, but the payload only where a payload manifest is written; and the bytes of
+/// `bag-info.txt` are kept, as its digests are compared then.
 pub(crate) fn read_bag<T: Tree>(
     alloc: Global,
     tree: &mut T,
     renewal: &Renewal,
-) -> Result<(Facts, Vec<SummedFile>), RenewFault>
+) -> Result<(Facts, CheckedFiles), RenewFault>
     ensures keeps { Keeps (T.state tree.old) (T.state tree.new) }
     ensures read { IfOk result (λ read.
-        HasReadBag renewal.now (T.state tree.old) (T.state tree.new) read.0 read.1.items) }
+        HasReadBag renewal.now (T.state tree.old) (T.state tree.new) read.0 read.1.summed.items
+        read.1.info) }
     ensures refused { IfErr result
         (MayRefuseReading renewal.now (T.state tree.old) (T.state tree.new)) }
+    ensures opens { OpensForRenewal renewal.now (T.state tree.old) (T.state tree.new) }
+    ensures opens_before { IfErr result (OpensBefore (T.state tree.old) (T.state tree.new)) }
 {
     let facts = match Facts::read(alloc, tree, FULL) {
         Ok(facts) => facts,
@@ -48,13 +54,14 @@ pub(crate) fn read_bag<T: Tree>(
     };
     let with_payload = reads_payload(&facts, renewal);
     match check_files(alloc, tree, &facts, algs, with_payload) {
-        Ok(summed) => Ok((facts, summed)),
+        Ok(checked) => Ok((facts, checked)),
         Err(unchecked) => Err(refusal(unchecked)),
     }
 }
 
 /// Whether what is known of a bag allows that it is renewed; and the algorithms of its new
 /// manifests.
+#[tactic(auto, using(crate::proofs::ReadBag::refusing))]
 fn check_facts(alloc: Global, facts: &Facts, renewal: &Renewal) -> Result<AlgSet, RenewFault>
     ensures algs { IfOk result (AllowsRenewal facts.now renewal.now) }
     ensures refused { IfErr result (IsRefusedByFacts facts.now renewal.now) }
@@ -63,6 +70,9 @@ fn check_facts(alloc: Global, facts: &Facts, renewal: &Renewal) -> Result<AlgSet
         return Err(refusal(unchecked));
     }
     if let Err(fault) = check_obstacles(alloc, facts, renewal) {
+        return Err(fault);
+    }
+    if let Err(fault) = check_info(alloc, facts, renewal) {
         return Err(fault);
     }
     Ok(new_algs(facts, renewal))

@@ -10,9 +10,10 @@ use std::alloc::Global;
 pub struct ElementChanges {
     /// Elements that stand in place of all those with their labels, in their order.
     pub set: Items<(Text, Text)>,
-    /// Elements that are added, but for one that stands there with its value.
+    /// Elements that are added, but for one that stands there with its value. None may have a label
+    /// that is set or unset.
     pub appended: Items<(Text, Text)>,
-    /// Labels of which no element is to be left, where none is set or appended.
+    /// Labels of which all old elements go, also where elements are set with one of them.
     pub unset: Items<Text>,
 }
 

@@ -3,6 +3,7 @@ ghost use Rattle.std.specs.Prelude.{◌≡◌, ◌≤◌, ◌<◌, ◌-◌, All,
 ghost use Rattle.bag_tree.specs.ChangeFiles.{HasChanged, IsOfFile, LastsChanged, OutlastsChanges};
 ghost use Rattle.bag_tree.specs.Tree.{Keeps};
 ghost use Rattle.bag_tree.specs.declared.file_change.FileChange.{FileChange as Change};
+ghost use Rattle.bag_renew.specs.Openings.{OpensBefore, OpensForRenewal};
 ghost use Rattle.bag_renew.specs.Reading.{MayRefuseReading};
 ghost use Rattle.bag_renew.specs.Renew.{HasPlanned, HasStoppedAt, IsRenewal, told_as};
 ghost use Rattle.bag_renew.specs.Renewed.{begun_file};
@@ -13,6 +14,7 @@ use crate::elements::is_bad_request;
 use crate::info::info_file;
 use crate::obstacles::BEGUN_FILE;
 use crate::reading::read_bag;
+use crate::summed::CheckedFiles;
 use crate::{RenewFault, Renewal};
 use bag_text::Items;
 use bag_tree::{FileChange, RefusedChange, ReplaceTree, Tree, change_files};
@@ -21,10 +23,12 @@ use std::alloc::{AllocError, Global};
 /// Renews a bag in place: one tag file after the other is put or removed, each whole and durable
 /// before the next (RFC 8493, 2.1.1, 2.1.3, 2.2.1 and 2.2.2).
 ///
-/// All is read first, and the bag has no fault of the stages that open no payload file, or it is
-/// refused with the first. Where a payload manifest is written, each payload file is opened once,
-/// and the digests that manifests give for it are compared with those of the very bytes of which
-/// the new ones are computed. Where none is, no payload file is opened.
+/// All is read first. A bag is refused with the first of its faults of the stages that open no
+/// payload file; else for what stands in the way of a renewal; else for an element that can't be
+/// written; and else with the first file that has another digest than a manifest gives. Where a
+/// payload manifest is written, each payload file is opened once, and these digests are compared
+/// with those of the very bytes of which the new ones are computed. Where none is, no payload file
+/// is opened. The elements of `bag-info.txt` that stay are those of the bytes that were compared.
 ///
 /// The tag manifests are removed first, and put last; a file of the name `.bagit-begun`, which a
 /// renewal that was cut off may leave, is removed. Each bag on the way has the payload, and after a
@@ -51,6 +55,8 @@ pub fn plan_renewal<T: Tree>(
     ensures planned { IfOk result (HasPlanned renewal.now (T.state tree.old) (T.state tree.new)) }
     ensures refused { IfErr result
         (MayRefuseReading renewal.now (T.state tree.old) (T.state tree.new)) }
+    ensures opens { OpensForRenewal renewal.now (T.state tree.old) (T.state tree.new) }
+    ensures opens_before { IfErr result (OpensBefore (T.state tree.old) (T.state tree.new)) }
 {
     Ok(Items::from_vec(read_and_plan(alloc, tree, renewal)?))
 }
@@ -67,12 +73,18 @@ fn read_and_plan<T: Tree>(
         HasPlanned renewal.now (T.state tree.old) (T.state tree.new) changes.items) }
     ensures refused { IfErr result
         (MayRefuseReading renewal.now (T.state tree.old) (T.state tree.new)) }
+    ensures opens { OpensForRenewal renewal.now (T.state tree.old) (T.state tree.new) }
+    ensures opens_before { IfErr result (OpensBefore (T.state tree.old) (T.state tree.new)) }
 {
     if is_bad_request(&renewal.elements) {
         return Err(RenewFault::BadValue);
     }
-    let (facts, summed) = read_bag(alloc, tree, renewal)?;
-    let info = info_file(alloc, &facts, renewal)?;
+    let (facts, checked) = read_bag(alloc, tree, renewal)?;
+    let CheckedFiles { summed, info } = checked;
+    let info = match info_file(alloc, &facts, renewal, info.as_slice()) {
+        Ok(info) => info,
+        Err(fault) => return Err(fault),
+    };
     match changes_of(alloc, &facts, renewal, summed, info) {
         Ok(changes) => Ok(changes),
         Err(AllocError) => Err(RenewFault::Memory),

@@ -1,16 +1,19 @@
 //! The files of a bag, each checked and summed in one reading.
-ghost use Rattle.std.specs.Prelude.{◌≡◌, ◌<◌, ◌++◌, ◌∷◌, [], length, IfOk, IfErr, OnOk};
+ghost use Rattle.std.specs.Prelude.{◌≡◌, ◌<◌, ◌++◌, ◌∷◌, [], length, IfOk, IfErr, OnErr, OnOk};
+ghost use Rattle.bag_tree.specs.FileReads.{OpensAtMost};
 ghost use Rattle.bag_tree.specs.Tree.{Keeps, NothingFailed};
 ghost use Rattle.bag_facts.specs.Wanted.{paths_of};
+ghost use Rattle.bag_renew.specs.Openings.{IsOfSeventh, OpensFirstToRead};
 ghost use Rattle.bag_renew.specs.Summed.{AreChecked, IsCheckedFile, IsFaultyFile, IsGivenFor};
 ghost use Rattle.bag_renew.specs.Stops.{StopsChecking};
 ghost use Rattle.bag_renew.specs.Summed.{IsNoMemory, is_to_read, to_read};
 
-use crate::{Unchecked, check_and_sum};
+use crate::Unchecked;
+use crate::checked::check_or_keep;
 use bag_facts::Facts;
 use bag_stages::{Packed, Places, expected_of};
-use bag_text::{AlgSet, Text, is_payload};
-use bag_tree::{FileEntry, Stop, Sums, Tree, TreeFault};
+use bag_text::{AlgSet, Items, Text, is_payload};
+use bag_tree::{FileEntry, Stop, Sums, Tree};
 use std::alloc::{AllocError, Global};
 
 /// How many bytes are read at once.
@@ -23,33 +26,45 @@ pub(crate) struct SummedFile {
     pub sums: Sums,
 }
 
+/// Files that were checked, each read once.
+#[derive(Debug, Drop)]
+pub(crate) struct CheckedFiles {
+    /// Their digests, in their order.
+    pub summed: Vec<SummedFile>,
+    /// The bytes of `bag-info.txt` of which its digests were compared; none where it isn't there.
+    pub info: Items<u8>,
+}
+
 /// That memory ran out.
 pub(crate) fn no_memory(alloc: Global) -> Unchecked
     ensures { IsNoMemory result }
 {
-    Unchecked::Stopped(Stop::without_path(alloc, TreeFault::Memory))
+    Unchecked::Stopped(Stop::out_of_memory(alloc))
 }
 
 /// The digests of listed files in their order, where each file has those that manifests give for
 /// it: of all of them, or of all but those of the payload. Each is opened once, and read through one
 /// buffer: what is compared and what is computed are digests of the same bytes.
-#[tactic(auto, using(crate::proofs::Stopping::stops_for_memory, bag_tree::proofs::Calm::nothing_asked))]
+#[tactic(auto, using(crate::proofs::Stopping::stops_for_memory, bag_tree::proofs::Calm::nothing_asked, crate::proofs::FirstOpened::opens_none, crate::proofs::FirstOpened::seventh_for_memory))]
 pub(crate) fn check_files<T: Tree>(
     alloc: Global,
     tree: &mut T,
     facts: &Facts,
     algs: AlgSet,
     with_payload: bool,
-) -> Result<Vec<SummedFile>, Unchecked>
+) -> Result<CheckedFiles, Unchecked>
     ensures keeps { Keeps (T.state tree.old) (T.state tree.new) }
     ensures no_failure { OnOk result (NothingFailed (T.state tree.old) (T.state tree.new)) }
     ensures opened { OnOk result ((T.state tree.new).openings
         ≡ (T.state tree.old).openings
         ++ paths_of (to_read with_payload facts.now.listing.files)) }
-    ensures checked { IfOk result (λ summed.
+    ensures opens { OpensFirstToRead
+        with_payload facts.now.listing.files (T.state tree.old) (T.state tree.new) }
+    ensures checked { IfOk result (λ checked.
         AreChecked (T.state tree.old) facts.now (to_read with_payload facts.now.listing.files) algs
-        summed.items) }
+        checked.summed.items checked.info) }
     ensures faulty { IfErr result (IsFaultyFile facts.now (T.state tree.old)) }
+    ensures seventh { IfErr result IsOfSeventh }
     ensures stopped { IfErr result
         (StopsChecking facts.now.listing.files (T.state tree.old) (T.state tree.new)) }
 {
@@ -68,7 +83,7 @@ pub(crate) fn check_files<T: Tree>(
 }
 
 /// The digests of listed files that are read, one file after another.
-#[tactic(auto, using(crate::proofs::Stopping::stops_for_memory, crate::proofs::Stopping::stops_at, bag_tree::proofs::Calm::nothing_then, crate::proofs::Summing::checks_none, crate::proofs::Summing::checks_one_more, crate::proofs::Summing::opens_all, crate::proofs::Summing::checks_all, crate::proofs::Summing::faulty_before))]
+#[tactic(auto, using(crate::proofs::Summing::summing, crate::proofs::FirstOpened::seventh_for_memory))]
 fn check_each<T: Tree>(
     alloc: Global,
     tree: &mut T,
@@ -77,35 +92,40 @@ fn check_each<T: Tree>(
     algs: AlgSet,
     with_payload: bool,
     buffer: &mut [u8],
-) -> Result<Vec<SummedFile>, Unchecked>
+) -> Result<CheckedFiles, Unchecked>
     requires { 0 < length buffer.old }
     ensures keeps { Keeps (T.state tree.old) (T.state tree.new) }
     ensures no_failure { OnOk result (NothingFailed (T.state tree.old) (T.state tree.new)) }
     ensures opened { OnOk result
         ((T.state tree.new).openings
         ≡ (T.state tree.old).openings ++ paths_of (to_read with_payload files.now)) }
-    ensures checked { IfOk result (λ summed.
+    ensures opens { OpensFirstToRead
+        with_payload files.now (T.state tree.old) (T.state tree.new) }
+    ensures checked { IfOk result (λ checked.
         AreChecked (T.state tree.old) facts.now (to_read with_payload files.now) algs
-        summed.items) }
+        checked.summed.items checked.info) }
     ensures faulty { IfErr result (IsFaultyFile facts.now (T.state tree.old)) }
+    ensures seventh { IfErr result IsOfSeventh }
     ensures stopped { IfErr result
         (StopsChecking files.now (T.state tree.old) (T.state tree.new)) }
 {
     let mut places = Places::new();
     let mut summed = Vec::new(alloc);
+    let mut info = Items::new(alloc);
     for entry in files {
         if !is_read(entry, with_payload) {
             continue;
         }
-        let one = match check_file(alloc, tree, facts, entry, algs, &mut places, buffer) {
-            Ok(one) => one,
+        let (one, kept) = match check_file(alloc, tree, facts, entry, algs, &mut places, buffer) {
+            Ok(checked) => checked,
             Err(unchecked) => return Err(unchecked),
         };
+        info = kept.unwrap_or(info);
         let Ok(()) = summed.push(one) else {
             return Err(no_memory(alloc));
         };
     }
-    Ok(summed)
+    Ok(CheckedFiles { summed, info })
 }
 
 /// Whether a listed file is read: one that isn't of the payload always.
@@ -115,8 +135,9 @@ fn is_read(entry: &FileEntry, with_payload: bool) -> bool
     with_payload || !is_payload(entry.path.as_str())
 }
 
-/// The digests of one listed file, where it has those that manifests give for it.
-#[tactic(auto, using(crate::proofs::Stopping::stops_for_memory, bag_tree::proofs::Calm::nothing_asked, crate::proofs::Summing::faulty_file))]
+/// The digests of one listed file, where it has those that manifests give for it; and its bytes,
+/// where it is `bag-info.txt`.
+#[tactic(auto, using(crate::proofs::Summing::summing_one, crate::proofs::FirstOpened::seventh_of_bytes, crate::proofs::FirstOpened::seventh_for_memory))]
 fn check_file<T: Tree>(
     alloc: Global,
     tree: &mut T,
@@ -125,14 +146,18 @@ fn check_file<T: Tree>(
     algs: AlgSet,
     places: &mut Places,
     buffer: &mut [u8],
-) -> Result<SummedFile, Unchecked>
+) -> Result<(SummedFile, Option<Items<u8>>), Unchecked>
     requires { 0 < length buffer.old }
     ensures keeps { Keeps (T.state tree.old) (T.state tree.new) }
     ensures no_failure { OnOk result (NothingFailed (T.state tree.old) (T.state tree.new)) }
     ensures opened { OnOk result
         ((T.state tree.new).openings ≡ (T.state tree.old).openings ++ entry.now.path ∷ []) }
-    ensures checked { IfOk result (IsCheckedFile (T.state tree.old) facts.now entry.now algs) }
+    ensures opens { OnErr result
+        (OpensAtMost (T.state tree.old) (T.state tree.new) entry.now.path) }
+    ensures checked { IfOk result (λ checked.
+        IsCheckedFile (T.state tree.old) facts.now entry.now algs checked.0 checked.1) }
     ensures faulty { IfErr result (IsFaultyFile facts.now (T.state tree.old)) }
+    ensures seventh { IfErr result IsOfSeventh }
     ensures stopped { IfErr result
         (StopsChecking (entry.now ∷ []) (T.state tree.old) (T.state tree.new)) }
 {
@@ -142,8 +167,8 @@ fn check_file<T: Tree>(
     let Ok(expected) = given_for(alloc, facts, &entry.path, places) else {
         return Err(no_memory(alloc));
     };
-    match check_and_sum(alloc, tree, entry, &expected, algs, buffer) {
-        Ok(sums) => Ok(SummedFile { path, sums }),
+    match check_or_keep(alloc, tree, entry, &expected, algs, buffer) {
+        Ok((sums, kept)) => Ok((SummedFile { path, sums }, kept)),
         Err(unchecked) => Err(unchecked),
     }
 }
@@ -157,7 +182,5 @@ fn given_for(
 ) -> Result<Packed, AllocError>
     ensures { IfOk result (IsGivenFor facts.now path.now) }
 {
-    let expected = expected_of(alloc, facts, path, places)?;
-    let packed = Packed::of(alloc, expected.as_slice())?;
-    Ok(packed)
+    expected_of(alloc, facts, path, places)
 }

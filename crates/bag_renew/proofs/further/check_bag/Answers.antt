@@ -1,3 +1,4 @@
+use Rattle.bag_renew.proofs.Openings.{all_of_files, all_of_tags}
 use Rattle.bag_renew.proofs.ReadBag.{stop_of_check, stop_of_facts}
 use Rattle.bag_renew.proofs.further.check_bag.Goals as goal
 
@@ -10,3 +11,27 @@ returns-clause-stopped g c =
     stop_of_check c.in-Ok.facts (g.T.Tree.state c.args.tree.now) (g.T.Tree.state c.read.new.tree)
     (g.T.Tree.state c.check_files.new.tree) c.in-Ok.ensures.seen c.in-Ok.ensures.facts c.read.ensures.keeps
     c.in-Ok.ensures.no_failure c.in-Err-check_files.unchecked c.in-Err-check_files.ensures.stopped
+
+pub returns-in-Err-clause-opens : goal.returns-in-Err-clause-opens
+returns-in-Err-clause-opens g c =
+    let new = g.T.Tree.state c.read.new.tree in
+    all_of_tags (g.T.Tree.state c.args.tree.now) new new (g.met.T.Tree.is_bag c.args.tree.now) c.read.ensures.opens
+
+pub returns-in-Err-check_stages-clause-opens : goal.returns-in-Err-check_stages-clause-opens
+returns-in-Err-check_stages-clause-opens g c =
+    let new = g.T.Tree.state c.read.new.tree in
+    all_of_tags (g.T.Tree.state c.args.tree.now) new new (g.met.T.Tree.is_bag c.args.tree.now) c.read.ensures.opens
+
+pub returns-in-Ok-check_files-clause-opens : goal.returns-in-Ok-check_files-clause-opens
+returns-in-Ok-check_files-clause-opens g c =
+    all_of_files (g.T.Tree.state c.args.tree.now) (g.T.Tree.state c.read.new.tree)
+    (g.T.Tree.state c.check_files.new.tree) (g.met.T.Tree.is_bag c.args.tree.now) c.in-Ok.facts
+    c.in-Ok.ensures.options c.in-Ok.ensures.seen c.in-Ok.ensures.facts c.read.ensures.opens c.in_default.ensures.none
+    c.check_files.ensures.opens
+
+pub returns-clause-opens : goal.returns-clause-opens
+returns-clause-opens g c =
+    all_of_files (g.T.Tree.state c.args.tree.now) (g.T.Tree.state c.read.new.tree)
+    (g.T.Tree.state c.check_files.new.tree) (g.met.T.Tree.is_bag c.args.tree.now) c.in-Ok.facts
+    c.in-Ok.ensures.options c.in-Ok.ensures.seen c.in-Ok.ensures.facts c.read.ensures.opens c.in_default.ensures.none
+    c.check_files.ensures.opens

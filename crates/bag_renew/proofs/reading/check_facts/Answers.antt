@@ -1,12 +1,7 @@
-use Rattle.bag_renew.proofs.ReadBag.{refused_by_obstacle, refused_by_stage}
+use Rattle.bag_renew.proofs.ReadBag.{refused_by_stage}
 use Rattle.bag_renew.proofs.reading.check_facts.Goals as goal
 
 pub returns-in-Err-clause-refused : goal.returns-in-Err-clause-refused
 returns-in-Err-clause-refused c =
     refused_by_stage c.args.renewal.now c.args.facts.now c.in-Err.unchecked c.refusal.result c.in-Err.ensures.fault
     c.refusal.ensures
-
-pub returns-in-Err-check_obstacles-clause-refused : goal.returns-in-Err-check_obstacles-clause-refused
-returns-in-Err-check_obstacles-clause-refused c =
-    refused_by_obstacle c.args.renewal.now c.args.facts.now c.in-Err-check_obstacles.fault
-    c.in-Err-check_obstacles.ensures.obstacle

@@ -1,6 +1,7 @@
 use Rattle.bag_facts.proofs.Reading.{keeps_on}
 use Rattle.bag_tree.proofs.Calm.{nothing_then}
 use Rattle.bag_renew.proofs.CheckedBag.{has_checked}
+use Rattle.bag_renew.proofs.Openings.{before_by_check, for_renewal_of_files, for_renewal_of_tags}
 use Rattle.bag_renew.proofs.ReadBag.{has_read_bag, refused_by_check, refused_by_facts, refused_stop, stop_of_facts}
 use Rattle.bag_renew.proofs.reading.read_bag.Goals as goal
 
@@ -33,10 +34,53 @@ returns-in-Ok-check_files-clause-read g c =
     let ok = c.in-Ok.ensures in
     has_read_bag c.args.renewal.now c.in-Ok.facts old mid new ok.options ok.seen ok.facts c.read.ensures.keeps
     ok.no_failure c.in-Ok-check_facts.algs c.in-Ok-check_facts.ensures.algs c.reads_payload-with_payload.result
-    c.reads_payload-with_payload.ensures c.in-Ok-check_files.summed.items
+    c.reads_payload-with_payload.ensures c.in-Ok-check_files.checked.summed.items c.in-Ok-check_files.checked.info
     (has_checked c.in-Ok.facts c.in-Ok-check_facts.algs old mid new ok.options ok.facts c.read.ensures.keeps
-    c.in-Ok-check_facts.ensures.algs.none c.reads_payload-with_payload.result c.in-Ok-check_files.summed.items ok.seen
-    ok.opened c.in-Ok-check_files.ensures.opened c.in-Ok-check_files.ensures.checked)
+    c.in-Ok-check_facts.ensures.algs.none c.reads_payload-with_payload.result c.in-Ok-check_files.checked.summed.items
+    c.in-Ok-check_files.checked.info ok.seen ok.opened c.in-Ok-check_files.ensures.opened c.in-Ok-check_files.ensures.checked)
     (g.met.T.Tree.is_bag c.args.tree.now)
     (keeps_on old mid new c.read.ensures.keeps c.check_files.ensures.keeps)
     (nothing_then old mid new ok.no_failure c.in-Ok-check_files.ensures.no_failure)
+
+pub returns-in-Err-clause-opens : goal.returns-in-Err-clause-opens
+returns-in-Err-clause-opens g c =
+    let old = g.T.Tree.state c.args.tree.now in
+    let new = g.T.Tree.state c.read.new.tree in
+    for_renewal_of_tags c.args.renewal.now old new new (g.met.T.Tree.is_bag c.args.tree.now) c.read.ensures.opens
+
+pub returns-in-Err-clause-opens_before : goal.returns-in-Err-clause-opens_before
+returns-in-Err-clause-opens_before g c = λ _. c.read.ensures.opens
+
+pub returns-in-Err-check_facts-clause-opens : goal.returns-in-Err-check_facts-clause-opens
+returns-in-Err-check_facts-clause-opens g c =
+    let old = g.T.Tree.state c.args.tree.now in
+    let new = g.T.Tree.state c.read.new.tree in
+    for_renewal_of_tags c.args.renewal.now old new new (g.met.T.Tree.is_bag c.args.tree.now) c.read.ensures.opens
+
+pub returns-in-Err-check_facts-clause-opens_before : goal.returns-in-Err-check_facts-clause-opens_before
+returns-in-Err-check_facts-clause-opens_before g c = λ _. c.read.ensures.opens
+
+pub returns-in-Err-check_files-clause-opens : goal.returns-in-Err-check_files-clause-opens
+returns-in-Err-check_files-clause-opens g c =
+    let old = g.T.Tree.state c.args.tree.now in
+    let mid = g.T.Tree.state c.read.new.tree in
+    let new = g.T.Tree.state c.check_files.new.tree in
+    let ok = c.in-Ok.ensures in
+    for_renewal_of_files c.args.renewal.now old mid new (g.met.T.Tree.is_bag c.args.tree.now) c.in-Ok.facts ok.options
+    ok.seen ok.facts c.read.ensures.opens c.in-Ok-check_facts.algs c.in-Ok-check_facts.ensures.algs
+    c.reads_payload-with_payload.result c.reads_payload-with_payload.ensures c.check_files.ensures.opens
+
+pub returns-in-Err-check_files-clause-opens_before : goal.returns-in-Err-check_files-clause-opens_before
+returns-in-Err-check_files-clause-opens_before g c =
+    before_by_check (g.T.Tree.state c.args.tree.now) (g.T.Tree.state c.check_files.new.tree)
+    c.in-Err-check_files.unchecked c.refusal.result c.in-Err-check_files.ensures.seventh c.refusal.ensures
+
+pub returns-in-Ok-check_files-clause-opens : goal.returns-in-Ok-check_files-clause-opens
+returns-in-Ok-check_files-clause-opens g c =
+    let old = g.T.Tree.state c.args.tree.now in
+    let mid = g.T.Tree.state c.read.new.tree in
+    let new = g.T.Tree.state c.check_files.new.tree in
+    let ok = c.in-Ok.ensures in
+    for_renewal_of_files c.args.renewal.now old mid new (g.met.T.Tree.is_bag c.args.tree.now) c.in-Ok.facts ok.options
+    ok.seen ok.facts c.read.ensures.opens c.in-Ok-check_facts.algs c.in-Ok-check_facts.ensures.algs
+    c.reads_payload-with_payload.result c.reads_payload-with_payload.ensures c.check_files.ensures.opens

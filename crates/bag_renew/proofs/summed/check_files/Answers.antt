@@ -1,14 +1,15 @@
 use Rattle.bag_renew.proofs.Common.{subst}
 use Rattle.std.specs.Prelude.{IfErr, IfOk}
+use Rattle.bag_renew.specs.Openings.{OpensFirstToRead}
 use Rattle.bag_renew.specs.Stops.{StopsChecking}
 use Rattle.bag_renew.specs.Summed.{AreChecked, to_read}
 use Rattle.bag_renew.proofs.summed.check_files.Goals as goal
 
 pub returns-clause-checked : goal.returns-clause-checked
 returns-clause-checked g c =
-    subst (λ files. IfOk c.check_each.result (λ summed.
+    subst (λ files. IfOk c.check_each.result (λ checked.
     AreChecked (g.T.Tree.state c.args.tree.now) c.args.facts.now (to_read c.args.with_payload files) c.args.algs
-    summed.items))
+    checked.summed.items checked.info))
     c.files.ensures c.check_each.ensures.checked
 
 pub returns-clause-stopped : goal.returns-clause-stopped
@@ -16,3 +17,9 @@ returns-clause-stopped g c =
     subst (λ files. IfErr c.check_each.result (StopsChecking files (g.T.Tree.state c.args.tree.now)
     (g.T.Tree.state c.check_each.new.tree)))
     c.files.ensures c.check_each.ensures.stopped
+
+pub returns-clause-opens : goal.returns-clause-opens
+returns-clause-opens g c =
+    subst (λ files. OpensFirstToRead c.args.with_payload files (g.T.Tree.state c.args.tree.now)
+    (g.T.Tree.state c.check_each.new.tree))
+    c.files.ensures c.check_each.ensures.opens

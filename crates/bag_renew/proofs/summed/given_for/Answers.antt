@@ -1,11 +1,15 @@
-use Rattle.bag_renew.proofs.Common.{sym, subst, ◌∙◌}
 use Rattle.bag_renew.specs.Summed.{IsGivenFor}
+use Rattle.std.specs.Prelude.{IfOk, Result, Ok, Err}
 use Rattle.bag_renew.proofs.summed.given_for.Goals as goal
+
+both : {X E : Type 0} (P Q R : X → Type 0) → ((x : X) → P x → Q x → R x) → (r : Result X E) → IfOk r P → IfOk r Q
+    → IfOk r R
+both P Q R f (Ok x) p q = f x p q
+both P Q R f (Err e) p q = tt
 
 pub returns : goal.returns
 returns c =
-    let held = c.in_ok-packed.ensures ∙ c.as_slice.ensures in
-    subst (IsGivenFor c.args.facts.now c.args.path.now) (sym held) (record {
-      algs = c.in_ok-expected.ensures.algs;
-      faults = c.in_ok-expected.ensures.faults;
-    })
+    both _ _ (IsGivenFor c.args.facts.now c.args.path.now) (λ expected algs faults. record {
+      algs = algs;
+      faults = faults;
+    }) c.expected_of.result c.expected_of.ensures.algs c.expected_of.ensures.faults

@@ -4,7 +4,7 @@ use Rattle.bag_facts.specs.Facts.{rules_in}
 use Rattle.bag_stages.specs.MetadataStage.{bag_info_txt}
 use Rattle.bag_renew.proofs.InfoRead.{elements_are, none_are}
 use Rattle.bag_renew.specs.NewInfo.{labels_and_values}
-use Rattle.bag_renew.proofs.info.old_elements.Goals as goal
+use Rattle.bag_renew.proofs.info.known_elements.Goals as goal
 
 pub returns-in-Some : goal.returns-in-Some
 returns-in-Some c = IfOk-weaker c.labels_and_values.result _ _

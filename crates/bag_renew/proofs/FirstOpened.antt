@@ -1,0 +1,90 @@
+-- The first of the listed files that are to be read were opened, and no other.
+use Rattle.bag_renew.proofs.Common.{◌≡◌, ◌<◌, ◌+◌, ◌++◌, ◌∷◌, ◌∙◌, inl, inr, ℕ, Bool, List, [], length, take, get_or}
+use Rattle.bag_renew.proofs.Common.{Alg, ap, append-nil, arith, map-append, sym, true}
+use Rattle.std.proofs.Math.Seq.{take-append_seam, take-length}
+use Rattle.std.proofs.lemmas.List.{take-append-drop}
+use Rattle.std.proofs.lemmas.List.Elements.{filter-append}
+use Rattle.std.specs.Prelude.{drop}
+use Rattle.bag_text.specs.Code.{stage}
+use Rattle.bag_read.specs.declared.kind.Kind.{Kind}
+use Rattle.bag_facts.specs.Wanted.{paths_of}
+use Rattle.bag_facts.specs.declared.facts.Facts.{Facts}
+use Rattle.bag_facts.specs.declared.fault.Fault.{Fault}
+use Rattle.bag_stages.specs.Given.{kind_of}
+use Rattle.bag_stages.specs.SumFaults.{differing_code, faults_of_bytes}
+use Rattle.bag_stages.specs.Expected.{Expected}
+use Rattle.bag_tree.specs.FileReads.{OpensAtMost}
+use Rattle.bag_tree.specs.Tree.{TreeState}
+use Rattle.bag_tree.specs.declared.listing.FileEntry.{FileEntry}
+use Rattle.bag_renew.proofs.Summing.{ChecksFirst, opened_more}
+use Rattle.bag_renew.specs.Checked.{IsUnchecked}
+use Rattle.bag_renew.specs.Openings.{IsOfSeventh, OpensFirstToRead}
+use Rattle.bag_renew.specs.Summed.{IsNoMemory, is_to_read, to_read}
+use Rattle.bag_renew.specs.declared.checked.Unchecked.{Unchecked}
+use Rattle.bag_renew.specs.declared.checked.Unchecked.TheVariants.{Faulty, Stopped}
+use Rattle.bag_renew.specs.declared.summed.SummedFile.{SummedFile}
+
+module _ (with_payload : Bool) (files : List FileEntry) (old new : TreeState) where
+  abbrev front : ℕ → List (List ℕ)
+  front i = paths_of (to_read with_payload (take i files))
+
+  abbrev behind : ℕ → List (List ℕ)
+  behind i = paths_of (to_read with_payload (drop i files))
+
+  joined : (i : ℕ) → paths_of (to_read with_payload files) ≡ front i ++ behind i
+  joined i =
+      ap (λ xs. paths_of (to_read with_payload xs)) (sym (take-append-drop i files))
+      ∙ ap paths_of (filter-append (λ (e : FileEntry). is_to_read with_payload e.path) (take i files) (drop i files))
+      ∙ map-append (λ (e : FileEntry). e.path) (to_read with_payload (take i files))
+      (to_read with_payload (drop i files))
+
+  pub opens_so_far : (i : ℕ) → new.openings ≡ old.openings ++ front i → OpensFirstToRead with_payload files old new
+  opens_so_far i opened = (
+    length (front i),
+    opened
+        ∙ ap (λ xs. old.openings ++ xs)
+        (sym (ap (take (length (front i))) (joined i) ∙ take-append_seam (front i) (behind i))),
+  )
+
+  pub opens_each : new.openings ≡ old.openings ++ paths_of (to_read with_payload files)
+      → OpensFirstToRead with_payload files old new
+  opens_each opened = (
+    length (paths_of (to_read with_payload files)),
+    opened ∙ ap (λ xs. old.openings ++ xs) (sym (take-length (paths_of (to_read with_payload files)))),
+  )
+
+  pub opens_none : new.openings ≡ old.openings → OpensFirstToRead with_payload files old new
+  opens_none same = (0, same ∙ sym (append-nil old.openings))
+
+-- it stopped at a file, which was opened or not
+module _ (facts : Facts) (files : List FileEntry) (i : ℕ) (entry : FileEntry) (with_payload : Bool) (algs : List Alg)
+    (old mid new : TreeState) (summed : List SummedFile) (info : List ℕ)
+    (lt : i < length files) (is : entry ≡ get_or files i entry)
+    (before : ChecksFirst facts files i with_payload algs old mid summed info)
+    (read : is_to_read with_payload entry.path ≡ true) where
+  pub opens_at : OpensAtMost mid new entry.path → OpensFirstToRead with_payload files old new
+  opens_at (inl none) = opens_so_far with_payload files old new i (none ∙ before.opened)
+  opens_at (inr once) =
+      opens_so_far with_payload files old new (i + 1)
+      (opened_more facts files i entry with_payload algs old mid new summed info lt is before read once)
+
+-- ---- a digest that differs is a fault of the seventh stage
+
+differing_stage : (kind : Kind) → stage (differing_code kind) ≡ 7
+differing_stage kind = grind arith
+
+seventh_of : (path content : List ℕ) (expected : List Expected) (fault : Fault) (rest : List Fault)
+    → faults_of_bytes path content expected ≡ fault ∷ rest → stage fault.code ≡ 7
+seventh_of path content [] fault rest e = cc
+seventh_of path content (one ∷ expected) fault rest e =
+    grind (arith, differing_stage (kind_of path), seventh_of path content expected fault rest)
+
+pub seventh_of_bytes : (state : TreeState) (entry : FileEntry) (expected : List Expected) (e : Unchecked)
+    → IsUnchecked state entry expected e → IsOfSeventh e
+seventh_of_bytes state entry expected (Stopped stop) h = tt
+seventh_of_bytes state entry expected (Faulty fault) (content, rest, read, same) =
+    seventh_of entry.path content expected fault rest same
+
+pub seventh_for_memory : (e : Unchecked) → IsNoMemory e → IsOfSeventh e
+seventh_for_memory (Stopped stop) h = tt
+seventh_for_memory (Faulty fault) h = absurd h

@@ -1,0 +1,59 @@
+-- What a renewal changes over any tree: of bytes whose digests were compared.
+use Rattle.std.specs.Prelude.{ℕ, ◌≡◌, ◌++◌, List, Option, filter, map}
+use Rattle.bag_text.specs.Lines.{lines_of_file}
+use Rattle.bag_read.specs.ManifestName.{tag_path}
+use Rattle.bag_read.specs.declared.kind.Kind.TheVariants.{Tag}
+use Rattle.bag_read.specs.declared.tag_name.TagName.TheVariants.{Info, Manifest}
+use Rattle.bag_tree.specs.Bag.{Bag, IsBag}
+use Rattle.bag_tree.specs.declared.file_change.FileChange.{FileChange}
+use Rattle.bag_renew.specs.Changes.{clearing, dropping, opening, put}
+use Rattle.bag_renew.specs.Compared.{AreCompared}
+use Rattle.bag_renew.specs.Composing.{is_tag_file, keeps_bytes, kept_names, last_files, written_algs}
+use Rattle.bag_renew.specs.NewInfo.{IsInfoAfter}
+use Rattle.bag_renew.specs.NewManifests.{manifests_for}
+use Rattle.bag_renew.specs.Renewed.{File, in_path_order, manifest, new_algs, reads_payload, with_path}
+use Rattle.bag_renew.specs.Summed.{IsInfoAmong, payload_of}
+use Rattle.bag_renew.specs.declared.renewal.Renewal.{Renewal}
+
+-- of a bag these files were read, and this is the bag-info.txt that is written, if one is
+module _ (bag : Bag) (renewal : Renewal) (files : List File) (info : Option (List ℕ)) where
+  -- the files that are put first: bag-info.txt, and the payload manifests that aren't kept
+  abbrev pub first_from : List File
+  first_from =
+      with_path (tag_path Info) info ++ manifests_for (written_algs bag renewal) (payload_of files)
+
+  -- the tag files that keep their bytes
+  abbrev pub kept_from : List File
+  kept_from = filter (λ e. keeps_bytes (kept_names bag renewal) e.0) (filter is_tag_file files)
+
+  -- what tag manifests name
+  abbrev pub named_from : List File
+  named_from = in_path_order (kept_from ++ (first_from ++ last_files bag))
+
+  abbrev pub tag_manifests_from : List File
+  tag_manifests_from =
+      map (λ alg. (tag_path (Manifest Tag alg), manifest alg named_from)) (new_algs bag renewal)
+
+  -- all changes: files are removed by their names, and these are put
+  abbrev pub changes_from : List FileChange
+  changes_from =
+      opening bag renewal
+      ++ (clearing bag renewal
+      ++ (map put first_from
+      ++ (dropping bag renewal
+      ++ (map put (last_files bag) ++ map put tag_manifests_from))))
+
+-- Over any tree: there is a bag that has the files that were listed, and whose tag files say what
+-- was read of them first. The changes are of bytes that were read then, and of which each digest
+-- that this bag's manifests give was compared: of these are the elements of bag-info.txt that stay,
+-- and the digests in new manifests.
+pub record ChangesCompared (renewal : Renewal) (planned : List FileChange) : Type 0 where
+  pub bag : Bag
+  pub is_bag : IsBag bag
+  pub files : List File
+  pub compared : AreCompared bag (reads_payload bag renewal) files
+  pub old_info : List ℕ
+  pub old_info_is : IsInfoAmong files old_info
+  pub info : Option (List ℕ)
+  pub info_is : IsInfoAfter bag renewal (lines_of_file old_info) info
+  pub changes_are : planned ≡ changes_from bag renewal files info
