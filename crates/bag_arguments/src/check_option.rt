@@ -31,24 +31,8 @@ pub(crate) const CHECK_OPTIONS: [CheckOption; 8] = [
 ];
 
 impl CheckOption {
-    /// The option as it is written, with its hyphens.
-    pub fn name(self) -> &'static str
-        ensures { result.now ≡ rows.check_name self }
-    {
-        match self {
-            CheckOption::DeclarationOnly => "--declaration-only",
-            CheckOption::Fast => "--fast",
-            CheckOption::CompletenessOnly => "--completeness-only",
-            CheckOption::Profile => "--profile",
-            CheckOption::After => "--after",
-            CheckOption::MaxFaults => "--max-faults",
-            CheckOption::Clashes => "--clashes",
-            CheckOption::Part => "--part",
-        }
-    }
-
     /// The name of its argument, without the hyphens.
-    pub(crate) fn id(self) -> &'static str
+    pub fn id(self) -> &'static str
         ensures { result.now ≡ spec.check_id self }
     {
         match self {
@@ -68,6 +52,6 @@ impl fmt::Display for CheckOption {
     ghost output = { λ option. Some (rows.check_name option) };
 
     fn fmt<W: fmt::Write>(&self, f: &mut fmt::Formatter<W>) -> fmt::Result {
-        f.write_str(self.name())
+        write!(f, "--{}", self.id())
     }
 }

@@ -3,12 +3,13 @@ ghost use Rattle.std.specs.Prelude.{◌≡◌, IfOk, false, map};
 ghost use Rattle.clap.specs.Words.{app_of, rule_of};
 ghost use Rattle.bag_text.specs.Alg.{name as name_of};
 ghost use Rattle.bag_arguments.specs.Arguments as spec;
+ghost use Rattle.bag_arguments.specs.Given.{check_id};
 ghost use Rattle.bag_arguments.specs.Labels.{label_option};
 
-use crate::Label;
 use crate::argument::{flag, operands, option};
 use crate::help::{ABOUT, AFTER};
 use crate::label::LABELS;
+use crate::{CheckOption, Label};
 use bag_text::Alg;
 use clap::{Arg, Command, value_parser};
 use std::alloc::{AllocError, Global};
@@ -60,41 +61,71 @@ fn with_check_arguments<'a>(alloc: Global, command: Command<'a>) -> Result<Comma
         app_of c ≡ spec.with_rules (app_of command.entry) spec.check_arguments) }
 {
     command
-        .arg(flag(
+        .arg(check_flag(
             alloc,
-            "fast",
+            CheckOption::Fast,
             "Compare the payload's size and number of files with Payload-Oxum",
         ))?
-        .arg(flag(alloc, "completeness-only", "Check all but the digests"))?
-        .arg(flag(alloc, "declaration-only", "Check bagit.txt alone"))?
-        .arg(option(
+        .arg(check_flag(
             alloc,
-            "profile",
+            CheckOption::CompletenessOnly,
+            "Check all but the digests",
+        ))?
+        .arg(check_flag(alloc, CheckOption::DeclarationOnly, "Check bagit.txt alone"))?
+        .arg(check_value(
+            alloc,
+            CheckOption::Profile,
             "FILE",
             "Check against this BagIt profile, a JSON file, too",
         ))?
-        .arg(option(
+        .arg(check_value(
             alloc,
-            "after",
+            CheckOption::After,
             "LINE",
             "Write only the faults after this line, of one DIRECTORY",
         ))?
-        .arg(number(
+        .arg(check_number(
             alloc,
-            "max-faults",
+            CheckOption::MaxFaults,
             "Stop each report after N faults, 1 or more",
         ))?
-        .arg(flag(
+        .arg(check_flag(
             alloc,
-            "clashes",
+            CheckOption::Clashes,
             "Names that differ only in their normal form are faults",
         ))?
-        .arg(option(
+        .arg(check_value(
             alloc,
-            "part",
+            CheckOption::Part,
             "PART",
             "Check part K of N alone, given as K/N; all parts together are the report",
         ))
+}
+
+/// An option without a value that needs `--validate`.
+fn check_flag<'a>(alloc: Global, asked: CheckOption, help: &'a str) -> Arg<'a>
+    ensures rule { rule_of result ≡ spec.flag_rule (check_id asked) }
+    ensures global { result.global ≡ false }
+{
+    let name: &'a str = asked.id();
+    flag(alloc, name, help)
+}
+
+/// One with a value.
+fn check_value<'a>(alloc: Global, asked: CheckOption, value_name: &'a str, help: &'a str) -> Arg<'a>
+    ensures rule { rule_of result ≡ spec.option_rule (check_id asked) }
+    ensures global { result.global ≡ false }
+{
+    let name: &'a str = asked.id();
+    option(alloc, name, value_name, help)
+}
+
+/// One with a number of 1 or more.
+fn check_number<'a>(alloc: Global, asked: CheckOption, help: &'a str) -> Arg<'a>
+    ensures rule { rule_of result ≡ spec.number_rule (check_id asked) }
+    ensures global { result.global ≡ false }
+{
+    check_value(alloc, asked, "N", help).value_parser(value_parser!(u64).range(1..))
 }
 
 /// The options that choose algorithms.
@@ -143,12 +174,4 @@ fn label_argument<'a>(alloc: Global, label: Label) -> Arg<'a>
     let name: &'a str = label.option();
     let help: &'a str = label.help();
     option(alloc, name, "TEXT", help)
-}
-
-/// An option with a number of 1 or more.
-fn number<'a>(alloc: Global, name: &'a str, help: &'a str) -> Arg<'a>
-    ensures rule { rule_of result ≡ spec.number_rule name.entry.now }
-    ensures global { result.global ≡ false }
-{
-    option(alloc, name, "N", help).value_parser(value_parser!(u64).range(1..))
 }

@@ -76,9 +76,9 @@ pub(crate) fn out_of_place(matches: &ArgMatches<'_>) -> Option<CheckOption>
 pub(crate) fn has_two_depths(matches: &ArgMatches<'_>) -> bool
     ensures { result ≡ spec.has_two_depths (rows.rows_in matches.now) }
 {
-    let declaration = is_given(matches, "declaration-only");
-    let fast = is_given(matches, "fast");
-    let complete = is_given(matches, "completeness-only");
+    let declaration = is_given(matches, CheckOption::DeclarationOnly.id());
+    let fast = is_given(matches, CheckOption::Fast.id());
+    let complete = is_given(matches, CheckOption::CompletenessOnly.id());
     declaration && fast || declaration && complete || fast && complete
 }
 
@@ -86,11 +86,11 @@ pub(crate) fn has_two_depths(matches: &ArgMatches<'_>) -> bool
 pub(crate) fn depth(matches: &ArgMatches<'_>) -> Depth
     ensures { result ≡ spec.depth (rows.rows_in matches.now) }
 {
-    if is_given(matches, "declaration-only") {
+    if is_given(matches, CheckOption::DeclarationOnly.id()) {
         Depth::Declaration
-    } else if is_given(matches, "fast") {
+    } else if is_given(matches, CheckOption::Fast.id()) {
         Depth::Fast
-    } else if is_given(matches, "completeness-only") {
+    } else if is_given(matches, CheckOption::CompletenessOnly.id()) {
         Depth::Complete
     } else {
         Depth::Full
@@ -101,7 +101,7 @@ pub(crate) fn depth(matches: &ArgMatches<'_>) -> Depth
 pub(crate) fn has_after_several(matches: &ArgMatches<'_>) -> bool
     ensures { result ≡ spec.has_after_several (rows.rows_in matches.now) }
 {
-    value(matches, "after").is_some() && value_count(matches, "directory") > 1
+    value(matches, CheckOption::After.id()).is_some() && value_count(matches, "directory") > 1
 }
 
 /// The limit, 1 or more.
@@ -109,7 +109,9 @@ pub(crate) fn limit(matches: &ArgMatches<'_>) -> Option<u64>
     requires { rows.HasLimit (rows.rows_in matches.now) }
     ensures { spec.IsLimit (spec.value (rows.rows_in matches.now) (codes "max-faults")) result }
 {
-    value(matches, "max-faults")?.parse::<u64>().ok()
+    value(matches, CheckOption::MaxFaults.id())?
+        .parse::<u64>()
+        .ok()
 }
 
 /// The part that a text names: `K/N` in ASCII digits is the part K, counted from 1, of N.

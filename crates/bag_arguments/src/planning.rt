@@ -12,7 +12,7 @@ use crate::command::command;
 use crate::declining::{Declined, answer_of};
 use crate::label::LABELS;
 use crate::matched::{is_given, value};
-use crate::{Action, Plan, Usage, given};
+use crate::{Action, CheckOption, Plan, Usage, given};
 use bag_facts::{CursorFault, Depth, Fault, Options, Part};
 use bag_text::{AlgSet, Items};
 use clap::error::ErrorKind;
@@ -96,9 +96,9 @@ fn plan_of_matches(alloc: Global, matches: &ArgMatches<'_>) -> Result<Plan, Usag
         directories: given::directories(alloc, matches)?,
         options: Options {
             depth: given::depth(matches),
-            clashes: is_given(matches, "clashes"),
+            clashes: is_given(matches, CheckOption::Clashes.id()),
         },
-        profile: given::text_value(alloc, matches, "profile")?,
+        profile: given::text_value(alloc, matches, CheckOption::Profile.id())?,
         after,
         limit: given::limit(matches),
         part,
@@ -129,7 +129,7 @@ fn refuse_misuse(matches: &ArgMatches<'_>) -> Result<(), Usage>
 fn cursor(alloc: Global, matches: &ArgMatches<'_>) -> Result<Option<Fault>, Usage>
     ensures { spec.GivesCursor (value_of (rows_in matches.now) (codes "after")) result }
 {
-    let Some(line) = value(matches, "after") else {
+    let Some(line) = value(matches, CheckOption::After.id()) else {
         return Ok(None);
     };
     match Fault::from_line(alloc, line) {
@@ -146,7 +146,7 @@ fn part(matches: &ArgMatches<'_>) -> Result<Option<Part>, Usage>
         × (part ≡ part_given (rows_in matches.now)))
         (λ usage. spec.part_misuse (rows_in matches.now) ≡ Some usage) }
 {
-    let Some(text) = value(matches, "part") else {
+    let Some(text) = value(matches, CheckOption::Part.id()) else {
         return Ok(None);
     };
     if given::depth(matches) != Depth::Full {

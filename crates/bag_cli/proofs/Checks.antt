@@ -4,7 +4,8 @@ use Rattle.bag_cli.proofs.Common.{Result, Ok, Err, OutState, TreeState, Event, C
 use Rattle.bag_walk.specs.declared.part_run.PartOutcome.TheVariants as part
 use Rattle.bag_cli.specs.declared.check_outcome.CheckOutcome.TheVariants.{OfBag, OfPart}
 use Rattle.bag_cli.proofs.Common.{AreChecksOf, HasRunOut, IsCheckOf, IsLastCheck, IsVisitToCheck, IsWholeCheck}
-use Rattle.bag_cli.proofs.Common.{visit_of, whole_status}
+use Rattle.bag_cli.proofs.Common.{result_ok, subst, sym, visit_of, whole_status}
+use Rattle.bag_cli.specs.Checking.{ChecksFolder}
 use Rattle.bag_cli.proofs.Turns.{turns_status}
 
 -- what the status says of a check
@@ -24,6 +25,22 @@ next_check plan profile tree name before after visits (Ok (OfPart outcome)) chec
     record { outcome = OfPart outcome; check = check; status_is = refl }
 next_check plan profile tree name before after visits (Err e) nothing = inr nothing
 
+-- where the status of a check is known, its whole report was written; else it was the last
+pub check_by_status : {E F : Type 0} (plan : Plan) (profile : Option Profile) (tree : TreeState) (name : List ℕ)
+    (before after : OutState) (visits : List Event) (checked : Result CheckOutcome E) (done : Result ℕ F)
+    → result_ok done ≡ whole_status checked
+    → MatchOption (whole_status checked) (IsLastCheck plan profile tree name before after visits) (λ n.
+    IsWholeCheck plan profile tree name before after visits n)
+    → ChecksFolder plan profile tree name before after visits done
+check_by_status plan profile tree name before after visits checked (Ok n) same turn =
+    subst (λ (next : Option ℕ). MatchOption next (IsLastCheck plan profile tree name before after visits) (λ n.
+    IsWholeCheck plan profile tree name before after visits n))
+    (sym same) turn
+check_by_status plan profile tree name before after visits checked (Err e) same turn =
+    subst (λ (next : Option ℕ). MatchOption next (IsLastCheck plan profile tree name before after visits) (λ n.
+    IsWholeCheck plan profile tree name before after visits n))
+    (sym same) turn
+
 -- The folder's tree was given for it, and left as the check leaves it; or as it was given, where memory ran out.
 pub visited_check : {E : Type 0} (plan : Plan) (profile : Option Profile) (tree old new : TreeState) (name : List ℕ)
     (before after : OutState) (checked : Result CheckOutcome E) → old ≡ tree
@@ -34,6 +51,12 @@ pub visited_check : {E : Type 0} (plan : Plan) (profile : Option Profile) (tree 
 visited_check plan profile tree old new name before after (Ok outcome) same check = (new, refl, rw same at check)
 visited_check plan profile tree old new name before after (Err e) same nothing =
     (nothing.0, inr (ap (visit_of name) (nothing.1 ∙ same)))
+
+-- a whole check has a status
+pub check_status_is : (plan : Plan) (profile : Option Profile) (tree : TreeState) (name : List ℕ)
+    (before after : OutState) (visits : List Event) (n : ℕ)
+    → IsWholeCheck plan profile tree name before after visits n → n ≤ 3
+check_status_is plan profile tree name before after visits n check = grind arith
 
 -- what checks give is a status
 pub checks_status : (plan : Plan) (profile : Option Profile) (tree_of : List ℕ → TreeState) (names : List (List ℕ))

@@ -9,6 +9,7 @@ pub use Rattle.std.proofs.lemmas.List.{drop_all, drop_more}
 pub use Rattle.std.proofs.lemmas.Result.{err_from_is_err_and}
 pub use Rattle.std.specs.Io.KnownBytes.{Appends}
 pub use Rattle.std.specs.Option.{option_copied, option_map}
+pub use Rattle.std.specs.Result.{result_ok}
 pub use Rattle.std.specs.Prelude.{IfOk, IfSome, MatchOption, MatchResult, codes, unwrap_or}
 pub use Rattle.std.specs.declared.result.Result.{Result}
 pub use Rattle.std.specs.declared.result.Result.TheVariants.{Err, Ok}
@@ -18,15 +19,14 @@ pub use Rattle.bag_facts.specs.FaultLine.{field}
 pub use Rattle.bag_make.specs.declared.fault.MakeFault.{MakeFault}
 pub use Rattle.bag_profile.specs.Profile.{Profile}
 pub use Rattle.bag_store.specs.DiskBag.{bag_of}
-pub use Rattle.bag_store.specs.FileTree.{file_state_after, tree_state}
+pub use Rattle.bag_store.specs.FileTree.{tree_state}
 pub use Rattle.bag_tags.specs.Element.{NewElement}
-pub use Rattle.bag_tree.specs.Out.{OutState}
+pub use Rattle.bag_tree.specs.Out.{IsCut, OutState}
 pub use Rattle.bag_tree.specs.Tree.{TreeState, cause_word}
 pub use Rattle.bag_tree.specs.declared.out.Refused.{Refused}
-pub use Rattle.bag_walk.proofs.Writing.{IsCut-append, append-IsCut, cut_third, writes_after, writes_third}
+pub use Rattle.bag_tree.proofs.Writing.{IsCut-append, append-IsCut, cut_third, writes_after, writes_third}
 pub use Rattle.bag_walk.specs.ExitStatus.{status}
-pub use Rattle.bag_walk.specs.Write.{IsCut}
-pub use Rattle.bag_walk.specs.Pieces.{Writes}
+pub use Rattle.bag_tree.specs.Pieces.{Writes}
 pub use Rattle.bag_walk.specs.declared.outcome.Outcome.{Outcome}
 pub use Rattle.bag_walk.specs.declared.outcome.Outcome.TheVariants.{Clean, Unread, Unwritten}
 pub use Rattle.bag_walk.specs.declared.outcome.Request.{Request}
@@ -52,11 +52,12 @@ pub use types.Run.{and_then, enter, no_more, of_opd, returns, unit_lit}
 pub use Rattle.bag_cli.specs.Checked.{HaveNoFailure, AreChecksOf, HasRunOut, IsCheckOf, IsLastCheck}
 pub use Rattle.bag_cli.specs.Checking.{IsCheckOfSample}
 pub use Rattle.bag_cli.specs.Checked.{IsVisitToCheck, IsWholeCheck, request_of, visit_of}
-pub use Rattle.bag_cli.specs.Folders.{disks_of, visits_of}
+pub use Rattle.bag_cli.specs.Folders.{disks_of, tree_in, visits_of}
+pub use Rattle.bag_cli.specs.Halt.{status_of}
 pub use Rattle.bag_cli.specs.Honest.{HonestFoldersAreReported, IsReportedMade, IsReportedNotMade}
 pub use Rattle.bag_cli.specs.InTurn.{AreInTurn, HasVisited, Last, Whole}
 pub use Rattle.bag_cli.specs.Making.{IsMake, ReportsMaking}
-pub use Rattle.bag_cli.specs.Makings.{AreMakingsOf, IsMakingReported, IsWholeMaking, element_of}
+pub use Rattle.bag_cli.specs.Makings.{AreMakingsOf, IsLastMaking, IsMakingReported, IsWholeMaking, element_of}
 pub use Rattle.bag_cli.specs.Performed.{AreMade, IsChecked, IsDoneBy, IsPerformed, IsSaid}
 pub use Rattle.bag_cli.specs.Sample.{sample_state}
 pub use Rattle.bag_cli.specs.Saying.{Says}

@@ -6,7 +6,7 @@ use Rattle.bag_cli.specs.Visits.{Event}
 use Rattle.bag_profile.specs.Profile.{Profile}
 use Rattle.bag_arguments.specs.declared.plan.Plan.{Plan}
 use Rattle.bag_cli.specs.Sample.{sample_state}
-use Rattle.bag_cli.specs.Checked.{IsCheckOf, IsVisitToCheck, HasRunOut}
+use Rattle.bag_cli.specs.Checked.{IsCheckOf, IsLastCheck, IsWholeCheck}
 use Rattle.bag_cli.specs.declared.check_outcome.CheckOutcome.{CheckOutcome}
 
 -- a check of the sample, whose device never fails
@@ -15,12 +15,12 @@ IsCheckOfSample plan before after outcome =
     (new : TreeState) × (new.failures ≡ 0)
     × IsCheckOf plan None sample_state new (codes "sample") before after outcome
 
--- the folder was looked into and its bag checked, or memory ran out for it
+-- the folder's bag was checked, and has a status; or that was the last check
 abbrev pub ChecksFolder : {E : Type 0} → Plan → Option Profile → TreeState → List ℕ
-    → OutState → OutState → List Event → Result CheckOutcome E → Type 0
-ChecksFolder plan profile tree name before after visits checked = MatchResult checked
-    (λ outcome. IsVisitToCheck plan profile tree name before after visits outcome)
-    (λ _. HasRunOut tree name before after visits)
+    → OutState → OutState → List Event → Result ℕ E → Type 0
+ChecksFolder plan profile tree name before after visits answer = MatchResult answer
+    (λ n. IsWholeCheck plan profile tree name before after visits n)
+    (λ _. IsLastCheck plan profile tree name before after visits)
 
 -- the tree was checked under this name; or memory for what is asked for ran out, and nothing was
 -- done

@@ -1,6 +1,7 @@
 pub mod Checked
 pub mod Checking
 pub mod Folders
+pub mod Halt
 pub mod Honest
 pub mod InTurn
 pub mod Making

@@ -4,11 +4,10 @@ use Rattle.std.specs.Prelude.{Result, MatchResult, IfErr, OnOk}
 use Rattle.std.specs.List.{list_any}
 use Rattle.std.specs.Io.KnownBytes.{Appends}
 use Rattle.bag_text.specs.declared.alg.Alg.{Alg}
-use Rattle.bag_tree.specs.Out.{OutState}
+use Rattle.bag_tree.specs.Out.{IsCut, OutState}
 use Rattle.bag_tree.specs.Tree.{TreeState}
 use Rattle.bag_tree.specs.declared.out.Refused.{Refused}
 use Rattle.bag_tags.specs.Element.{NewElement}
-use Rattle.bag_walk.specs.Write.{IsCut}
 use Rattle.bag_make.specs.Request.{is_refused}
 use Rattle.bag_make.specs.Make.{HasKnownSize, HasMade, HasNoFault, Leaves, MayRefuseMaking}
 use Rattle.bag_make.specs.PowerCut.{LastsForGood, OutlastsCuts}

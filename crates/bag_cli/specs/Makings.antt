@@ -32,13 +32,6 @@ IsWholeMaking plan info tree name before after visits n =
 abbrev pub IsNotGiven : List ℕ → OutState → OutState → List Event → Type 0
 IsNotGiven name before after visits = (after ≡ before) × (visits ≡ NotGiven name ∷ [])
 
--- a making was reported, or memory ran out for its folder
-abbrev pub AnswersMaking : {E : Type 0} → Plan → List NewElement → TreeState → List ℕ
-    → OutState → OutState → List Event → Result (Result ℕ Refused) E → Type 0
-AnswersMaking plan info tree name before after visits answer = MatchResult answer
-    (λ reported. IsMakingReported plan info tree name before after visits reported)
-    (λ _. IsNotGiven name before after visits)
-
 -- a making that is the last: the output refused its line, or memory ran out for the folder, which
 -- was asked for and couldn't be given
 abbrev pub IsLastMaking : Plan → List NewElement → TreeState → List ℕ
@@ -47,11 +40,21 @@ IsLastMaking plan info tree name before after visits =
     ((refusal : Refused) × IsMakingReported plan info tree name before after visits (Err refusal))
     ⊎ IsNotGiven name before after visits
 
--- the makings of the folders of these names in the trees that they name, with the plan's elements,
--- one after the other
-abbrev pub AreMakingsOf : Plan → (List ℕ → TreeState) → List (List ℕ) → Deed
-AreMakingsOf plan tree_of names before after visits n =
-    let info = map element_of plan.info in
+-- a folder was made a bag, or wasn't, and has a status; or that was the last
+abbrev pub AnswersMaking : {E : Type 0} → Plan → List NewElement → TreeState → List ℕ
+    → OutState → OutState → List Event → Result ℕ E → Type 0
+AnswersMaking plan info tree name before after visits answer = MatchResult answer
+    (λ n. IsWholeMaking plan info tree name before after visits n)
+    (λ _. IsLastMaking plan info tree name before after visits)
+
+-- the makings of the folders of these names in the trees that they name, with these elements, one
+-- after the other
+abbrev pub AreMakingsWith : Plan → List NewElement → (List ℕ → TreeState) → List (List ℕ) → Deed
+AreMakingsWith plan info tree_of names before after visits n =
     AreInTurn (λ name. IsLastMaking plan info (tree_of name) name)
     (λ name. IsWholeMaking plan info (tree_of name) name)
     names before after visits n
+
+-- the same, with the plan's elements
+abbrev pub AreMakingsOf : Plan → (List ℕ → TreeState) → List (List ℕ) → Deed
+AreMakingsOf plan = AreMakingsWith plan (map element_of plan.info)

@@ -4,10 +4,10 @@ use Rattle.std.specs.Prelude.{ℕ, ◌≡◌, ◌≢◌, ◌⊎◌, Bool, true, 
 use Rattle.std.specs.Prelude.{Option, Some, None, Result, Ok, Err}
 use Rattle.std.specs.Io.KnownBytes.{Appends}
 use Rattle.bag_disk.specs.Disk.{DiskState}
-use Rattle.bag_tree.specs.Out.{OutState}
+use Rattle.bag_tree.specs.Out.{IsCut, OutState}
 use Rattle.bag_cli.specs.Visits.{Event, Read}
 use Rattle.bag_store.specs.FileTree.{tree_state}
-use Rattle.bag_walk.specs.Write.{IsCut}
+use Rattle.bag_tags.specs.Element.{NewElement}
 use Rattle.bag_profile.specs.Profile.{Profile}
 use Rattle.bag_cli.specs.ProfileFile.{IsAnswer, IsReadAs}
 use Rattle.bag_cli.specs.ProfileRefusal.{refusal_status}
@@ -19,7 +19,7 @@ use Rattle.bag_arguments.specs.declared.plan.Action.TheVariants.{Sample, Help, C
 use Rattle.bag_arguments.specs.declared.plan.Plan.{Plan}
 use Rattle.bag_cli.specs.Checked.{AreChecksOf, IsSampleChecked}
 use Rattle.bag_cli.specs.InTurn.{Deed}
-use Rattle.bag_cli.specs.Makings.{AreMakingsOf}
+use Rattle.bag_cli.specs.Makings.{AreMakingsOf, AreMakingsWith}
 
 -- what stands on the disk below each base folder
 abbrev pub Below : Type 0
@@ -79,6 +79,12 @@ IsChecked below file plan (Some path) before after visits n =
     × (own : List Event) × (visits ≡ Read path answer ∷ own)
     × IsAnswer (file path) answer × IsReadAs answer read
     × IsCheckedFor below plan read before after own n
+
+-- the folders of a plan were made bags with these elements, on disks that hold this below each base
+-- folder
+abbrev pub AreMadeWith : Below → Plan → List NewElement → Deed
+AreMadeWith below plan info =
+    AreMakingsWith plan info (λ name. tree_state (below name) 0) plan.directories
 
 -- the folders of a plan were made bags, on disks that hold this below each base folder; or memory
 -- for the elements, of which there are some, ran out

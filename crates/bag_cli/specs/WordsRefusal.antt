@@ -1,15 +1,11 @@
 -- What the program says where the words are refused.
-use Rattle.std.specs.Prelude.{ℕ, ◌==◌, ◌++◌, List, codes, if◌then◌else◌}
-use Rattle.std.specs.List.{ends_with}
+use Rattle.std.specs.Prelude.{ℕ, ◌++◌, List, codes}
 use Rattle.bag_arguments.specs.GivenRows.{check_name}
 use Rattle.bag_arguments.specs.declared.usage.Usage.{Usage}
 use Rattle.bag_arguments.specs.declared.usage.Usage.TheVariants.{Refused, NeedsValidate, TwoDepths}
 use Rattle.bag_arguments.specs.declared.usage.Usage.TheVariants.{AfterSeveral, AfterNotALine}
 use Rattle.bag_arguments.specs.declared.usage.Usage.TheVariants.{PartOfDepth, NotAPart, Memory}
-
--- a text with a line end at its end: its own, or else one after it
-abbrev pub with_line_end : List ℕ → List ℕ
-with_line_end text = if ends_with ◌==◌ text (codes "\n") then text else text ++ codes "\n"
+use Rattle.bag_cli.specs.Saying.{with_line_end}
 
 -- the line with its end, of clap some lines
 abbrev pub usage_line : Usage → List ℕ

@@ -1,75 +1,44 @@
 //! Checks of bags, one after the other.
-ghost use Rattle.std.specs.Prelude.{◌≡◌};
+ghost use Rattle.std.specs.Option.{option_copied};
 ghost use Rattle.bag_cli.specs.Checked.{IsSampleChecked};
-ghost use Rattle.bag_cli.specs.Status.{whole_status};
+ghost use Rattle.bag_cli.specs.Folders.{disks_of};
+ghost use Rattle.bag_cli.specs.Halt.{status_of};
+ghost use Rattle.bag_cli.specs.InTurn.{Does};
+ghost use Rattle.bag_cli.specs.Performed.{AreChecked};
 
-use crate::check::check_sample;
-use crate::check_outcome::CheckOutcome;
-use crate::in_turn::Task;
-use crate::performing::REFUSED;
-use crate::saying::{say_memory, say_refused};
+use crate::check::{check_sample, whole_status};
 use crate::work::Work;
-use crate::{Disks, Visits};
+use crate::{Disks, Halt, Visits};
 use bag_arguments::Plan;
 use bag_profile::Profile;
 use bag_tree::Out;
-use std::alloc::{AllocError, Global};
+use std::alloc::Global;
 
-/// Checks the sample bag, and says on `err` what was refused beside the report.
-pub(crate) fn report_sample<O, E>(alloc: Global, plan: &Plan, out: &mut O, err: &mut E) -> u8
-where
-    O: Out,
-    E: Out,
-    ensures { IsSampleChecked plan.now (O.state out.old) (O.state out.new) result }
+/// Checks the sample bag. Gives the status.
+pub(crate) fn check_samples<O: Out>(alloc: Global, plan: &Plan, out: &mut O) -> Result<u8, Halt>
+    ensures { IsSampleChecked plan.now (O.state out.old) (O.state out.new) (status_of result) }
 {
-    let checked = check_sample(alloc, plan, out);
-    status_of_whole(&checked, err).unwrap_or(REFUSED)
+    whole_status(check_sample(alloc, plan, out))
 }
 
-/// The checks of the bags in folders as a plan says, by a profile or without one.
-#[derive(Drop)]
-pub(crate) struct Checks<'w, D> {
-    pub(crate) work: &'w Work<'w, D>,
-    pub(crate) profile: Option<&'w Profile>,
-}
-
-impl<D: Disks> Task<D> for Checks<'_, D> {
-    ghost use Rattle.std.specs.Option.{option_copied};
-    ghost use Rattle.bag_cli.specs.Checked.{IsLastCheck, IsWholeCheck};
-    ghost use Rattle.bag_cli.specs.Folders.{tree_in};
-
-    ghost ends = { λ checks name. IsLastCheck checks.work.now.plan.now
-        (option_copied checks.profile) (tree_in D.below checks.work.now.folders.now name) name };
-
-    ghost goes = { λ checks name. IsWholeCheck checks.work.now.plan.now
-        (option_copied checks.profile) (tree_in D.below checks.work.now.folders.now name) name };
-
-    fn run<O, E>(&self, name: &str, visits: &mut Visits<D>, out: &mut O, err: &mut E) -> Option<u8>
-    where
-        O: Out,
-        E: Out,
+impl<D: Disks> Work<'_, D> {
+    /// Checks the bags in the folders of the plan, one after the other, by this profile or without
+    /// one. Gives the greatest status.
+    pub(crate) fn check_each<O: Out>(
+        &self,
+        profile: Option<&Profile>,
+        visits: &mut Visits<D>,
+        out: &mut O,
+    ) -> Result<u8, Halt>
+        ensures { Does O.Out visits.old visits.new out.old out.new (status_of result)
+            (AreChecked (D.below (disks_of self.now.folders.now)) self.now.plan.now
+            (option_copied profile.entry)) }
     {
-        let checked = self.work.check_folder(self.profile, name, visits, out);
-        status_of_whole(&checked, err)
-    }
-}
-
-/// Says on `err` what was refused beside the report, and gives the status where the whole report
-/// was written.
-fn status_of_whole<E: Out>(checked: &Result<CheckOutcome, AllocError>, err: &mut E) -> Option<u8>
-    ensures { result ≡ whole_status checked.now }
-{
-    match checked {
-        Ok(outcome) => {
-            let status = outcome.status();
-            if status.is_none() {
-                say_refused(err);
-            }
-            status
+        let mut greatest = 0;
+        for directory in self.plan.directories.as_slice() {
+            let status = self.check_folder(profile, directory.as_str(), visits, out)?;
+            greatest = greatest.max(status);
         }
-        Err(_) => {
-            say_memory(err);
-            None
-        }
+        Ok(greatest)
     }
 }

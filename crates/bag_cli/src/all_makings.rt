@@ -1,16 +1,16 @@
 //! Bags that are made of folders, one after the other.
 ghost use Rattle.std.specs.Prelude.{◌≡◌, ◌≢◌, [], IfOk, OnErr, map};
-ghost use Rattle.bag_cli.specs.Folders.{tree_in, visits_of};
-ghost use Rattle.bag_cli.specs.InTurn.{HasVisited};
+ghost use Rattle.bag_cli.specs.Folders.{disks_of, tree_in, visits_of};
+ghost use Rattle.bag_cli.specs.Halt.{status_of};
+ghost use Rattle.bag_cli.specs.InTurn.{Does, HasVisited};
 ghost use Rattle.bag_cli.specs.Makings.{element_of, AnswersMaking};
+ghost use Rattle.bag_cli.specs.Performed.{AreMade, AreMadeWith};
 
-use crate::in_turn::Task;
-use crate::saying::{say_memory, say_refused};
 use crate::work::Work;
-use crate::{Disks, Visits, make_and_report};
+use crate::{Disks, Halt, Visits, make_and_report};
 use bag_arguments::InfoItem;
 use bag_text::Text;
-use bag_tree::{Out, Refused};
+use bag_tree::Out;
 use std::alloc::{AllocError, Global};
 
 /// The labels and values of a plan's elements, in their order, which are copied. It fails only when
@@ -26,62 +26,53 @@ pub fn elements(alloc: Global, info: &[InfoItem]) -> Result<Vec<(Text, Text)>, A
     Ok(elements)
 }
 
-/// The makings of folders as a plan says, with these elements.
-#[derive(Drop)]
-pub(crate) struct Makings<'w, D> {
-    pub(crate) work: &'w Work<'w, D>,
-    pub(crate) info: &'w [(Text, Text)],
-}
+impl<D: Disks> Work<'_, D> {
+    /// Makes the folders of the plan bags in place, one after the other. Gives the greatest status.
+    pub(crate) fn make_all<O: Out>(&self, visits: &mut Visits<D>, out: &mut O) -> Result<u8, Halt>
+        ensures { Does O.Out visits.old visits.new out.old out.new (status_of result)
+            (AreMade (D.below (disks_of self.now.folders.now)) self.now.plan.now) }
+    {
+        let info = elements(self.alloc, self.plan.info.as_slice())?;
+        self.make_each(&info, visits, out)
+    }
 
-impl<D: Disks> Makings<'_, D> {
-    /// Makes a folder a bag. Gives the status, or the output's refusal.
-    fn make_one<O: Out>(
+    /// The same, with these elements.
+    fn make_each<O: Out>(
         &self,
+        info: &[(Text, Text)],
+        visits: &mut Visits<D>,
+        out: &mut O,
+    ) -> Result<u8, Halt>
+        ensures { Does O.Out visits.old visits.new out.old out.new (status_of result)
+            (AreMadeWith (D.below (disks_of self.now.folders.now)) self.now.plan.now info.now) }
+    {
+        let mut greatest = 0;
+        for directory in self.plan.directories.as_slice() {
+            let status = self.make_folder(info, directory.as_str(), visits, out)?;
+            greatest = greatest.max(status);
+        }
+        Ok(greatest)
+    }
+
+    /// Makes a folder a bag, with these elements. Gives the status where that was reported.
+    fn make_folder<O: Out>(
+        &self,
+        info: &[(Text, Text)],
         directory: &str,
         visits: &mut Visits<D>,
         out: &mut O,
-    ) -> Result<Result<u8, Refused>, AllocError>
+    ) -> Result<u8, Halt>
         ensures { HasVisited (visits_of visits.old) (visits_of visits.new) (λ own.
-            AnswersMaking self.now.work.now.plan.now self.now.info.now
-            (tree_in D.below self.now.work.now.folders.now directory.now) directory.now
+            AnswersMaking self.now.plan.now info.now
+            (tree_in D.below self.now.folders.now directory.now) directory.now
             (O.state out.old) (O.state out.new) own result) }
     {
-        let work = self.work;
-        let plan = work.plan;
-        let tree = work.folders.enter(work.alloc, directory, visits)?;
+        let plan = self.plan;
+        let tree = self.folders.enter(self.alloc, directory, visits)?;
         let (tree, told) = make_and_report(
-            work.alloc, tree, directory, plan.algs, self.info, plan.quiet, out,
+            self.alloc, tree, directory, plan.algs, info, plan.quiet, out,
         );
-        work.folders.leave(tree, visits);
-        Ok(told)
-    }
-}
-
-impl<D: Disks> Task<D> for Makings<'_, D> {
-    ghost use Rattle.bag_cli.specs.Folders.{tree_in};
-    ghost use Rattle.bag_cli.specs.Makings.{IsLastMaking, IsWholeMaking};
-
-    ghost ends = { λ makings name. IsLastMaking makings.work.now.plan.now makings.info.now
-        (tree_in D.below makings.work.now.folders.now name) name };
-
-    ghost goes = { λ makings name. IsWholeMaking makings.work.now.plan.now makings.info.now
-        (tree_in D.below makings.work.now.folders.now name) name };
-
-    fn run<O, E>(&self, name: &str, visits: &mut Visits<D>, out: &mut O, err: &mut E) -> Option<u8>
-    where
-        O: Out,
-        E: Out,
-    {
-        match self.make_one(name, visits, out) {
-            Ok(Ok(status)) => Some(status),
-            Ok(Err(Refused)) => {
-                say_refused(err);
-                None
-            }
-            Err(AllocError) => {
-                say_memory(err);
-                None
-            }
-        }
+        self.folders.leave(tree, visits);
+        Ok(told?)
     }
 }

@@ -1,15 +1,17 @@
 //! One check: the report of one bag, or of a part of it.
 ghost use Rattle.std.specs.Prelude.{◌≡◌, IfOk, MatchResult};
 ghost use Rattle.std.specs.Option.{option_copied};
+ghost use Rattle.std.specs.Result.{result_ok};
 ghost use Rattle.bag_cli.specs.Folders.{tree_in, visits_of};
 ghost use Rattle.bag_cli.specs.Checked.{request_of, IsCheckBy};
 ghost use Rattle.bag_cli.specs.Checking.{ChecksFolder, ChecksTree, IsCheckOfSample};
 ghost use Rattle.bag_cli.specs.InTurn.{HasVisited};
+ghost use Rattle.bag_cli.specs.Status as spec;
 
 use crate::check_outcome::CheckOutcome;
 use crate::sample::sample_tree;
 use crate::work::Work;
-use crate::{Disks, Visits};
+use crate::{Disks, Halt, Visits};
 use bag_arguments::Plan;
 use bag_facts::{Fault, Part};
 use bag_profile::Profile;
@@ -19,15 +21,16 @@ use bag_walk::{Request, run, run_part};
 use std::alloc::{AllocError, Global};
 
 impl<D: Disks> Work<'_, D> {
-    /// Checks the bag in a folder, as the plan says. The folder is asked for before anything else
-    /// that takes memory.
+    /// Checks the bag in a folder, as the plan says, by this profile or without one. Gives the
+    /// status where the whole report was written. The folder is asked for before anything else that
+    /// takes memory.
     pub(crate) fn check_folder<O: Out>(
         &self,
         profile: Option<&Profile>,
         directory: &str,
         visits: &mut Visits<D>,
         out: &mut O,
-    ) -> Result<CheckOutcome, AllocError>
+    ) -> Result<u8, Halt>
         ensures { HasVisited (visits_of visits.old) (visits_of visits.new) (λ own.
             ChecksFolder self.now.plan.now (option_copied profile.entry)
             (tree_in D.below self.now.folders.now directory.now) directory.now
@@ -36,8 +39,15 @@ impl<D: Disks> Work<'_, D> {
         let tree = self.folders.enter(self.alloc, directory, visits)?;
         let (tree, checked) = check_tree(self.alloc, tree, self.plan, profile, directory, out);
         self.folders.leave(tree, visits);
-        checked
+        whole_status(checked)
     }
+}
+
+/// The status of a check, where the whole report was written.
+pub(crate) fn whole_status(checked: Result<CheckOutcome, AllocError>) -> Result<u8, Halt>
+    ensures { result_ok result ≡ spec.whole_status checked }
+{
+    checked?.status().ok_or(Halt::Unwritten)
 }
 
 /// Checks the sample bag, as a plan says.
@@ -108,19 +118,9 @@ pub fn request_for(alloc: Global, plan: &Plan, name: &str) -> Result<Request, Al
 {
     Ok(Request {
         options: plan.options,
-        after: copied(alloc, &plan.after)?,
+        after: Fault::copied(alloc, plan.after.as_ref())?,
         limit: plan.limit,
         quiet: plan.quiet,
         name: Text::from_str(alloc, name)?,
     })
-}
-
-/// An equal cursor.
-fn copied(alloc: Global, cursor: &Option<Fault>) -> Result<Option<Fault>, AllocError>
-    ensures { IfOk result (λ copy. copy ≡ cursor.now) }
-{
-    match cursor {
-        Some(fault) => Ok(Some(fault.copy(alloc)?)),
-        None => Ok(None),
-    }
 }

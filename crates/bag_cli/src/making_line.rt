@@ -1,12 +1,12 @@
 //! The line that says how making a bag went. Writing it takes no memory.
 ghost use Rattle.std.specs.Prelude.{◌++◌, codes};
 ghost use Rattle.bag_cli.specs.MakingLine as spec;
-ghost use Rattle.bag_walk.specs.Pieces.{Writes};
+ghost use Rattle.bag_tree.specs.Pieces.{Writes};
 
+use bag_facts::put_line;
 use bag_make::MakeFault;
 use bag_text::said;
 use bag_tree::{Out, Refused, Stop, TreeFault};
-use bag_walk::put_line;
 use itoa::Buffer;
 
 /// Hands the line about a folder of this name to the output, or nothing where the bag was made and

@@ -2,25 +2,19 @@
 ghost use Rattle.std.specs.Option.{option_copied};
 ghost use Rattle.std.specs.Prelude.{◌≡◌, ◌≤◌, []};
 ghost use Rattle.bag_cli.specs.Folders.{disks_of};
+ghost use Rattle.bag_cli.specs.Halt.{status_of};
 ghost use Rattle.bag_cli.specs.InTurn.{Does};
-ghost use Rattle.bag_cli.specs.Performed.{AreChecked, AreCheckedBy, AreMade, IsChecked};
-ghost use Rattle.bag_cli.specs.Performed.{IsPerformed, IsSaid};
+ghost use Rattle.bag_cli.specs.Performed.{AreCheckedBy, IsChecked, IsPerformed, IsSaid};
 
-use crate::all_checks::{Checks, report_sample};
-use crate::all_makings::{Makings, elements};
-use crate::in_turn::do_in_turn;
-use crate::saying::{say_memory, say_refused};
+use crate::all_checks::check_samples;
 use crate::unchecked_keys::say_unchecked;
 use crate::work::Work;
-use crate::{Disks, Folders, Visits, read_profile, refuse_profile};
+use crate::{Disks, Folders, Halt, Visits, read_profile, refuse_profile};
 use bag_arguments::{Action, Plan};
 use bag_profile::Profile;
-use bag_tree::{Out, Refused};
-use bag_walk::put_pieces;
-use std::alloc::{AllocError, Global};
-
-/// The exit status where a read, a write or a growth was refused.
-pub(crate) const REFUSED: u8 = 3;
+use bag_text::said;
+use bag_tree::{Out, put_pieces};
+use std::alloc::Global;
 
 /// Does a plan: writes the reports, what was made or the help to `out`, and what is refused beside
 /// that to `err`.
@@ -53,101 +47,73 @@ pub fn perform<D: Disks, O: Out, E: Out>(
         folders,
         plan,
     };
-    match &plan.action {
-        Action::Sample => report_sample(alloc, plan, out, err),
-        Action::Help(text) => say(text.as_str(), out, err),
-        Action::Check => work.check_all(visits, out, err),
-        Action::Make => work.make_all(visits, out, err),
+    match work.perform(visits, out, err) {
+        Ok(status) => status,
+        Err(halt) => halt.tell(said::PROGRAM, err),
     }
 }
 
 impl<D: Disks> Work<'_, D> {
+    /// Does the plan. Gives the status.
+    fn perform<O: Out, E: Out>(
+        &self,
+        visits: &mut Visits<D>,
+        out: &mut O,
+        err: &mut E,
+    ) -> Result<u8, Halt>
+        ensures { Does O.Out visits.old visits.new out.old out.new (status_of result)
+            (IsPerformed (D.below (disks_of self.now.folders.now))
+            (D.file (disks_of self.now.folders.now)) self.now.plan.now) }
+    {
+        match &self.plan.action {
+            Action::Sample => check_samples(self.alloc, self.plan, out),
+            Action::Help(text) => write_text(text.as_str(), out),
+            Action::Check => self.check_all(visits, out, err),
+            Action::Make => self.make_all(visits, out),
+        }
+    }
+
     /// Checks the bags in the folders of the plan, by its profile where it has one, which is read
-    /// first.
-    fn check_all<O: Out, E: Out>(&self, visits: &mut Visits<D>, out: &mut O, err: &mut E) -> u8
-        ensures { Does O.Out visits.old visits.new out.old out.new result
+    /// first. Why there is none is said on `err`.
+    fn check_all<O: Out, E: Out>(
+        &self,
+        visits: &mut Visits<D>,
+        out: &mut O,
+        err: &mut E,
+    ) -> Result<u8, Halt>
+        ensures { Does O.Out visits.old visits.new out.old out.new (status_of result)
             (IsChecked (D.below (disks_of self.now.folders.now))
             (D.file (disks_of self.now.folders.now)) self.now.plan.now self.now.plan.now.profile) }
     {
         let Some(path) = &self.plan.profile else {
-            return self.check_with(None, visits, out, err);
+            return self.check_each(None, visits, out);
         };
         match read_profile(self.alloc, self.folders, path.as_str(), visits) {
-            Ok(profile) => self.check_by(&profile, visits, out, err),
-            Err(refusal) => refuse_profile(refusal, err),
+            Ok(profile) => self.check_by(&profile, visits, out),
+            Err(refusal) => Ok(refuse_profile(refusal, err)),
         }
     }
 
     /// Says which keys of a profile aren't checked, and checks the bags in the folders of the plan
     /// by it.
-    fn check_by<O: Out, E: Out>(
+    fn check_by<O: Out>(
         &self,
         profile: &Profile,
         visits: &mut Visits<D>,
         out: &mut O,
-        err: &mut E,
-    ) -> u8
-        ensures { Does O.Out visits.old visits.new out.old out.new result
+    ) -> Result<u8, Halt>
+        ensures { Does O.Out visits.old visits.new out.old out.new (status_of result)
             (AreCheckedBy (D.below (disks_of self.now.folders.now)) self.now.plan.now profile.now) }
     {
-        match say_unchecked(self.plan.quiet, profile, out) {
-            Ok(()) => self.check_with(Some(profile), visits, out, err),
-            Err(Refused) => {
-                say_refused(err);
-                REFUSED
-            }
-        }
-    }
-
-    /// Checks the bags in the folders of the plan, by this profile or without one.
-    fn check_with<O: Out, E: Out>(
-        &self,
-        profile: Option<&Profile>,
-        visits: &mut Visits<D>,
-        out: &mut O,
-        err: &mut E,
-    ) -> u8
-        ensures { Does O.Out visits.old visits.new out.old out.new result
-            (AreChecked (D.below (disks_of self.now.folders.now)) self.now.plan.now
-            (option_copied profile.entry)) }
-    {
-        let checks = Checks {
-            work: self,
-            profile,
-        };
-        do_in_turn(&checks, self.plan.directories.as_slice(), visits, out, err)
-    }
-
-    /// Makes the folders of the plan bags in place, one after the other.
-    fn make_all<O: Out, E: Out>(&self, visits: &mut Visits<D>, out: &mut O, err: &mut E) -> u8
-        ensures { Does O.Out visits.old visits.new out.old out.new result
-            (AreMade (D.below (disks_of self.now.folders.now)) self.now.plan.now) }
-    {
-        match elements(self.alloc, self.plan.info.as_slice()) {
-            Ok(info) => {
-                let makings = Makings {
-                    work: self,
-                    info: &info,
-                };
-                do_in_turn(&makings, self.plan.directories.as_slice(), visits, out, err)
-            }
-            Err(AllocError) => {
-                say_memory(err);
-                REFUSED
-            }
-        }
+        say_unchecked(self.plan.quiet, profile, out)?;
+        self.check_each(Some(profile), visits, out)
     }
 }
 
-/// Writes a text.
-fn say<O: Out, E: Out>(text: &str, out: &mut O, err: &mut E) -> u8
-    ensures { IsSaid text.now (O.state out.old) (O.state out.new) [] result }
+/// Writes a text. Gives the status.
+pub fn write_text<O: Out>(text: &str, out: &mut O) -> Result<u8, Halt>
+    ensures { IsSaid text.now (O.state out.old) (O.state out.new) [] (status_of result) }
 {
-    match put_pieces(out, &[text]) {
-        Ok(()) => 0,
-        Err(Refused) => {
-            say_refused(err);
-            REFUSED
-        }
-    }
+    put_pieces(out, &[text])?;
+    Ok(0)
 }

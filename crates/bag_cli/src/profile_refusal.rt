@@ -1,18 +1,20 @@
 //! Why there is no profile.
 ghost use Rattle.std.specs.Prelude.{◌≡◌};
 ghost use Rattle.bag_profile.specs.declared.fault.ProfileFault.TheVariants.{Memory};
-ghost use Rattle.bag_walk.specs.Pieces.{Writes};
+ghost use Rattle.bag_tree.specs.Pieces.{Writes};
 ghost use Rattle.bag_cli.specs.ProfileRefusal as spec;
 ghost use Rattle.bag_cli.specs.RefusalLine as refusals;
 ghost use Rattle.bag_cli.specs.Saying.{Says};
 ghost use Rattle.bag_cli.specs.declared.profile_refusal.ProfileRefusal.TheVariants as why;
 
 use crate::ReadFault;
-use crate::saying::{say_memory, say_on};
+use crate::saying::say_on;
+use bag_facts::put_line;
 use bag_profile::ProfileFault;
 use bag_text::said;
-use bag_tree::{Out, Refused};
-use bag_walk::{put_line, put_pieces};
+use bag_tree::{Out, Refused, put_pieces};
+use std::error::Error;
+use std::fmt;
 
 /// Why there is no profile.
 #[derive(Clone, Copy, Debug, PartialEq, Eq)]
@@ -66,7 +68,7 @@ fn say_fault<E: Out>(fault: ProfileFault, err: &mut E)
         ProfileFault::WrongShape(key) => {
             let _ = put_wrong_shape(key.name(), err);
         }
-        ProfileFault::Memory => say_memory(err),
+        ProfileFault::Memory => say_on(err, &[said::PROGRAM, said::OUT_OF_MEMORY, "\n"]),
     }
 }
 
@@ -84,6 +86,18 @@ fn put_wrong_shape<E: Out>(key: &str, err: &mut E) -> Result<(), Refused>
     put_pieces(err, &[said::PROGRAM, said::PROFILE, said::WRONG_SHAPE])?;
     put_line(key, &["\n"], err)
 }
+
+impl fmt::Display for ProfileRefusal {
+    fn fmt<W: fmt::Write>(&self, f: &mut fmt::Formatter<W>) -> fmt::Result {
+        match self {
+            ProfileRefusal::Unread => f.write_str(said::PROFILE_UNREAD),
+            ProfileRefusal::Refused(ProfileFault::Memory) => f.write_str(said::OUT_OF_MEMORY),
+            ProfileRefusal::Refused(fault) => write!(f, "{}{fault}", said::PROFILE),
+        }
+    }
+}
+
+impl Error for ProfileRefusal {}
 
 impl From<ReadFault> for ProfileRefusal {
     ghost from_gives = { λ fault refusal. refusal ≡ spec.unread_as fault };

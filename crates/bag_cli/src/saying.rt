@@ -1,29 +1,24 @@
 //! What is said on `err`, beside the output. It takes no memory, and where `err` refuses, that is
 //! reported no further.
-ghost use Rattle.bag_walk.specs.Pieces.{joined_pieces};
-ghost use Rattle.bag_cli.specs.Saying.{Says, output_refused, out_of_memory};
+ghost use Rattle.bag_tree.specs.Pieces.{joined_pieces};
+ghost use Rattle.bag_cli.specs.Saying.{Says, with_line_end};
 
-use bag_text::said;
-use bag_tree::Out;
-use bag_walk::put_pieces;
+use bag_tree::{Out, put_pieces};
 
 /// Says the pieces of a text.
-pub(crate) fn say_on<E: Out>(err: &mut E, pieces: &[&str])
+pub fn say_on<E: Out>(err: &mut E, pieces: &[&str])
     ensures { Says (E.state err.old) (E.state err.new) (joined_pieces pieces.now) }
 {
     let _ = put_pieces(err, pieces);
 }
 
-/// Says that the output refused.
-pub(crate) fn say_refused<E: Out>(err: &mut E)
-    ensures { Says (E.state err.old) (E.state err.new) output_refused }
+/// Says a text with a line end at its end.
+pub fn say_ended<E: Out>(text: &str, err: &mut E)
+    ensures { Says (E.state err.old) (E.state err.new) (with_line_end text.now) }
 {
-    say_on(err, &[said::PROGRAM, said::OUTPUT_REFUSED, "\n"]);
-}
-
-/// Says that memory ran out.
-pub(crate) fn say_memory<E: Out>(err: &mut E)
-    ensures { Says (E.state err.old) (E.state err.new) out_of_memory }
-{
-    say_on(err, &[said::PROGRAM, said::OUT_OF_MEMORY, "\n"]);
+    if text.as_bytes().ends_with(b"\n") {
+        say_on(err, &[text]);
+    } else {
+        say_on(err, &[text, "\n"]);
+    }
 }

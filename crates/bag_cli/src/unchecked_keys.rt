@@ -1,12 +1,12 @@
 //! Writes which keys of a profile aren't checked.
-ghost use Rattle.bag_walk.specs.Pieces.{Writes};
+ghost use Rattle.bag_tree.specs.Pieces.{Writes};
 ghost use Rattle.bag_cli.specs.Performed.{lines_before};
 ghost use Rattle.bag_cli.specs.UncheckedKeys as spec;
 
+use bag_facts::put_line;
 use bag_profile::Profile;
 use bag_text::said;
-use bag_tree::{Out, Refused};
-use bag_walk::{put_line, put_pieces};
+use bag_tree::{Out, Refused, put_pieces};
 
 /// Says which keys of a profile aren't checked, unless it is to be quiet.
 pub(crate) fn say_unchecked<O: Out>(

@@ -2,9 +2,9 @@
 ghost use Rattle.std.specs.Prelude.{◌≡◌};
 ghost use Rattle.bag_arguments.specs.Plan.{usage_status};
 ghost use Rattle.bag_cli.specs.Saying.{Says};
-ghost use Rattle.bag_cli.specs.WordsRefusal.{with_line_end, usage_line};
+ghost use Rattle.bag_cli.specs.WordsRefusal.{usage_line};
 
-use crate::saying::{say_memory, say_on};
+use crate::saying::{say_ended, say_on};
 use bag_arguments::Usage;
 use bag_arguments::said::{NOT_A_PART, PART_OF_DEPTH};
 use bag_text::said;
@@ -28,24 +28,13 @@ fn say_usage<E: Out>(usage: &Usage, err: &mut E)
         Usage::Refused(text) => say_ended(text.as_str(), err),
         Usage::NeedsValidate(option) => say_on(
             err,
-            &[said::PROGRAM, option.name(), said::NEEDS_VALIDATE, "\n"],
+            &[said::PROGRAM, "--", option.id(), said::NEEDS_VALIDATE, "\n"],
         ),
         Usage::TwoDepths => say_on(err, &[said::PROGRAM, said::TWO_DEPTHS, "\n"]),
         Usage::AfterSeveral => say_on(err, &[said::PROGRAM, said::AFTER_SEVERAL, "\n"]),
         Usage::AfterNotALine => say_on(err, &[said::PROGRAM, said::AFTER_NOT_A_LINE, "\n"]),
         Usage::PartOfDepth => say_on(err, &[said::PROGRAM, PART_OF_DEPTH, "\n"]),
         Usage::NotAPart => say_on(err, &[said::PROGRAM, NOT_A_PART, "\n"]),
-        Usage::Memory => say_memory(err),
-    }
-}
-
-/// Says a text with a line end at its end.
-fn say_ended<E: Out>(text: &str, err: &mut E)
-    ensures { Says (E.state err.old) (E.state err.new) (with_line_end text.now) }
-{
-    if text.as_bytes().ends_with(b"\n") {
-        say_on(err, &[text]);
-    } else {
-        say_on(err, &[text, "\n"]);
+        Usage::Memory => say_on(err, &[said::PROGRAM, said::OUT_OF_MEMORY, "\n"]),
     }
 }

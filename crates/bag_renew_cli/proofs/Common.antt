@@ -18,12 +18,11 @@ pub use Rattle.bag_text.specs.Code.{number}
 pub use Rattle.bag_text.specs.CodeWord.{word}
 pub use Rattle.bag_text.specs.declared.alg.Alg.{Alg}
 pub use Rattle.bag_facts.specs.FaultLine.{alg_field, fault_line, field, line_field}
-pub use Rattle.bag_tree.specs.Out.{OutState}
+pub use Rattle.bag_tree.specs.Out.{IsCut, OutState}
 pub use Rattle.bag_tree.specs.Tree.{cause_word}
 pub use Rattle.bag_tree.specs.declared.out.Refused.{Refused}
-pub use Rattle.bag_walk.proofs.Writing.{IsCut-append, writes_after}
-pub use Rattle.bag_walk.specs.Pieces.{Writes}
-pub use Rattle.bag_walk.specs.Write.{IsCut}
+pub use Rattle.bag_tree.proofs.Writing.{IsCut-append, writes_after}
+pub use Rattle.bag_tree.specs.Pieces.{Writes}
 pub use Rattle.clap.specs.Simple.{app_of_fields, built}
 pub use Rattle.clap.specs.Words.{App, FailsBy, HasKind, Row, Text, app_of}
 pub use Rattle.clap.specs.Words.{fault_of, found_of, is_simple, is_simple_and_free, kind_of, matches_of, rows_of, takes}

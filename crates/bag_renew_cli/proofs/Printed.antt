@@ -7,7 +7,7 @@ use Rattle.bag_text.specs.AlgList.{with_member}
 use Rattle.bag_text.specs.declared.alg.Alg.TheVariants.{Md5, Sha1, Sha224, Sha256, Sha384, Sha512}
 use Rattle.bag_stages.specs.Payload.{payload}
 use Rattle.bag_tree.specs.Tree.{Keeps, TreeState}
-use Rattle.bag_walk.specs.Write.{IsCut}
+use Rattle.bag_tree.specs.Out.{IsCut}
 use Rattle.bag_renew.specs.NewManifests.{AreOfSameBytes, manifests_for}
 use Rattle.bag_renew.specs.Renewed.{File, manifest}
 use Rattle.bag_renew.specs.Valid.{HasNoFault}

@@ -3,7 +3,7 @@ use Rattle.bag_renew_cli.proofs.Common.{◌≡◌, ◌++◌, ◌<◌, ◌∷◌,
 use Rattle.bag_renew_cli.proofs.Common.{get_or, append_assoc, arith, Appends, IsCut, IsCut-append}
 use Rattle.std.proofs.Common.{zero, suc}
 use Rattle.std.specs.Prelude.{flat_map}
-use Rattle.bag_walk.proofs.Writing.{append-IsCut}
+use Rattle.bag_tree.proofs.Writing.{append-IsCut}
 
 module _ {A : Type 0} (text : A → List ℕ) where
   -- the texts before one, that one, and the others

@@ -4,10 +4,9 @@ use Rattle.std.specs.Prelude.{flat_map}
 use Rattle.std.specs.Io.KnownBytes.{Appends}
 use Rattle.bag_text.specs.declared.alg.Alg.{Alg}
 use Rattle.bag_stages.specs.Payload.{payload}
-use Rattle.bag_tree.specs.Out.{OutState}
+use Rattle.bag_tree.specs.Out.{IsCut, OutState}
 use Rattle.bag_tree.specs.Tree.{Keeps, TreeState}
 use Rattle.bag_tree.specs.declared.out.Refused.{Refused}
-use Rattle.bag_walk.specs.Write.{IsCut}
 use Rattle.bag_renew.specs.NewManifests.{AreOfSameBytes, IsRefusedFor}
 use Rattle.bag_renew.specs.Renewed.{File, manifest}
 use Rattle.bag_renew.specs.Stops.{MayStopUnchecked}

@@ -36,19 +36,19 @@ abbrev pub IsWholeDeed : RenewPlan → BagAction → TreeState → List ℕ → 
 IsWholeDeed plan action tree name before after visits n =
     IsDoneWith plan action tree name before after visits (Ok n)
 
--- it was done, or memory ran out for the folder, which was asked for and couldn't be given
-abbrev pub AnswersDeed : {E : Type 0} → RenewPlan → BagAction → TreeState → List ℕ
-    → OutState → OutState → List Event → Result (Result ℕ Refused) E → Type 0
-AnswersDeed plan action tree name before after visits answer = MatchResult answer
-    (λ reported. IsDoneWith plan action tree name before after visits reported)
-    (λ _. IsNotGiven name before after visits)
-
 -- the last: the output refused, or memory ran out for the folder
 abbrev pub IsLastDeed : RenewPlan → BagAction → TreeState → List ℕ
     → OutState → OutState → List Event → Type 0
 IsLastDeed plan action tree name before after visits =
     ((refusal : Refused) × IsDoneWith plan action tree name before after visits (Err refusal))
     ⊎ IsNotGiven name before after visits
+
+-- it was done, and has a status; or that was the last
+abbrev pub AnswersDeed : {E : Type 0} → RenewPlan → BagAction → TreeState → List ℕ
+    → OutState → OutState → List Event → Result ℕ E → Type 0
+AnswersDeed plan action tree name before after visits answer = MatchResult answer
+    (λ n. IsWholeDeed plan action tree name before after visits n)
+    (λ _. IsLastDeed plan action tree name before after visits)
 
 -- it was done with the folders of these names in the trees that they name, one after the other
 abbrev pub AreDone : RenewPlan → BagAction → (List ℕ → TreeState) → List (List ℕ) → Deed
@@ -57,11 +57,16 @@ AreDone plan action tree_of names before after visits n =
     (λ name. IsWholeDeed plan action (tree_of name) name)
     names before after visits n
 
+-- it was done with the folders of a plan, on disks that hold this below each base folder
+abbrev pub AreDoneOn : Below → RenewPlan → BagAction → Deed
+AreDoneOn below plan action =
+    AreDone plan action (λ name. tree_state (below name) 0) plan.directories
+
 -- this was done for a plan, on disks that hold this below each base folder
 abbrev pub IsDoneBy : RenewAction → Below → RenewPlan → Deed
 IsDoneBy (Help text) below plan before after visits n = IsSaid text before after visits n
 IsDoneBy (Bags action) below plan before after visits n =
-    AreDone plan action (λ name. tree_state (below name) 0) plan.directories before after visits n
+    AreDoneOn below plan action before after visits n
 
 -- what a plan says was done, on disks that hold this below each base folder
 abbrev pub IsPerformed : Below → RenewPlan → Deed

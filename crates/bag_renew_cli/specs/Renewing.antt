@@ -2,11 +2,10 @@
 use Rattle.std.specs.Prelude.{ℕ, ◌≡◌, Bool, true, List, Result, MatchResult}
 use Rattle.std.specs.Prelude.{IfErr, IfOk}
 use Rattle.std.specs.Io.KnownBytes.{Appends}
-use Rattle.bag_tree.specs.Out.{OutState}
+use Rattle.bag_tree.specs.Out.{IsCut, OutState}
 use Rattle.bag_tree.specs.Tree.{Keeps, TreeState}
 use Rattle.bag_tree.specs.declared.file_change.FileChange.{FileChange}
 use Rattle.bag_tree.specs.declared.out.Refused.{Refused}
-use Rattle.bag_walk.specs.Write.{IsCut}
 use Rattle.bag_renew.specs.Reading.{MayRefuseReading}
 use Rattle.bag_renew.specs.Renew.{HasPlanned, IsRenewal}
 use Rattle.bag_renew.specs.declared.fault.RenewFault.{RenewFault}

@@ -86,7 +86,7 @@ fn with_element_arguments<'a>(
             alloc,
             "append",
             "LABEL=VALUE",
-            "One element more, the last; as often as wanted",
+            "Add this element, unless it is there with this value; as often as wanted",
         ))
 }
 

@@ -2,12 +2,11 @@
 ghost use Rattle.std.specs.Prelude.{◌≡◌, ◌++◌, codes};
 ghost use Rattle.bag_facts.specs.FaultLine.{alg_field, fault_line, line_field};
 ghost use Rattle.bag_renew_cli.specs.FaultParts as spec;
-ghost use Rattle.bag_walk.specs.Pieces.{Writes};
+ghost use Rattle.bag_tree.specs.Pieces.{Writes};
 
-use bag_facts::Fault;
+use bag_facts::{Fault, put_line};
 use bag_text::Alg;
-use bag_tree::{Out, Refused};
-use bag_walk::{put_line, put_pieces};
+use bag_tree::{Out, Refused, put_pieces};
 use itoa::Buffer;
 
 /// Hands the line of a fault to the output, with its end.

@@ -27,7 +27,6 @@ mod renewals;
 mod renewing;
 mod request_option;
 pub mod said;
-mod saying;
 mod usage;
 mod whole_program;
 mod words_refusal;

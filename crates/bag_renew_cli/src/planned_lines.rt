@@ -1,14 +1,14 @@
 //! The lines that say what would be put and removed. Writing them takes no memory.
 ghost use Rattle.std.specs.Prelude.{◌≡◌};
 ghost use Rattle.bag_renew_cli.specs.PlannedLines as spec;
-ghost use Rattle.bag_walk.specs.Pieces.{Writes};
+ghost use Rattle.bag_tree.specs.Pieces.{Writes};
 
 use crate::renewal_line::put_not_renewed;
 use crate::said::{WOULD_PUT, WOULD_REMOVE};
+use bag_facts::put_line;
 use bag_renew::RenewFault;
 use bag_text::Items;
 use bag_tree::{FileChange, Out, Refused};
-use bag_walk::put_line;
 
 /// Hands the lines about a bag of this name to the output: one for each change, nothing of them
 /// where it is to be quiet, or the one that says why the bag can't be renewed.

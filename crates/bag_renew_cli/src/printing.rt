@@ -1,13 +1,12 @@
 //! Writing the new manifest of a bag without a fault.
 ghost use Rattle.std.specs.Prelude.{◌≡◌, flat_map, OnOk};
 ghost use Rattle.bag_renew_cli.specs.Printing.{IsPrinting, is_status_of, refused_as, text_of};
-ghost use Rattle.bag_walk.specs.Pieces.{Writes};
+ghost use Rattle.bag_tree.specs.Pieces.{Writes};
 
 use crate::{put_renewal, renewal_status};
 use bag_renew::{RenewFault, Unchecked, new_manifests};
 use bag_text::{Alg, AlgSet, Items, Text};
-use bag_tree::{Out, Refused, Tree, TreeFault};
-use bag_walk::put_all;
+use bag_tree::{Out, Refused, Tree, TreeFault, put_all};
 use std::alloc::Global;
 
 /// Writes the payload manifest of an algorithm, as it is to be for a bag without a fault; of

@@ -1,17 +1,16 @@
 //! The line that says how renewing a bag went. Writing it takes no memory.
 ghost use Rattle.std.specs.Prelude.{◌≡◌};
 ghost use Rattle.bag_renew_cli.specs.RenewalLine as spec;
-ghost use Rattle.bag_walk.specs.Pieces.{Writes};
+ghost use Rattle.bag_tree.specs.Pieces.{Writes};
 
 use crate::fault_line::put_fault;
 use crate::said::{
     CANT_BE_NAMED, FAULT, FETCH, IN_THE_WAY, NOT_RENEWED, PUT, READ, REMOVE, RENEWED, VERSION,
 };
-use bag_facts::Fault;
+use bag_facts::{Fault, put_line};
 use bag_renew::RenewFault;
 use bag_text::said::{BAD_VALUE, NO_ALGORITHM, OUT_OF_MEMORY};
 use bag_tree::{Out, Refused, TreeFault};
-use bag_walk::put_line;
 
 /// Hands the line about a bag of this name to the output, or nothing where the bag was renewed and
 /// the renewal is quiet. The name and paths are written as fields of a line.

@@ -1,15 +1,15 @@
 //! What is done with bags, one after the other.
-ghost use Rattle.bag_cli.specs.Folders.{tree_in, visits_of};
-ghost use Rattle.bag_cli.specs.InTurn.{HasVisited};
-ghost use Rattle.bag_renew_cli.specs.Renewals.{AnswersDeed, IsDone};
+ghost use Rattle.bag_cli.specs.Folders.{disks_of, tree_in, visits_of};
+ghost use Rattle.bag_cli.specs.Halt.{status_of};
+ghost use Rattle.bag_cli.specs.InTurn.{Does, HasVisited};
+ghost use Rattle.bag_renew_cli.specs.Renewals.{AnswersDeed, AreDoneOn, IsDone};
 
 use crate::printing::print_manifest;
 use crate::renewing::{plan_and_report, renew_and_report};
-use crate::saying::{say_memory, say_refused};
 use crate::{BagAction, RenewPlan};
-use bag_cli::{Disks, Folders, Task, Visits};
+use bag_cli::{Disks, Folders, Halt, Visits};
 use bag_tree::{Out, Refused, ReplaceTree};
-use std::alloc::{AllocError, Global};
+use std::alloc::Global;
 
 /// What a plan does with each bag.
 #[derive(Drop)]
@@ -21,14 +21,34 @@ pub(crate) struct Renewals<'w, D> {
 }
 
 impl<D: Disks> Renewals<'_, D> {
-    /// Does it with the bag in a folder. Gives the status, or the output's refusal.
+    /// Does it with the bags in the folders of the plan, one after the other. Gives the greatest
+    /// status.
+    pub(crate) fn do_each<O: Out, E: Out>(
+        &self,
+        visits: &mut Visits<D>,
+        out: &mut O,
+        err: &mut E,
+    ) -> Result<u8, Halt>
+        ensures { Does O.Out visits.old visits.new out.old out.new (status_of result)
+            (AreDoneOn (D.below (disks_of self.now.folders.now)) self.now.plan.now
+            self.now.action) }
+    {
+        let mut greatest = 0;
+        for directory in self.plan.directories.as_slice() {
+            let status = self.do_one(directory.as_str(), visits, out, err)?;
+            greatest = greatest.max(status);
+        }
+        Ok(greatest)
+    }
+
+    /// Does it with the bag in a folder. Gives the status where that was reported.
     fn do_one<O: Out, E: Out>(
         &self,
         directory: &str,
         visits: &mut Visits<D>,
         out: &mut O,
         err: &mut E,
-    ) -> Result<Result<u8, Refused>, AllocError>
+    ) -> Result<u8, Halt>
         ensures { HasVisited (visits_of visits.old) (visits_of visits.new) (λ own.
             AnswersDeed self.now.plan.now self.now.action
             (tree_in D.below self.now.folders.now directory.now) directory.now
@@ -37,7 +57,7 @@ impl<D: Disks> Renewals<'_, D> {
         let mut tree = self.folders.enter(self.alloc, directory, visits)?;
         let told = self.do_with(&mut tree, directory, out, err);
         self.folders.leave(tree, visits);
-        Ok(told)
+        Ok(told?)
     }
 
     /// Does it with a tree.
@@ -70,35 +90,6 @@ impl<D: Disks> Renewals<'_, D> {
                 out,
             ),
             BagAction::Print(alg) => print_manifest(self.alloc, tree, name, alg, out, err),
-        }
-    }
-}
-
-impl<D: Disks> Task<D> for Renewals<'_, D> {
-    ghost use Rattle.bag_cli.specs.Folders.{tree_in};
-    ghost use Rattle.bag_renew_cli.specs.Renewals.{IsLastDeed, IsWholeDeed};
-
-    ghost ends = { λ renewals name. IsLastDeed renewals.plan.now renewals.action
-        (tree_in D.below renewals.folders.now name) name };
-
-    ghost goes = { λ renewals name. IsWholeDeed renewals.plan.now renewals.action
-        (tree_in D.below renewals.folders.now name) name };
-
-    fn run<O, E>(&self, name: &str, visits: &mut Visits<D>, out: &mut O, err: &mut E) -> Option<u8>
-    where
-        O: Out,
-        E: Out,
-    {
-        match self.do_one(name, visits, out, err) {
-            Ok(Ok(status)) => Some(status),
-            Ok(Err(Refused)) => {
-                say_refused(err);
-                None
-            }
-            Err(AllocError) => {
-                say_memory(err);
-                None
-            }
         }
     }
 }

@@ -21,23 +21,13 @@ impl ListOption {
             ListOption::Drop => "drop",
         }
     }
-
-    /// As it is written.
-    fn written(self) -> &'static str
-        ensures { result.now ≡ spec.written (spec.list_name self) }
-    {
-        match self {
-            ListOption::Add => "--add",
-            ListOption::Drop => "--drop",
-        }
-    }
 }
 
 impl fmt::Display for ListOption {
     ghost output = { λ option. Some (spec.written (spec.list_name option)) };
 
     fn fmt<W: fmt::Write>(&self, f: &mut fmt::Formatter<W>) -> fmt::Result {
-        f.write_str(self.written())
+        write!(f, "--{}", self.name())
     }
 }
 
@@ -58,22 +48,12 @@ impl ElementOption {
             ElementOption::Append => "append",
         }
     }
-
-    /// As it is written.
-    fn written(self) -> &'static str
-        ensures { result.now ≡ spec.written (spec.element_name self) }
-    {
-        match self {
-            ElementOption::Set => "--set",
-            ElementOption::Append => "--append",
-        }
-    }
 }
 
 impl fmt::Display for ElementOption {
     ghost output = { λ option. Some (spec.written (spec.element_name option)) };
 
     fn fmt<W: fmt::Write>(&self, f: &mut fmt::Formatter<W>) -> fmt::Result {
-        f.write_str(self.written())
+        write!(f, "--{}", self.name())
     }
 }

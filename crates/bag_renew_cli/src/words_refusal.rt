@@ -1,13 +1,15 @@
 //! What is said where the words of a renewal's command line are refused.
 ghost use Rattle.std.specs.Prelude.{◌≡◌};
 ghost use Rattle.bag_renew_cli.specs.Plan.{usage_status};
-ghost use Rattle.bag_renew_cli.specs.WordsRefusal.{Says, usage_line, with_line_end};
+ghost use Rattle.bag_cli.specs.Saying.{Says};
+ghost use Rattle.bag_renew_cli.specs.WordsRefusal.{usage_line};
 
 use crate::RenewUsage;
 use crate::said::{
     NOT_ALGORITHMS, NOT_AN_ALGORITHM, NOT_AN_ELEMENT, PRINT_SEVERAL, PRINT_WITH_OTHERS, PROGRAM,
 };
-use crate::saying::{say_memory, say_on};
+use bag_cli::{say_ended, say_on};
+use bag_text::said::OUT_OF_MEMORY;
 use bag_tree::Out;
 
 /// Says on `err` why the words are refused, in a line or, of clap, some lines, and gives the exit
@@ -37,17 +39,6 @@ fn say_usage<E: Out>(usage: &RenewUsage, err: &mut E)
             err,
             &[PROGRAM, "--", option.name(), NOT_ALGORITHMS, "\n"],
         ),
-        RenewUsage::Memory => say_memory(err),
-    }
-}
-
-/// Says a text with a line end at its end.
-fn say_ended<E: Out>(text: &str, err: &mut E)
-    ensures { Says (E.state err.old) (E.state err.new) (with_line_end text.now) }
-{
-    if text.as_bytes().ends_with(b"\n") {
-        say_on(err, &[text]);
-    } else {
-        say_on(err, &[text, "\n"]);
+        RenewUsage::Memory => say_on(err, &[PROGRAM, OUT_OF_MEMORY, "\n"]),
     }
 }

@@ -4,12 +4,12 @@ use Rattle.bag_arguments.proofs.command.with_check_arguments.Goals as goal
 
 pub returns : goal.returns
 returns c =
-    let one = added c.in_ok-arg.ensures c.flag.ensures.global refl c.flag.ensures.rule in
-    let two = added c.in_ok-arg-2.ensures c.flag-2.ensures.global one c.flag-2.ensures.rule in
-    let three = added c.in_ok-arg-3.ensures c.flag-3.ensures.global two c.flag-3.ensures.rule in
-    let four = added c.in_ok-arg-4.ensures c.option.ensures.global three c.option.ensures.rule in
-    let five = added c.in_ok-arg-5.ensures c.option-2.ensures.global four c.option-2.ensures.rule in
-    let six = added c.in_ok-arg-6.ensures c.number.ensures.global five c.number.ensures.rule in
-    let seven = added c.in_ok-arg-7.ensures c.flag-4.ensures.global six c.flag-4.ensures.rule in
-    IfOk-weaker c.arg-8.result _ _ (λ r h. added h c.option-3.ensures.global seven c.option-3.ensures.rule)
+    let one = added c.in_ok-arg.ensures c.check_flag.ensures.global refl c.check_flag.ensures.rule in
+    let two = added c.in_ok-arg-2.ensures c.check_flag-2.ensures.global one c.check_flag-2.ensures.rule in
+    let three = added c.in_ok-arg-3.ensures c.check_flag-3.ensures.global two c.check_flag-3.ensures.rule in
+    let four = added c.in_ok-arg-4.ensures c.check_value.ensures.global three c.check_value.ensures.rule in
+    let five = added c.in_ok-arg-5.ensures c.check_value-2.ensures.global four c.check_value-2.ensures.rule in
+    let six = added c.in_ok-arg-6.ensures c.check_number.ensures.global five c.check_number.ensures.rule in
+    let seven = added c.in_ok-arg-7.ensures c.check_flag-4.ensures.global six c.check_flag-4.ensures.rule in
+    IfOk-weaker c.arg-8.result _ _ (λ r h. added h c.check_value-3.ensures.global seven c.check_value-3.ensures.rule)
     c.arg-8.ensures

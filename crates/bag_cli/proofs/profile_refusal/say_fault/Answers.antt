@@ -17,3 +17,6 @@ returns-in-NotJson g c = rw c.in-NotJson.is c.say_reason.ensures
 
 pub returns-in-NoIdentifier : goal.returns-in-NoIdentifier
 returns-in-NoIdentifier g c = rw c.in-NoIdentifier.is c.say_reason-in-NoIdentifier.ensures
+
+pub returns-in-Memory : goal.returns-in-Memory
+returns-in-Memory g c = rw c.in-Memory.is c.say_on.ensures

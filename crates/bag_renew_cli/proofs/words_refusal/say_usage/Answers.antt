@@ -8,4 +8,4 @@ returns-in-NotAlgorithms g c =
     rw c.in-NotAlgorithms.is (rw c.name-in-NotAlgorithms.ensures at c.say_on-in-NotAlgorithms.ensures)
 
 pub returns-in-Memory : goal.returns-in-Memory
-returns-in-Memory g c = rw c.in-Memory.is c.say_memory.ensures
+returns-in-Memory g c = rw c.in-Memory.is c.say_on-in-Memory.ensures

@@ -1,5 +1,5 @@
-use Rattle.bag_cli.proofs.Common.{◌∷◌, [], inl, refl, err_from_is_err_and, option_copied, Entered, Left, NotGiven}
-use Rattle.bag_cli.proofs.Checks.{visited_check}
+use Rattle.bag_cli.proofs.Common.{◌∷◌, [], inl, inr, refl, err_from_is_err_and, option_copied, Entered, Left, NotGiven}
+use Rattle.bag_cli.proofs.Checks.{check_by_status, next_check, visited_check}
 use Rattle.bag_cli.proofs.Turns.{added}
 use Rattle.bag_cli.proofs.work.Work.check_folder.Goals as goal
 
@@ -8,14 +8,18 @@ returns-in_err-tree g c =
     let p = err_from_is_err_and c.from_residual.result c.from_residual.ensures.1 in (
       NotGiven c.args.directory.now ∷ [],
       c.in_err-tree.ensures.refused,
-      rw p.1 (refl {a = g.O.Out.state c.args.out.now}, inl (refl {a = NotGiven c.args.directory.now ∷ []})),
+      rw p.1 (inr (refl {a = g.O.Out.state c.args.out.now}, inl (refl {a = NotGiven c.args.directory.now ∷ []}))),
     )
 
 pub returns : goal.returns
-returns g c = (
-  _,
-  added _ _ _ (Entered c.args.directory.now ∷ []) (Left _ ∷ []) c.in_ok-tree.ensures.entered c.leave.ensures,
-  visited_check c.args.self.now.plan.now (option_copied c.args.profile) _ _ _ c.args.directory.now _ _
-      c.check_tree-tree.result.1
-      c.in_ok-tree.ensures.state c.check_tree-tree.ensures,
-)
+returns g c =
+    let plan = c.args.self.now.plan.now in
+    let profile = option_copied c.args.profile in
+    let name = c.args.directory.now in
+    let checked = c.check_tree-tree.result.1 in (
+      _,
+      added _ _ _ (Entered name ∷ []) (Left _ ∷ []) c.in_ok-tree.ensures.entered c.leave.ensures,
+      check_by_status plan profile _ name _ _ _ checked c.whole_status.result c.whole_status.ensures
+          (next_check plan profile _ name _ _ _ checked
+          (visited_check plan profile _ _ _ name _ _ checked c.in_ok-tree.ensures.state c.check_tree-tree.ensures)),
+    )

@@ -1,10 +1,10 @@
-use Rattle.bag_cli.proofs.Common.{rules, ◌≡◌, inl, ◌∷◌, [], List, None, refl, MatchResult, codes, unwrap_or, Result, Ok}
+use Rattle.bag_cli.proofs.Common.{◌≡◌, inl, ◌∷◌, [], List, None, refl, MatchResult, codes, Result, Ok}
 use Rattle.bag_cli.proofs.Common.{Err, OutState, Event, NotGiven, CheckOutcome, Plan, HaveNoFailure, HasRunOut}
 use Rattle.bag_cli.proofs.Common.{IsCheckOfSample, IsLastCheck, IsVisitToCheck, IsWholeCheck, visit_of, sample_state}
 use Rattle.bag_cli.proofs.Common.{whole_status}
 use Rattle.bag_cli.proofs.Checks.{next_check}
 use Rattle.bag_cli.proofs.Turns.{only_one}
-use Rattle.bag_cli.proofs.all_checks.report_sample.Goals as goal
+use Rattle.bag_cli.proofs.all_checks.check_samples.Goals as goal
 
 -- the check of the sample, as a visit to a folder of its name during which no device failed, or as one that couldn't be
 -- given
@@ -20,15 +20,13 @@ as_visit plan before after (Err e) nothing = (NotGiven (codes "sample") ∷ [], 
 
 pub returns : goal.returns
 returns g c =
-    let given : c.unwrap_or.result ≡ unwrap_or (whole_status c.check_sample-checked.result) 3 = search rules in
     let visit =
-    as_visit c.args.plan.now (g.O.Out.state c.args.out.now) (g.O.Out.state c.check_sample-checked.new.out)
-    c.check_sample-checked.result c.check_sample-checked.ensures in (
+    as_visit c.args.plan.now (g.O.Out.state c.args.out.now) (g.O.Out.state c.check_sample.new.out) c.check_sample.result
+    c.check_sample.ensures in (
       visit.0,
       visit.1,
-      rw given (only_one (λ name. IsLastCheck c.args.plan.now None sample_state name) (λ name.
+      rw c.whole_status.ensures (only_one (λ name. IsLastCheck c.args.plan.now None sample_state name) (λ name.
           IsWholeCheck c.args.plan.now None sample_state name)
-          (codes "sample") _ _ visit.0 (whole_status c.check_sample-checked.result)
-          (next_check c.args.plan.now None sample_state (codes "sample") _ _ visit.0 c.check_sample-checked.result
-          visit.2)),
+          (codes "sample") _ _ visit.0 (whole_status c.check_sample.result)
+          (next_check c.args.plan.now None sample_state (codes "sample") _ _ visit.0 c.check_sample.result visit.2)),
     )
