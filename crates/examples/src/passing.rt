@@ -5,9 +5,9 @@ ghost use Rattle.bag_walk.specs.Steps.{state};
 
 use crate::NotDone;
 use bag_report::{Fault, Options};
-use bag_store::{Out, Stop, Tree};
+use bag_store::{Out, Stop, Tree, put_pieces};
 use bag_text::{Code, Text};
-use bag_walk::{InOrder, Source, Sources, Steps, Walk, put_pieces};
+use bag_walk::{InOrder, Source, Sources, Steps, Walk};
 use std::alloc::Global;
 
 /// Writes the line of each fault of a bag, and passes over at most ten files that can't be read.
@@ -79,6 +79,5 @@ fn fault_after(alloc: Global, stop: &Stop) -> Result<Fault, NotDone> {
     path.push_str(stop.path.as_str())?;
     path.push('\0')?;
     let path = Text::from_str(alloc, path.as_str())?;
-    let detail = Text::from_str(alloc, "")?;
-    Ok(Fault::of_path(Code::PayloadSumDiffers, path, None, detail))
+    Ok(Fault::new(alloc, Code::PayloadSumDiffers, path))
 }

@@ -1,6 +1,9 @@
 //! The texts that refusals and codes show themselves as, to users and in logs.
 use bag_arguments::{CheckOption, Usage};
+use bag_cli::ProfileRefusal;
+use bag_disk::{DiskFault, Refusal};
 use bag_make::MakeFault;
+use bag_profile::{Key, ProfileFault};
 use bag_store::{Stop, TreeFault};
 use bag_text::{Code, Text};
 use std::alloc::Global;
@@ -141,6 +144,68 @@ fn refused_calls(rt: HostRuntime) {
         "Stop { cause: NotFound, path: \"data/a\" }",
     );
     try_shown(&rt, rt.alloc(), &unread(&rt, rt.alloc()), texts);
+}
+
+/// Why a call of a disk is refused, and what that is to a tree.
+const DISK_FAULTS: &[(DiskFault, (&str, &str))] = &[
+    (DiskFault::NotFound, ("not-found", "NotFound")),
+    (DiskFault::Exists, ("exists", "Exists")),
+    (DiskFault::Name, ("name", "Name")),
+    (DiskFault::Memory, ("memory", "Memory")),
+    (DiskFault::Device, ("device", "Device")),
+];
+
+const REFUSALS: &[(Refusal, (&str, &str))] = &[
+    (Refusal::Device, ("device", "Device")),
+    (Refusal::Special, ("special", "Special")),
+    (Refusal::Name, ("name", "Name")),
+    (Refusal::NotFound, ("not-found", "NotFound")),
+    (Refusal::TooMany, ("too-many", "TooMany")),
+    (Refusal::Memory, ("memory", "Memory")),
+    (Refusal::Exists, ("exists", "Exists")),
+    (Refusal::Contradicts, ("device", "Contradicts")),
+    (Refusal::InTheWay, ("device", "InTheWay")),
+];
+
+#[test]
+fn refused_disks(rt: HostRuntime) {
+    for &(fault, texts) in DISK_FAULTS {
+        try_shown(&rt, rt.alloc(), &fault, texts);
+    }
+    for &(refusal, texts) in REFUSALS {
+        try_shown(&rt, rt.alloc(), &refusal, texts);
+    }
+}
+
+/// Why there is no profile.
+const PROFILE_REFUSALS: &[(ProfileRefusal, (&str, &str))] = &[
+    (ProfileRefusal::Unread, ("profile unread", "Unread")),
+    (
+        ProfileRefusal::Refused(ProfileFault::NotJson),
+        ("profile: not JSON", "Refused(NotJson)"),
+    ),
+    (
+        ProfileRefusal::Refused(ProfileFault::NoIdentifier),
+        ("profile: no identifier", "Refused(NoIdentifier)"),
+    ),
+    (
+        ProfileRefusal::Refused(ProfileFault::WrongShape(Key::BagInfo)),
+        (
+            "profile: wrong shape: Bag-Info",
+            "Refused(WrongShape(BagInfo))",
+        ),
+    ),
+    (
+        ProfileRefusal::Refused(ProfileFault::Memory),
+        ("out of memory", "Refused(Memory)"),
+    ),
+];
+
+#[test]
+fn refused_profiles(rt: HostRuntime) {
+    for &(refusal, texts) in PROFILE_REFUSALS {
+        try_shown(&rt, rt.alloc(), &refusal, texts);
+    }
 }
 
 #[test]
