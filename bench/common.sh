@@ -1,23 +1,10 @@
-# Functions of the other scripts: the program, a folder of their own, the time that a command takes, and bars.
-export LC_ALL=C
-root=$(realpath "$(dirname "${BASH_SOURCE[0]}")/..")
-
-# Takes the program to measure: the one of this path, or where none is given what stands in a crate's `out`.
-take_program() {
-    program=$(realpath "${2:-$root/crates/$1/out/$1}")
-    [[ -x $program ]] || give_up "there is no program $program"
-}
+# Functions of the other scripts, beside those of tests/: a folder of their own, the time that a command takes, and bars.
+source "$(dirname "${BASH_SOURCE[0]}")/../tests/common.sh"
 
 # Makes a new folder, `work`, which is removed at the end. The status is 1 then where a bar was missed.
 make_room() {
     work=$(mktemp -d "/tmp/bagit-$1.XXXXXX")
     trap 'rm -rf "$work"; [[ $missed == 0 ]] || give_up "bars missed: $missed"' EXIT
-}
-
-# Ends the script, since it can't measure.
-give_up() {
-    echo "$*"
-    exit 1
 }
 
 # The milliseconds of processor time that a command takes, its own and the system's.

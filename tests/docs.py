@@ -220,7 +220,8 @@ def options_in(text):
 def program_options():
     """The options that the sources give the program, and those that any program of clap has."""
     source = crates / "bag_arguments" / "src"
-    names = re.findall(r'\b(?:flag|option|number)\(\s*alloc,\s*"([a-z-]+)"', text_of(source / "command.rt"))
+    names = re.findall(r'\bflag\(\s*alloc,\s*"([a-z-]+)"', text_of(source / "command.rt"))
+    names += re.findall(r'\bCheckOption::\w+ => "([a-z-]+)"', text_of(source / "check_option.rt"))
     names += re.findall(r'\bLabel::\w+ => "([a-z][a-z-]*)"', text_of(source / "label.rt"))
     names += re.findall(r'\bAlg::\w+ => "([a-z][a-z0-9]*)"', text_of(crates / "bag_text" / "src" / "alg.rt"))
     return {f"--{name}" for name in names} | {"-h", "--help"}

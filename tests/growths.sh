@@ -7,67 +7,7 @@ from=1 growths=0 wrong=0
 
 # Builds what stands between a program and the C library: it writes each growth, and refuses one, by its number.
 build_refuser() {
-    cat >"$work/refuse.c" <<'C'
-#define _GNU_SOURCE
-#include <dlfcn.h>
-#include <errno.h>
-#include <stdio.h>
-#include <stdlib.h>
-#include <string.h>
-#include <unistd.h>
-
-static long number, wanted = -1;
-
-__attribute__((constructor)) static void start(void) {
-    const char *text = getenv("REFUSED");
-    wanted = text ? atol(text) : 0;
-}
-
-static int refused(const char *kind, size_t size) {
-    char line[64];
-    if (wanted < 0) return 0;
-    int is_refused = ++number == wanted;
-    int length = snprintf(line, sizeof line, "%s %zu%s\n", kind, size, is_refused ? " refused" : "");
-    if (write(9, line, length) != length) _exit(99);
-    return is_refused;
-}
-
-static void *fresh(const char *kind, size_t size) {
-    static void *(*next)(size_t);
-    if (!next) next = dlsym(RTLD_NEXT, "malloc");
-    return refused(kind, size) ? NULL : next(size);
-}
-
-static void *aligned(const char *kind, size_t alignment, size_t size) {
-    static void *(*next)(size_t, size_t);
-    if (!next) next = dlsym(RTLD_NEXT, "aligned_alloc");
-    return refused(kind, size) ? NULL : next(alignment, size);
-}
-
-void *malloc(size_t size) { return fresh("malloc", size); }
-
-void *calloc(size_t count, size_t size) {
-    size_t all;
-    void *made = __builtin_mul_overflow(count, size, &all) ? NULL : fresh("calloc", all);
-    return made ? memset(made, 0, all) : NULL;
-}
-
-void *realloc(void *old, size_t size) {
-    static void *(*next)(void *, size_t);
-    if (!next) next = dlsym(RTLD_NEXT, "realloc");
-    return refused("realloc", size) ? NULL : next(old, size);
-}
-
-void *aligned_alloc(size_t alignment, size_t size) { return aligned("aligned_alloc", alignment, size); }
-
-int posix_memalign(void **made, size_t alignment, size_t size) {
-    void *found = aligned("posix_memalign", alignment, size);
-    if (!found) return ENOMEM;
-    *made = found;
-    return 0;
-}
-C
-    cc -shared -fPIC -O1 -fno-builtin-malloc -o "$work/refuse.so" "$work/refuse.c" -ldl
+    cc -shared -fPIC -O1 -fno-builtin-malloc -o "$work/refuse.so" "$tests/refuse.c" -ldl
 }
 
 # Runs a program of which the growth of a number is refused, from 1, or none for 0. Its output, its errors and its status stand in
