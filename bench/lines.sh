@@ -6,11 +6,11 @@
 #
 # usage: bench/lines.sh [PROGRAM] [RUNS]
 #
-# PROGRAM is crates/cases/out/cases by default, which `rt run` and `rt ci` leave there.
+# PROGRAM is crates/test_cases/out/test_cases by default, which `rt run` and `rt ci` leave there.
 set -euo pipefail
 source "$(dirname "$0")/common.sh"
 
-take_program cases "${1:-}"
+take_program test_cases "${1:-}"
 runs=${2:-5}
 lines=500000
 size=60

@@ -4,13 +4,13 @@
 #
 # usage: tests/changed_digits.sh [PROGRAM [SEED]]
 #
-# PROGRAM is crates/cases/out/cases by default, which `rt run` and `rt ci` leave there. Another SEED, a number, chooses other files and
-# digits.
+# PROGRAM is crates/test_cases/out/test_cases by default, which `rt run` and `rt ci` leave there. Another SEED, a number, chooses other
+# files and digits.
 set -euo pipefail
 source "$(dirname "$0")/common.sh"
-take_program cases "${1:-}"
+take_program test_cases "${1:-}"
 enter digits
-cp -r "$root"/crates/cases/data/. .
+cp -r "$root"/crates/test_cases/data/. .
 RANDOM=${2:-1}
 
 # The lines of a file that are wanted, with a digit: lines and statuses of an answer, and right sides of rows; not those that belong to a

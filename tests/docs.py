@@ -154,15 +154,15 @@ def compare_ways(page, text):
 def compare_cases(page, text):
     for names in re.findall(r"^- (`[^:]*): ", part_of(text, "Cases", "Tests"), re.M):
         for name in quoted(names):
-            compare("case file", page, name, any((crates / "cases" / "data").glob(f"{name}.cases")))
+            compare("case file", page, name, any((crates / "test_cases" / "data").glob(f"{name}.cases")))
 
 
 def compare_counts(page, text):
     """What docs/TESTED.md begins with: no more than there are, and not far fewer."""
-    cases = "\n".join(text_of(path) for path in (crates / "cases" / "data").glob("*.cases"))
+    cases = "\n".join(text_of(path) for path in (crates / "test_cases" / "data").glob("*.cases"))
     tests = sum(text_of(path).count("#[test]") for path in crates.glob("*/src/*.rt"))
     counts = {"cases": len(re.findall("^case ", cases, re.M)), "rows": len(re.findall("^- .* => ", cases, re.M))}
-    counts |= {"files": len([*(crates / "cases" / "data").glob("*.cases")]), "tests in Rattle": tests}
+    counts |= {"files": len([*(crates / "test_cases" / "data").glob("*.cases")]), "tests in Rattle": tests}
     counts["scripts"] = sum(bool(path.stat().st_mode & 0o100) for path in (root / "tests").glob("*.sh"))
     counts["wrong bodies"] = len([*crates.glob("*/must-fail/*")])
     opening = " ".join(text.partition("\n## ")[0].split())
@@ -200,7 +200,7 @@ def fault_codes():
 
 def compare_codes(page, text):
     """The codes of FAULTS, and of the cases that list all codes, are those of the definitions."""
-    cases = crates / "cases" / "data"
+    cases = crates / "test_cases" / "data"
     lines = text_of(cases / "fault-lines.cases").split("case a line of each code ")[1].split("\ncase ")[0]
     lists = {page: re.findall(r"^\| (\d{3}) \| `([a-z0-9-]+)` ", text, re.M)}
     all_codes = cases / "codes-and-algorithms.cases"
@@ -410,7 +410,7 @@ def compare_kit(pages):
 
 def compare_case_files():
     """Each file of cases is an argument of the program that runs them, and each broken one is named by a case."""
-    cases = crates / "cases"
+    cases = crates / "test_cases"
     broken = set(re.findall(r"[\w-]+\.cases", text_of(cases / "data" / "broken.cases")))
     lists = {"data": set(text_of(cases / "args").split()), "data/broken": broken}
     for folder, listed in lists.items():

@@ -1,6 +1,6 @@
 #!/usr/bin/env bash
 # Runs the built program over real folders, and compares what it writes and its status with what must come: its words, its outputs, folders
-# and links of the disk, and bags that other programs read. All rows about what a fault is stand in crates/cases.
+# and links of the disk, and bags that other programs read. All rows about what a fault is stand in crates/test_cases.
 #
 # usage: tests/program.sh [PROGRAM]
 #

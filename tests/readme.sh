@@ -873,14 +873,14 @@ cut -d : -f 2 own/crates.txt | tr ' ' '\n' | sort -u | while IFS= read -r needed
 done
 awk '/^```rust$/ { n++; inside = 1; next } /^```$/ { inside = 0 } inside { print > ("quoted" n) }' "$root/docs/LIBRARY.md"
 for quoted in quoted*; do
-    for file in "$root"/crates/{examples,deposits}/src/*.rt; do
+    for file in "$root"/crates/{example_calls,example_deposits}/src/*.rt; do
         awk -v wanted="$quoted" '
             BEGIN { while ((getline line < wanted) > 0) lines[++count] = line }
             { at = $0 == lines[at + 1] ? at + 1 : $0 == lines[1]; if (at == count) found = 1 }
             END { exit !found }' "$file" && continue 2
     done
     cat "$quoted"
-    give_up 'docs/LIBRARY.md: this stands nowhere in crates/examples and crates/deposits'
+    give_up 'docs/LIBRARY.md: this stands nowhere in crates/example_calls and crates/example_deposits'
 done
 followed=$((followed + 1 + $(ls quoted* | wc -l)))
 

@@ -13,7 +13,7 @@ take_program bagit "${1:-}"
 needs python3
 enter report
 export PATH=$root/packaging:$PATH
-data=$root/crates/cases/data
+data=$root/crates/test_cases/data
 
 # Runs bagit-report, sees its status, and leaves what it printed.
 ends_with() {

@@ -1,0 +1,38 @@
+//! The worked rows: each argument is a file of cases, in the form that docs/CASES.md says. What
+//! differs is printed, or that nothing does; how much was compared, on the error output.
+#![tactic(auto)]
+
+mod answers;
+mod commands;
+mod files;
+mod on_disk;
+mod running;
+mod session;
+mod shelf;
+mod stages;
+mod trees;
+mod turns;
+mod world;
+
+use crate::files::run_files;
+use std::env;
+use std::io::{self, Write};
+use std::process::ExitCode;
+use test_case_lines::Answer;
+
+/// Prints what differs, also on the error output, of which the gate shows the end; or why a file
+/// can't be followed.
+fn print(rt: &HostRuntime, answer: &Answer) -> io::Result<()> {
+    rt.stdout().write_all(&answer.written.held)?;
+    if answer.status == 1 {
+        rt.stderr().write_all(&answer.written.held)?;
+    }
+    rt.stderr().write_all(&answer.told.held)
+}
+
+fn main(rt: HostRuntime) -> io::Result<ExitCode> {
+    let files: Vec<String> = env::args(&rt)?.skip(1).collect(rt.alloc())?;
+    let answer = run_files(&rt, &files);
+    print(&rt, &answer)?;
+    Ok(ExitCode::from(answer.status))
+}

@@ -1,0 +1,120 @@
+//! Commands, and what each side answers to them.
+use crate::answers::answer_to;
+use crate::commands::{Verb, verb_of};
+use crate::shelf::answer_in_memory;
+use crate::turns::Turns;
+use crate::world::World;
+use crate::{stages, trees, turns};
+use bag_cli::{Plan, Usage, plan_of};
+use std::str;
+use test_case_lines::{Mistake, Report, Sight, words_of};
+
+/// Runs a command, and compares its answers.
+pub(crate) fn run(rt: &HostRuntime, sight: &Sight<'_>, world: &mut World, report: &mut Report) {
+    let mut text = sight.texts.bytes(sight.entry.line.rest);
+    text.put(" ");
+    report.note(&text);
+    match verb_of(str::from_utf8(&text.held).unwrap_or("")) {
+        Some((verb, words)) => {
+            let words = words_of(sight.texts.alloc, words, &mut report.text);
+            run_verb(rt, sight, verb, &words, world, report);
+        }
+        None => report.text.fail(Mistake::Command),
+    }
+}
+
+fn run_verb(
+    rt: &HostRuntime,
+    sight: &Sight<'_>,
+    verb: Verb,
+    words: &[&str],
+    world: &mut World,
+    report: &mut Report,
+) {
+    if world.make_disks().is_err() {
+        report.text.fail(Mistake::Memory);
+    }
+    match verb {
+        Verb::RefuseTree | Verb::RefuseDisk(_) => see_planned(sight, verb, words, world, report),
+        Verb::Stage => stages::see_stage(sight, words, world, report),
+        // on the disk no file holds something else than is listed
+        Verb::RunOnDisk if world.opened.is_some() => report.text.fail(Mistake::Place),
+        Verb::RunOnDisk => see_on_disk(rt, sight, verb, words, world, report),
+        Verb::Run | Verb::RunWithRoom(_) | Verb::List | Verb::Write => {
+            see_on_disk(rt, sight, verb, words, world, report);
+            let found = answer_in_memory(sight.texts.alloc, world, None, verb, words);
+            report.see(sight, "on a disk in memory", &found);
+            if matches!(verb, Verb::Run) {
+                see_planned(sight, verb, words, world, report);
+            }
+        }
+    }
+}
+
+/// Compares what is answered over the folders on the disk, where no file holds something else than
+/// is listed.
+fn see_on_disk(
+    rt: &HostRuntime,
+    sight: &Sight<'_>,
+    verb: Verb,
+    words: &[&str],
+    world: &World,
+    report: &mut Report,
+) {
+    if world.opened.is_none() {
+        let found = answer_to(sight.texts.alloc, rt, verb, words);
+        report.see(sight, "on the disk", &found);
+    }
+}
+
+/// Does in memory what words plan: over trees once, or with each call refused in turn. Words that
+/// are refused have no plan.
+fn see_planned(
+    sight: &Sight<'_>,
+    verb: Verb,
+    words: &[&str],
+    world: &mut World,
+    report: &mut Report,
+) {
+    match plan_of(sight.texts.alloc, words) {
+        Ok(plan) => see_plan(sight, verb, words, &plan, world, report),
+        Err(usage) => see_refused(verb, &usage, report),
+    }
+}
+
+/// Notes why words have no plan, unless they are run, which shows it.
+fn see_refused(verb: Verb, usage: &Usage, report: &mut Report) {
+    match (verb, usage) {
+        (_, Usage::Memory) => report.text.fail(Mistake::Memory),
+        (Verb::Run, _) => {}
+        _ => report.text.fail(Mistake::Command),
+    }
+}
+
+fn see_plan(
+    sight: &Sight<'_>,
+    verb: Verb,
+    words: &[&str],
+    plan: &Plan,
+    world: &mut World,
+    report: &mut Report,
+) {
+    let fault = match verb {
+        Verb::Run => return trees::see_in_trees(sight, plan, world, report),
+        Verb::RefuseDisk(fault) => Some(fault),
+        _ => None,
+    };
+    let [folder] = plan.directories.as_slice() else {
+        report.text.fail(Mistake::Command);
+        return;
+    };
+    let turns = Turns {
+        alloc: sight.texts.alloc,
+        fault,
+        words,
+        plan,
+        folder: folder.as_str(),
+        world,
+    };
+    turns::see_in_turn(sight, &turns, report);
+}

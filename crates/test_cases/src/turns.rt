@@ -1,0 +1,115 @@
+//! Calls that are refused in turn: each that a run makes of which none is refused.
+use crate::answers::put_listing;
+use crate::commands::Verb;
+use crate::shelf::answer_in_memory;
+use crate::trees::{are_trees, do_over_tree};
+use crate::world::World;
+use bag_cli::{Action, Plan};
+use bag_disk::DiskFault;
+use std::alloc::Global;
+use test_case_lines::{Answer, Bytes, Mistake, Part, Report, Sight, is_wanted, see_part};
+
+/// A command over one folder, of which each call is refused in turn: those of a disk by a fault, or
+/// else those of a tree.
+#[derive(Clone, Copy)]
+pub(crate) struct Turns<'a> {
+    pub(crate) alloc: Global,
+    pub(crate) fault: Option<DiskFault>,
+    pub(crate) words: &'a [&'a str],
+    pub(crate) plan: &'a Plan,
+    pub(crate) folder: &'a str,
+    pub(crate) world: &'a World,
+}
+
+impl Turns<'_> {
+    /// What is answered where no call is refused, and how many calls are made then.
+    fn unrefused(&self) -> (Answer, u64) {
+        match self.fault {
+            None => self.over_tree(u64::MAX),
+            Some(_) => (self.over_disk(None), self.world.calls.get()),
+        }
+    }
+
+    /// What is answered where the call of a number is refused, from 1.
+    fn refused(&self, call: u64) -> Answer {
+        match self.fault {
+            None => self.over_tree(call).0,
+            Some(fault) => self.over_disk(Some((call.saturating_sub(1), fault))),
+        }
+    }
+
+    fn over_disk(&self, refused: Option<(u64, DiskFault)>) -> Answer {
+        answer_in_memory(self.alloc, self.world, refused, Verb::Run, self.words)
+    }
+
+    /// What is answered over a tree of which the call of a number is refused; after it the files
+    /// that a making leaves, each with its size; and how many calls were made, where they were too
+    /// few for that.
+    fn over_tree(&self, call: u64) -> (Answer, u64) {
+        let mut answer = Answer::of(self.alloc, Bytes::new(self.alloc), 0);
+        let mut calls = 0;
+        match do_over_tree(
+            self.alloc,
+            self.plan,
+            self.world,
+            self.folder,
+            call,
+            &mut answer,
+        ) {
+            Ok(tree) => {
+                let left = tree.calls_left().unwrap_or(0);
+                calls = call.saturating_sub(left).saturating_sub(1);
+                if matches!(self.plan.action, Action::Make) {
+                    put_listing(&mut tree.into_inner(), true, &mut answer.written);
+                }
+            }
+            Err(mistake) => answer.written.fail(mistake),
+        }
+        (answer, calls)
+    }
+}
+
+/// Compares the answers that come with those that are wanted. The last is that of the run of which
+/// no call is refused. Those before it have to come, one after another, each for one call or more,
+/// where the calls of that run are refused, and no others.
+pub(crate) fn see_in_turn(sight: &Sight<'_>, turns: &Turns<'_>, report: &mut Report) {
+    if turns.fault.is_none() && !are_trees(turns.plan, turns.world) {
+        report.text.fail(Mistake::Command);
+        return;
+    }
+    let (unrefused, calls) = turns.unrefused();
+    let mut next = Part::of(sight.entry.below);
+    let mut last = None;
+    for call in 1..=calls {
+        let found = turns.refused(call);
+        if !is_wanted(sight, last, &found) {
+            match next.rest {
+                Some(rest) if is_wanted(sight, Some(next), &found) => {
+                    last = Some(next);
+                    next = Part::of(rest);
+                }
+                Some(_) => return see_part(sight, next, call, &found, report),
+                None => return see_past(sight, last, call, &found, report),
+            }
+        }
+    }
+    if next.rest.is_some() && is_wanted(sight, Some(next), &unrefused) {
+        report.text.fail(Mistake::Turns);
+    }
+    see_part(sight, next, 0, &unrefused, report);
+}
+
+/// Compares the answer that comes where the call of a number is refused with the last one that is
+/// wanted of such a call.
+fn see_past(
+    sight: &Sight<'_>,
+    last: Option<Part<'_>>,
+    call: u64,
+    found: &Answer,
+    report: &mut Report,
+) {
+    match last {
+        Some(last) => see_part(sight, last, call, found, report),
+        None => report.text.fail(Mistake::Turns),
+    }
+}
