@@ -51,6 +51,11 @@ MOST_LINKS = 2  # of a way to an answer, so that it takes three pages
 MOST_COLUMNS = 120
 WITH_NAMES = ("THEOREM.md", "PROVED.md", "CALLS.md", "NOT_PROVED.md", "WRONG_BODIES.md", "DEFINITIONS.md", "MAP.md")
 
+if {"-h", "--help"} & set(sys.argv[1:]):
+    print(__doc__.strip())
+    sys.exit()
+if not sys.argv[1:]:
+    sys.exit("usage: tests/docs.py ROOT [--write]")
 root = Path(sys.argv[1]).resolve()
 crates = root / "crates"
 compared, stale = {}, []

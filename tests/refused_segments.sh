@@ -1,9 +1,9 @@
 #!/usr/bin/env bash
 # Builds a program of a few lines, in a folder of its own, that calls `run` and `run_segments` over a real folder, and runs it again
 # and again, each time with another growth refused: the first, the second, and so on, until none is left to refuse. What is written
-# must be the report's first lines, as many as the outcome says, and the outcome one that the limits can have where one of them is
-# lost; where it can be another than without a refusal, at least one refusal must give another. With a limit more than the report needs
-# all of it is written, whichever growth was refused. It needs a C compiler.
+# must be the report's first lines, as many as the outcome says, and the outcome one that is possible with one limit lost. If a refusal can
+# change the outcome, at least one must. With a limit more than the report needs all of it is written, whichever growth was refused. It
+# needs a C compiler.
 #
 # usage: tests/refused_segments.sh [PROGRAM]
 #
