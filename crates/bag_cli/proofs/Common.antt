@@ -56,7 +56,8 @@ pub use Rattle.bag_cli.specs.Folders.{disks_of, tree_in, visits_of}
 pub use Rattle.bag_cli.specs.Halt.{status_of}
 pub use Rattle.bag_cli.specs.Honest.{HonestFoldersAreReported, IsReportedMade, IsReportedNotMade}
 pub use Rattle.bag_cli.specs.InTurn.{AreInTurn, HasVisited, Last, Whole}
-pub use Rattle.bag_cli.specs.Making.{IsMake, ReportsMaking}
+pub use Rattle.bag_make.specs.WholeMaking.{IsMake}
+pub use Rattle.bag_cli.specs.Making.{ReportsMaking}
 pub use Rattle.bag_cli.specs.Makings.{AreMakingsOf, IsLastMaking, IsMakingReported, IsWholeMaking, element_of}
 pub use Rattle.bag_cli.specs.Performed.{AreMade, IsChecked, IsDoneBy, IsPerformed, IsSaid}
 pub use Rattle.bag_cli.specs.Sample.{sample_state}

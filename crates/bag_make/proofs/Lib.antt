@@ -32,4 +32,5 @@ pub mod Summing
 pub mod SumsAreEqual
 pub mod Told
 pub mod TopsInOrder
+pub mod WholeMaking
 pub mod Writable

@@ -4,6 +4,8 @@ use Rattle.bag_make.proofs.Common.{rank_cmp, Alg, IsBag, files_of, TreeState, Ke
 use Rattle.bag_make.proofs.Common.{CanAsk, HasKnownSize, HasMade, HasNoFault, Leaves, MayRefuseMaking, is_in_the_way}
 use Rattle.bag_make.proofs.Common.{steps, AreTexts, HasLeft, HasTaken, MakeFault, Step, Create}
 use Rattle.std.specs.List.Sorted.{IsStrictlySortedBy}
+use Rattle.std.specs.Prelude.{◌≤◌}
+use Rattle.bag_tree.specs.Changes.{IsUnchanged}
 use Rattle.bag_make.specs.declared.fault.MakeFault.TheVariants as fault_of
 use Rattle.bag_make.proofs.StepsMake.{steps_make}
 
@@ -24,11 +26,19 @@ pub made_has_no_fault : MadeIsValid → (algs : List Alg) (info : List NewElemen
     → HasNoFault new.bag
 made_has_no_fault law algs info old new is_bag h honest can = grind arith
 
--- a refused step opened no file
-pub opens_nothing : (step : Step) (before new : TreeState) → HasLeft step before new → new.openings ≡ before.openings
-opens_nothing (Create name bytes) before new (inl left) = left.openings
-opens_nothing (Create name bytes) before new (inr left) = left.begun.openings
-opens_nothing _ before new left = left.openings
+-- what a refused step leaves of the rest
+abbrev IsAsBefore : TreeState → TreeState → Type 0
+IsAsBefore old new =
+    (new.honest ≡ old.honest) × (old.failures ≤ new.failures) × (new.noted ≡ old.noted) × (new.openings ≡ old.openings)
+
+of_unchanged : (old new : TreeState) → IsUnchanged old new → IsAsBefore old new
+of_unchanged old new same = (same.keeps.honest, same.keeps.failures, same.keeps.noted, same.openings)
+
+pub left_so : (step : Step) (before new : TreeState) → HasLeft step before new → IsAsBefore before new
+left_so (Create name bytes) before new (inl left) = of_unchanged before new left
+left_so (Create name bytes) before new (inr left) =
+    (left.begun.honest, left.begun.failures, left.begun.noted, left.begun.openings)
+left_so _ before new left = of_unchanged before new left
 
 -- where it was refused before a step
 pub leaves_bag : (algs : List Alg) (info : List NewElement) (old new : TreeState) (fault : MakeFault)

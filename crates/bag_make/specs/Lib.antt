@@ -14,3 +14,4 @@ pub mod StepsTaken
 pub mod Stops
 pub mod Summing
 pub mod Texts
+pub mod WholeMaking

@@ -1,12 +1,8 @@
 //! Making a bag in place.
-ghost use Rattle.std.specs.Prelude.{◌≡◌, ◌⊎◌, ◌≤◌, [], true, IsTrue};
-ghost use Rattle.std.specs.Prelude.{IfErr, OnOk};
+ghost use Rattle.std.specs.Prelude.{◌≡◌, ◌⊎◌, [], true};
 ghost use Rattle.std.specs.List.{list_any};
 ghost use Rattle.bag_make.specs.Request.{is_refused};
-ghost use Rattle.bag_make.specs.Make.{HasKnownSize, HasMade, HasNoFault, Leaves, MayRefuseMaking};
-ghost use Rattle.bag_make.specs.PowerCut.{LastsForGood, OutlastsCuts};
-ghost use Rattle.bag_make.specs.Reading.{OpensFolder};
-ghost use Rattle.bag_make.specs.Remainder.{LacksNoPayload};
+ghost use Rattle.bag_make.specs.WholeMaking.{IsMake};
 
 use crate::MakeFault;
 use crate::reading::read_and_plan;
@@ -46,25 +42,8 @@ pub fn make<T: WriteTree>(
     algs: AlgSet,
     info: &[(Text, Text)],
 ) -> (T, Result<(), MakeFault>)
-    ensures honest { (T.state result.0).honest ≡ (T.state tree).honest }
-    ensures failures { (T.state tree).failures ≤ (T.state result.0).failures }
     ensures untouched { (algs ≡ []) ⊎ (list_any is_refused info.now ≡ true) → result.0 ≡ tree }
-    ensures made { OnOk result.1 (HasMade algs info.now (T.state tree) (T.state result.0)) }
-    ensures valid { OnOk result.1
-        (IsTrue (T.state tree).honest → HasKnownSize (T.state tree).bag
-        → HasNoFault (T.state result.0).bag) }
-    ensures opens { OpensFolder (T.state tree) (T.state result.0) }
-    ensures refused { IfErr result.1
-        (MayRefuseMaking algs info.now (T.state tree) (T.state result.0)) }
-    ensures leaves { IfErr result.1 (λ fault.
-        IsTrue (T.state tree).honest
-        → Leaves algs info.now (T.state tree).bag (T.state result.0).bag fault) }
-    ensures payload { IfErr result.1 (λ fault.
-        IsTrue (T.state tree).honest
-        → LacksNoPayload (T.state tree).bag (T.state result.0).bag) }
-    ensures noted { (T.state result.0).noted ≡ (T.state tree).noted }
-    ensures any_moment { OutlastsCuts (T.state tree) (T.state result.0) }
-    ensures lasting { OnOk result.1 (LastsForGood algs info.now (T.state tree) (T.state result.0)) }
+    ensures makes { IsMake algs info.now (T.state tree) (T.state result.0) result.1 }
 {
     let mut tree = tree;
     let result = make_in(alloc, &mut tree, algs, info);
@@ -78,17 +57,8 @@ fn make_in<T: WriteTree>(
     algs: AlgSet,
     info: &[(Text, Text)],
 ) -> Result<(), MakeFault>
-    ensures honest { (T.state tree.new).honest ≡ (T.state tree.old).honest }
-    ensures failures { (T.state tree.old).failures ≤ (T.state tree.new).failures }
     ensures untouched { (algs ≡ []) ⊎ (list_any is_refused info.now ≡ true) → tree.new ≡ tree.old }
-    ensures made { OnOk result (HasMade algs info.now (T.state tree.old) (T.state tree.new)) }
-    ensures opens { OpensFolder (T.state tree.old) (T.state tree.new) }
-    ensures refused { IfErr result
-        (MayRefuseMaking algs info.now (T.state tree.old) (T.state tree.new)) }
-    ensures noted { (T.state tree.new).noted ≡ (T.state tree.old).noted }
-    ensures any_moment { OutlastsCuts (T.state tree.old) (T.state tree.new) }
-    ensures lasting { OnOk result
-        (LastsForGood algs info.now (T.state tree.old) (T.state tree.new)) }
+    ensures makes { IsMake algs info.now (T.state tree.old) (T.state tree.new) result }
 {
     check_request(algs, info)?;
     let steps = read_and_plan(alloc, tree, algs, info)?;

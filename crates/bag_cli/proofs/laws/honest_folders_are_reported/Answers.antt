@@ -13,7 +13,7 @@ told : (name : List ℕ) (algs : List Alg) (info : List NewElement) (quiet : Boo
     → IsReportedMade name algs info quiet old new before after n
     ⊎ IsReportedNotMade name algs info old new before after n
 told name algs info quiet old new before after n honest (Ok x) make tells =
-    let bag = make.made_bag.bag honest in
+    let bag = make.made.bag honest in
     inl (record {
       status = tells.0;
       made_bag = bag;
