@@ -1,6 +1,7 @@
 -- Which events leave the names of folders durable.
 use Rattle.std.proofs.Common.{◌≡◌, ◌++◌, ◌||◌, inl, inr, ◌⊎◌, ◌∙◌, ℕ, Bool, true, false, IsTrue, not, map, List, []}
 use Rattle.std.proofs.Common.{◌∷◌, bytes_eq, refl, sym, ap, append_assoc}
+use Rattle.std.specs.Prelude.{Err, Ok, OnErr, OnOk, Result}
 use Rattle.std.proofs.lemmas.Bool.{and_from, and_parts, false≢true, or_cases, or_left, or_right}
 use Rattle.bag_text.specs.Path.{under}
 use Rattle.bag_tree.proofs.Events.{not_base}
@@ -10,8 +11,9 @@ use Rattle.bag_tree.specs.Asked.{has_durable_folders, is_base_synced, is_named}
 use Rattle.bag_tree.specs.declared.event.DeviceEvent.{DeviceEvent}
 use Rattle.bag_disk.specs.Disk.{DiskState}
 use Rattle.bag_disk.specs.DiskNodes.{OnlyLooks}
-use Rattle.bag_store.specs.Asking.{HasDurableFolders}
-use Rattle.bag_store.specs.Writing.{Begins}
+use Rattle.bag_disk.specs.declared.refusal.Refusal.{Refusal}
+use Rattle.bag_store.specs.Asking.{AsksOfDisk, HasDurableFolders}
+use Rattle.bag_store.specs.Writing.{Begins, Makes}
 use Rattle.bag_tree.specs.declared.event.DeviceEvent.TheVariants.{MakeFolder, Rename, Create, Remove, Write, Sync}
 use Rattle.bag_tree.specs.declared.event.DeviceEvent.TheVariants.{SyncFolder, SyncRefused}
 
@@ -133,3 +135,12 @@ pub left_noted : (old new : DiskState) (name bytes : List ℕ) → OnlyLooks old
     → new.noted ≡ old.noted
 left_noted old new name bytes (inl looks) = looks.noted
 left_noted old new name bytes (inr begins) = begins.first.closed.noted
+
+-- a file was made, or some of that
+pub created_durable : (old new : DiskState) (name bytes : List ℕ) (done : Result (Unit {0}) Refusal)
+    → OnOk done (Makes old new name bytes) → OnErr done (OnlyLooks old new ⊎ Begins old new name bytes)
+    → AsksOfDisk (AsksFile name bytes) (MayBegin name) old new done → HasDurableFolders old → HasDurableFolders new
+created_durable old new name bytes (Ok done) made begun asked durable =
+    file_durable old new made.closed.noted name bytes durable asked
+created_durable old new name bytes (Err refusal) made begun asked durable =
+    part_durable old new (left_noted old new name bytes begun) name durable asked

@@ -1,6 +1,7 @@
 -- What is first asked of what something else asks.
 use Rattle.std.proofs.Common.{◌≡◌, ◌++◌, ◌∷◌, ◌∙◌, inl, inr, ℕ, IsTrue, List, [], Ok, Err, OnErr, map, refl, sym}
 use Rattle.std.proofs.Common.{ap, subst, append-nil, append_assoc}
+use Rattle.std.specs.Prelude.{Result}
 use Rattle.bag_tree.proofs.Runs.{first_change_nothing, front_of_two, syncs_alone}
 use Rattle.bag_tree.specs.Asked.{Adds, Asking, AsksFile, ChangeNothing, MayBegin}
 use Rattle.bag_tree.specs.FileChanges.{AsksFirstOf, AsksPut, AsksRemove}
@@ -9,6 +10,7 @@ use Rattle.bag_tree.specs.declared.event.DeviceEvent.TheVariants as event
 use Rattle.bag_disk.specs.Disk.{DiskState}
 use Rattle.bag_disk.specs.DiskNodes.{OnlyLooks}
 use Rattle.bag_disk.specs.WritableDisk.{Notes}
+use Rattle.bag_disk.specs.declared.refusal.Refusal.{Refusal}
 use Rattle.bag_store.specs.Asking.{AsksOfDisk}
 use Rattle.bag_store.proofs.AskedOf.{Answer, NotesIt}
 
@@ -117,6 +119,12 @@ pub begun_adds : (name bytes : List ℕ) (old new : DiskState)
     → Adds (AsksFirstOf (AsksFile name bytes)) old.trail new.trail → Adds (MayBegin name) old.trail new.trail
 begun_adds name bytes old new adds =
     record { now = adds.now; trail = adds.trail; is = may_begin name bytes old.trail adds.now adds.is }
+
+pub begun_asked : (name bytes : List ℕ) (old new : DiskState) (done : Result (Unit {0}) Refusal)
+    → AsksOfDisk (AsksFile name bytes) (AsksFirstOf (AsksFile name bytes)) old new done
+    → AsksOfDisk (AsksFile name bytes) (MayBegin name) old new done
+begun_asked name bytes old new (Ok done) asked noted = asked noted
+begun_asked name bytes old new (Err refusal) asked noted = begun_adds name bytes old new (asked noted)
 
 -- a file that is made is put by two events more
 put_of_file : (beside name bytes : List ℕ) (b c all : List DeviceEvent) → AsksFile beside bytes b all

@@ -1,5 +1,6 @@
 -- How a refusal is answered, and counted where the disk doesn't count it.
-use Rattle.std.specs.Prelude.{ℕ, ◌+◌, length}
+use Rattle.std.specs.Prelude.{ℕ, ◌+◌, Result, length}
+use Rattle.std.specs.declared.result.Result.TheVariants.{Ok, Err}
 use Rattle.bag_tree.specs.declared.tree_fault.TreeFault.{TreeFault}
 use Rattle.bag_tree.specs.declared.tree_fault.TreeFault.TheVariants as fault
 use Rattle.bag_disk.specs.Failures.{failures_counted}
@@ -40,3 +41,13 @@ count_after Memory count = count
 count_after Exists count = count
 count_after Contradicts count = count + 1
 count_after InTheWay count = count + 1
+
+-- what answers a call that gives nothing
+abbrev pub answer_to : Result (Unit {0}) Refusal → Result (Unit {0}) TreeFault
+answer_to (Ok done) = Ok done
+answer_to (Err refusal) = Err (fault_answering refusal)
+
+-- how many failures there are after it that the disk doesn't count
+abbrev pub own_after : Result (Unit {0}) Refusal → ℕ → ℕ
+own_after (Ok done) count = count
+own_after (Err refusal) count = count_after refusal count

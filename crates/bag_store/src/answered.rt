@@ -1,8 +1,9 @@
 //! What a tree has answered.
-ghost use Rattle.std.specs.Prelude.{◌≡◌, ◌+◌, length};
+ghost use Rattle.std.specs.Prelude.{◌≡◌, ◌+◌, MatchResult, length};
 ghost use Rattle.bag_tree.specs.FileReads.{answer_of_read};
 ghost use Rattle.bag_tree.specs.declared.answer.Answer.TheVariants.{Given, Refused, Unlisted};
-ghost use Rattle.bag_store.specs.Answered.{bytes_given, count_after, fault_answering, own_failures};
+ghost use Rattle.bag_store.specs.Answered.{answer_to, bytes_given, count_after, fault_answering};
+ghost use Rattle.bag_store.specs.Answered.{own_after, own_failures};
 
 use bag_disk::{Failures, Refusal};
 use bag_tree::{Answer, Heard, TreeFault};
@@ -70,6 +71,23 @@ impl Answered {
     {
         let fault = self.fault_of(refusal);
         self.note(fault)
+    }
+
+    /// Notes how a call went that gives nothing, and gives what answers it, as `refuse` does.
+    pub(crate) fn to(&mut self, done: Result<(), Refusal>) -> Result<(), TreeFault>
+        ensures answer { result ≡ answer_to done }
+        ensures failures { own_failures self.new ≡ own_after done (own_failures self.old) }
+        ensures given { bytes_given self.new ≡ bytes_given self.old }
+        ensures last { MatchResult result
+            (λ _. self.new.last ≡ Given) (λ fault. self.new.last ≡ Refused fault) }
+    {
+        match done {
+            Ok(()) => {
+                self.give();
+                Ok(())
+            }
+            Err(refusal) => Err(self.refuse(refusal)),
+        }
     }
 
     /// Notes that a listing was refused, and gives the fault that answers it, as `refuse` does.

@@ -136,13 +136,8 @@ impl<D: WritableDisk + Drop> WriteTree for FileTree<D> {
             ReportsDisk ⊥ (D.state (disk_of self.old)) (D.state (disk_of self.new))) }
     {
         self.is_synced = false;
-        match changing::make_folder(&mut self.disk, name) {
-            Ok(()) => {
-                self.answered.give();
-                Ok(())
-            }
-            Err(refusal) => Err(self.answered.refuse(refusal)),
-        }
+        let done = changing::make_folder(&mut self.disk, name);
+        self.answered.to(done)
     }
 
     fn move_in(&mut self, top: &str, folder: &str) -> Result<(), TreeFault>
@@ -174,13 +169,8 @@ impl<D: WritableDisk + Drop> WriteTree for FileTree<D> {
             ReportsDisk ⊥ (D.state (disk_of self.old)) (D.state (disk_of self.new))) }
     {
         self.is_synced = false;
-        match changing::rename_folder(&mut self.disk, from, to) {
-            Ok(()) => {
-                self.answered.give();
-                Ok(())
-            }
-            Err(refusal) => Err(self.answered.refuse(refusal)),
-        }
+        let done = changing::rename_folder(&mut self.disk, from, to);
+        self.answered.to(done)
     }
 
     /// Makes a file in the base folder. It was synced when this answers Ok, and so was the base
@@ -192,13 +182,8 @@ impl<D: WritableDisk + Drop> WriteTree for FileTree<D> {
         ensures cause { IfErr result (
             ReportsDisk ⊥ (D.state (disk_of self.old)) (D.state (disk_of self.new))) }
     {
-        match writing::create(&mut self.disk, name, bytes) {
-            Ok(()) => {
-                self.answered.give();
-                Ok(())
-            }
-            Err(refusal) => Err(self.answered.refuse(refusal)),
-        }
+        let done = writing::create(&mut self.disk, name, bytes);
+        self.answered.to(done)
     }
 }
 
@@ -218,13 +203,8 @@ impl<D: ReplaceDisk + Drop> ReplaceTree for FileTree<D> {
             ReportsDisk ⊥ (D.state (disk_of self.old)) (D.state (disk_of self.new))) }
     {
         self.is_synced = false;
-        match replacing::replace(&mut self.disk, beside, name, bytes) {
-            Ok(()) => {
-                self.answered.give();
-                Ok(())
-            }
-            Err(refusal) => Err(self.answered.refuse(refusal)),
-        }
+        let done = replacing::replace(&mut self.disk, beside, name, bytes);
+        self.answered.to(done)
     }
 
     fn remove(&mut self, name: &str) -> Result<(), TreeFault>
@@ -235,13 +215,8 @@ impl<D: ReplaceDisk + Drop> ReplaceTree for FileTree<D> {
             ReportsDisk ⊥ (D.state (disk_of self.old)) (D.state (disk_of self.new))) }
     {
         self.is_synced = false;
-        match replacing::remove(&mut self.disk, name) {
-            Ok(()) => {
-                self.answered.give();
-                Ok(())
-            }
-            Err(refusal) => Err(self.answered.refuse(refusal)),
-        }
+        let done = replacing::remove(&mut self.disk, name);
+        self.answered.to(done)
     }
 }
 

@@ -1,47 +1,29 @@
-use Rattle.bag_store.proofs.Common.{arith, due_in_move}
+use Rattle.bag_store.proofs.Common.{on_err_weaker}
+use Rattle.bag_store.proofs.AnsweredCalls.{answered, on_ok_both, told}
 use Rattle.bag_store.proofs.BagSteps.{has_it, not_taken}
-use Rattle.bag_store.proofs.ChangedTree.{count_grows, renamed_changed, step_same}
-use Rattle.bag_store.proofs.RefusedCalls.{move_answered_so, tells_move}
+use Rattle.bag_store.proofs.ChangedTree.{renamed_changed, step_same}
 use Rattle.bag_store.proofs.file_tree.FileTreeWriteTree.rename_folder.Goals as goal
 
-pub returns-in-Ok-clause-renames : goal.returns-in-Ok-clause-renames
-returns-in-Ok-clause-renames g c = record {
-  changed =
-      renamed_changed _ _ _ _ _ _ _ _ c.args.from.now c.args.to.now (g.met.D.Disk.is_disk c.args.self.now.disk)
-      (g.met.D.Disk.is_disk c.rename_folder.new.disk) c.requires.from c.requires.to
-      c.in-Ok.ensures.failures c.give.ensures.failures c.in-Ok.ensures.closed c.in-Ok.ensures.renamed;
-  no_failure = grind arith;
-  possible = λ honest.
-      let renames = c.in-Ok.ensures.renamed honest in (
-        has_it _ c.args.from.now c.requires.from renames.folder_is,
-        not_taken _ c.args.to.now c.requires.to renames.free,
-      );
-  last = grind arith;
-  leaves = tt;
-  refused = tt;
-  asked = c.in-Ok.ensures.asked;
-}
+pub returns-clause-renames : goal.returns-clause-renames
+returns-clause-renames g c =
+    let done = c.rename_folder-done.result in
+    let did = c.rename_folder-done.ensures in
+    let from = c.args.from.now in
+    let to = c.args.to.now in
+    answered (g.D.Disk.state c.args.self.now.disk) (g.D.Disk.state c.rename_folder-done.new.disk) _ _ _ _ _ _ _ _ _ _ _ _ _ _
+    done c.to.result c.to.ensures.answer c.to.ensures.failures c.to.ensures.last did.failures
+    (on_ok_both done did.renamed did.closed (λ renamed closed kept same. (
+      renamed_changed _ _ _ _ _ _ _ _ from to (g.met.D.Disk.is_disk c.args.self.now.disk)
+      (g.met.D.Disk.is_disk c.rename_folder-done.new.disk) c.requires.from c.requires.to kept same closed renamed,
+      λ honest. (
+        has_it _ from c.requires.from (renamed honest).folder_is,
+        not_taken _ to c.requires.to (renamed honest).free,
+      ),
+    )))
+    (on_err_weaker done (λ syncs grows. step_same _ _ _ _ _ _ _ _ syncs grows c.to.ensures.given) did.same)
+    (λ none. none) did.refused did.asked
 
-pub returns-in-Err-clause-renames : goal.returns-in-Err-clause-renames
-returns-in-Err-clause-renames g c = record {
-  changed = tt;
-  no_failure = tt;
-  possible = tt;
-  last = grind arith;
-  leaves =
-      step_same _ _ _ _ _ _ _ _ c.in-Err.ensures.same
-      (count_grows c.in-Err.refusal _ _ _ _ c.in-Err.ensures.failures c.refuse.ensures.failures)
-      c.refuse.ensures.given;
-  refused =
-      move_answered_so (g.D.Disk.state c.args.self.now.disk) (g.D.Disk.state c.rename_folder.new.disk) _ _
-      c.in-Err.refusal _ _ _ _ ⊥
-      c.in-Err.ensures.failures c.refuse.ensures.failures c.refuse.ensures.fault (λ none. none)
-      (due_in_move _ _ _ _ c.in-Err.refusal c.in-Err.ensures.refused);
-  asked = c.in-Err.ensures.asked;
-}
-
-pub returns-in-Err-clause-cause : goal.returns-in-Err-clause-cause
-returns-in-Err-clause-cause g c =
-    tells_move (g.D.Disk.state c.args.self.now.disk) (g.D.Disk.state c.rename_folder.new.disk)
-    c.in-Err.refusal _ _ _ ⊥
-    c.refuse.ensures.fault c.in-Err.ensures.failures (due_in_move _ _ _ _ c.in-Err.refusal c.in-Err.ensures.refused)
+pub returns-clause-cause : goal.returns-clause-cause
+returns-clause-cause g c =
+    told (g.D.Disk.state c.args.self.now.disk) (g.D.Disk.state c.rename_folder-done.new.disk) _ _ c.rename_folder-done.result c.to.result c.to.ensures.answer c.rename_folder-done.ensures.failures
+    c.rename_folder-done.ensures.refused
