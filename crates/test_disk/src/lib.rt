@@ -17,6 +17,7 @@
 mod changing;
 mod durable;
 mod held;
+mod memory_changes;
 mod memory_disk;
 mod placing;
 mod power_cut;

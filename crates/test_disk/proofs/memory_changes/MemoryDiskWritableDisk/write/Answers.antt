@@ -1,7 +1,7 @@
 use Rattle.test_disk.specs.Held.{nodes_of}
 use Rattle.test_disk.proofs.Placed.{bytes_below}
 use Rattle.test_disk.proofs.PutPlaced.{appended_passes}
-use Rattle.test_disk.proofs.memory_disk.MemoryDiskWritableDisk.write.Goals as goal
+use Rattle.test_disk.proofs.memory_changes.MemoryDiskWritableDisk.write.Goals as goal
 
 pub invariant_of-self-2 : goal.invariant_of-self-2
 invariant_of-self-2 c = record {

@@ -5,7 +5,7 @@ use Rattle.bag_tree.specs.Moved.{moved}
 use Rattle.test_disk.specs.Held.{nodes_of}
 use Rattle.test_disk.proofs.HeldMoved.{others_stay}
 use Rattle.test_disk.proofs.Placed.{disk_passes}
-use Rattle.test_disk.proofs.memory_disk.MemoryDiskWritableDisk.rename.Goals as goal
+use Rattle.test_disk.proofs.memory_changes.MemoryDiskWritableDisk.rename.Goals as goal
 
 pub invariant_of-self-2 : goal.invariant_of-self-2
 invariant_of-self-2 c = record { passes = disk_passes (nodes_of c.in-Ok.moved.entries) c.in-Ok.ensures.disk }

@@ -2,7 +2,7 @@ use Rattle.std.proofs.Common.{refl}
 use Rattle.bag_disk.specs.Disk.Node.{Folder}
 use Rattle.test_disk.specs.Held.{nodes_of}
 use Rattle.test_disk.proofs.PutPlaced.{added_passes}
-use Rattle.test_disk.proofs.memory_disk.MemoryDiskWritableDisk.make_folder.Goals as goal
+use Rattle.test_disk.proofs.memory_changes.MemoryDiskWritableDisk.make_folder.Goals as goal
 
 pub invariant_of-self-2 : goal.invariant_of-self-2
 invariant_of-self-2 c =

@@ -3,7 +3,7 @@ use Rattle.std.specs.FinMap as map
 use Rattle.bag_disk.specs.Disk.Node.{File}
 use Rattle.test_disk.specs.Held.{nodes_of}
 use Rattle.test_disk.proofs.PutPlaced.{added_passes}
-use Rattle.test_disk.proofs.memory_disk.MemoryDiskWritableDisk.create.Goals as goal
+use Rattle.test_disk.proofs.memory_changes.MemoryDiskWritableDisk.create.Goals as goal
 
 pub invariant_of-self-2 : goal.invariant_of-self-2
 invariant_of-self-2 c =

@@ -3,7 +3,7 @@ use Rattle.bag_disk.specs.DiskNodes.{IsFileWith}
 use Rattle.bag_disk.specs.ReplaceDisk.{Replaces}
 use Rattle.test_disk.specs.Held.{nodes_of}
 use Rattle.test_disk.proofs.Placed.{disk_passes}
-use Rattle.test_disk.proofs.memory_disk.MemoryDiskReplaceDisk.replace.Goals as goal
+use Rattle.test_disk.proofs.memory_changes.MemoryDiskReplaceDisk.replace.Goals as goal
 
 pub invariant_of-self-2 : goal.invariant_of-self-2
 invariant_of-self-2 c = record { passes = disk_passes (nodes_of c.in-Ok.put.entries) c.in-Ok.ensures.disk }
