@@ -2,7 +2,7 @@
 use Rattle.bag_make.proofs.Common.{arith, ◌≡◌, ℕ, true, List, [], ◌∷◌, map, Contains, refl, ap, sym, ◌∙◌, is_some}
 use Rattle.bag_make.proofs.Common.{nat_list_cmp_total, is_sorted, entries_sorted, contains_key-keys, get-from_entries}
 use Rattle.bag_make.proofs.Common.{below_all, is_some-find, AllByRecursion, list_any, eq_by_cmp, Less, Equal, Greater}
-use Rattle.bag_make.proofs.Common.{and_parts, text_cmp, any_from, from_any, one_text, text_itself, in_order}
+use Rattle.bag_make.proofs.Common.{and_parts, text_cmp, any_from, from_any, one_list, one_text, text_itself, in_order}
 use Rattle.std.proofs.Common.{is_lt}
 use Rattle.std.specs.FinMap as fin
 use Rattle.std.specs.List.Sorted.{IsStrictlySortedBy}
@@ -72,3 +72,8 @@ listed_in_order texts = record {
             moves_over texts (in_order texts) t has (sym (same_any texts t)),
       );
 }
+
+pub only_in_order : (texts sorted : List (List ℕ)) → IsListOf text_cmp (Contains texts) sorted
+    → in_order texts ≡ sorted
+only_in_order texts sorted is =
+    one_list text_cmp nat_list_cmp_total (Contains texts) (in_order texts) sorted (listed_in_order texts) is

@@ -1,5 +1,5 @@
 -- What making a bag promises follows from what reading the folder and taking the steps promise.
-use Rattle.bag_make.proofs.Common.{arith, ◌≡◌, ◌⊎◌, ◌++◌, ◌∙◌, inl, inr, true, IsTrue, All, List, [], map, sym, refl}
+use Rattle.bag_make.proofs.Common.{arith, ◌≡◌, ◌⊎◌, ◌++◌, ◌∙◌, inl, inr, false, true, IsTrue, All, List, [], map, sym, refl}
 use Rattle.bag_make.proofs.Common.{false≢true, rank_cmp, keeps_itself, list_any, Alg, NewElement, File, MakeFault}
 use Rattle.bag_make.proofs.Common.{IsBag, files_of, Keeps, TreeState, Step, AreTexts, CanAsk, HasTaken}
 use Rattle.bag_make.proofs.Common.{MayRefuseMaking, OutlastsCuts, declaration_again, info_again, manifest_again}
@@ -59,7 +59,7 @@ module _ (algs : List Alg) (info : List NewElement) (old : TreeState) (is_bag : 
 
   for_reading : (mid : TreeState) (fault : MakeFault) → CanAsk algs info → Keeps old mid
       → MayRefuseReading old mid fault → MayRefuseMaking algs info old mid fault
-  for_reading mid fault_of.InTheWay asked keeps why = (asked, why)
+  for_reading mid fault_of.InTheWay asked keeps why = (asked, why.0, why.1)
   for_reading mid (fault_of.ReadStopped stop) asked keeps why = (asked, keeps, why)
   for_reading mid fault_of.Memory asked keeps why = (asked, keeps, why)
   for_reading mid _ asked keeps why = absurd why

@@ -2,10 +2,10 @@
 ghost use Rattle.std.specs.Prelude.{◌≡◌, IfOk, map};
 ghost use Rattle.bag_text.specs.Path as spec;
 ghost use Rattle.bag_tags.specs.Distinct.{lent_texts};
-ghost use Rattle.bag_make.specs.Plan as plan;
 ghost use Rattle.bag_make.specs.ListedTops as from_listing;
 
 use crate::step::DATA_FOLDER;
+use bag_stages::in_order;
 use bag_tree::{FileEntry, Listing};
 use std::alloc::{AllocError, Global};
 
@@ -39,14 +39,4 @@ fn first_component(path: &str) -> &str
         return path;
     };
     first
-}
-
-/// The names in the order of their bytes, each once.
-fn in_order(mut names: Vec<&str>) -> Result<Vec<&str>, AllocError>
-    ensures { IfOk result (λ sorted.
-        lent_texts sorted.items ≡ plan.in_order (lent_texts names.entry.items)) }
-{
-    names.sort()?;
-    names.dedup();
-    Ok(names)
 }

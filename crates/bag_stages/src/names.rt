@@ -32,7 +32,7 @@ pub(crate) fn payload_names(alloc: Global, facts: &Facts) -> Result<Vec<&str>, A
 }
 
 /// The names in the order of their bytes, each once.
-pub(crate) fn in_order(mut names: Vec<&str>) -> Result<Vec<&str>, AllocError>
+pub fn in_order(mut names: Vec<&str>) -> Result<Vec<&str>, AllocError>
     ensures { IfOk result (λ sorted.
         IsListOf text_cmp (Contains (texts_of names.entry.items)) (texts_of sorted.items)) }
 {
