@@ -11,14 +11,6 @@ on_ok_mapped (Ok u) (Err e) P Q same f done = tt
 on_ok_mapped (Err e) (Ok u) P Q same f done = absurd (false≢true (sym same))
 on_ok_mapped (Err e) (Err r) P Q same f done = tt
 
--- and where it refused
-pub either_mapped : {E F : Type 0} (call : Result (Unit {0}) E) (r : Result (Unit {0}) F) (P Q P' Q' : Type 0)
-    → is_ok r ≡ is_ok call → (P → P') → (Q → Q') → OnOk call P → OnErr call Q → MatchResult r (λ _. P') (λ _. Q')
-either_mapped (Ok u) (Ok v) P Q P' Q' same f g done refused = f done
-either_mapped (Ok u) (Err e) P Q P' Q' same f g done refused = absurd (false≢true same)
-either_mapped (Err e) (Ok u) P Q P' Q' same f g done refused = absurd (false≢true (sym same))
-either_mapped (Err e) (Err r) P Q P' Q' same f g done refused = g refused
-
 -- a refusal is what the fault means
 pub if_err_mapped : {E F : Type 0} (call : Result (Unit {0}) E) (r : Result (Unit {0}) F) (meaning : E → F)
     (P : F → Type 0) → MatchResult call (λ u. r ≡ Ok u) (λ e. IsErrAnd r (λ f. f ≡ meaning e))

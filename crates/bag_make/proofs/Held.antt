@@ -1,12 +1,12 @@
 -- Which files a made bag holds, and with which bytes.
-use Rattle.bag_make.proofs.Common.{◌≡◌, ◌⊎◌, inl, inr, ℕ, true, List, [], ◌∷◌, ◌++◌, map, Option, Some, None, is_some}
+use Rattle.bag_make.proofs.Common.{◌≡◌, ◌⊎◌, inl, inr, ℕ, List, ◌∷◌, ◌++◌, Option, Some, None}
 use Rattle.bag_make.proofs.Common.{refl, sym, ap, ◌∙◌, subst, Contains, arith, get_or, nat_list_cmp_total, find}
-use Rattle.bag_make.proofs.Common.{is_sorted, is_some-find, entries_sorted, get-entries, get-from_entries, below_all}
-use Rattle.bag_make.proofs.Common.{eq_by_cmp, and_parts, All, All-append, All-contains, All-cons, name, under, text_cmp}
-use Rattle.bag_make.proofs.Common.{Alg, any_from, contains_cases, contains_first, contains_behind, contains_nothing}
+use Rattle.bag_make.proofs.Common.{get-from_entries}
+use Rattle.bag_make.proofs.Common.{All, All-append, All-contains, All-cons, name, under, text_cmp}
+use Rattle.bag_make.proofs.Common.{Alg, contains_first, contains_behind}
 use Rattle.bag_make.proofs.Common.{contains_either, contains_front, contains_back, manifest_name, tag_path, Kind}
-use Rattle.bag_make.proofs.Common.{Payload, Tag, TagName, Declaration, Info, Fetch, Manifest, paths_differ, Bag, Files}
-use Rattle.bag_make.proofs.Common.{file, HasFile, files_of, contains_mapped, mapped_contains, one_text, text_itself}
+use Rattle.bag_make.proofs.Common.{Payload, Tag, TagName, Declaration, Info, Fetch, Manifest, paths_differ, Bag}
+use Rattle.bag_make.proofs.Common.{file, HasFile, files_of, contains_mapped, mapped_contains}
 use Rattle.bag_make.proofs.Common.{NewElement, IsNew, IsNewText, File, data_folder, new_payload, manifest}
 use Rattle.bag_make.proofs.Common.{named_tag_files, declaration_file, info_file, payload_manifests, tag_manifests}
 use Rattle.bag_make.proofs.Common.{new_tag_files}

@@ -1,7 +1,7 @@
 -- Reading the files of a folder.
-use Rattle.bag_make.proofs.Common.{arith, ◌≡◌, inl, inr, ℕ, ◌++◌, List, [], ◌∷◌, true, false, IsTrue, length, map, take}
-use Rattle.bag_make.proofs.Common.{slice_get, All, Contains, Some, refl, sym, ap, ◌∙◌, subst, option_map, All-contains}
-use Rattle.bag_make.proofs.Common.{All-from_recursion, is_path, Alg, contains_first, contains_behind, each_from_members}
+use Rattle.bag_make.proofs.Common.{arith, ◌≡◌, inl, inr, ℕ, ◌++◌, List, [], true, false, IsTrue, length, map, take}
+use Rattle.bag_make.proofs.Common.{slice_get, All, Some, sym, ap, ◌∙◌, subst, option_map, All-contains}
+use Rattle.bag_make.proofs.Common.{All-from_recursion, is_path, Alg, each_from_members}
 use Rattle.bag_make.proofs.Common.{Bag, file, files_of, IsListingOf, IsOrdered, NothingFailed, TreeState, IsEntryOf}
 use Rattle.bag_make.proofs.Common.{Keeps, MayRefuseListing, refusal_of, Unlisted, FileEntry, Listing, Stop, TreeFault}
 use Rattle.bag_make.proofs.Common.{listings_are_of_the_bag, paths_of, contains_mapped, later_refusal, listing_refusal}

@@ -14,12 +14,6 @@ use Rattle.bag_tree.specs.Tree.{IsRefusedAt}
 use Rattle.bag_tree.specs.declared.tree_fault.TreeFault.TheVariants.{Changed}
 use Rattle.bag_tree.proofs.Calm.{memory_then, nothing_asked, nothing_then}
 
--- out of memory stops it
-pub stop_of_memory : (files : List FileEntry) (old new : TreeState) (stop : Stop) → IsOutOfMemory stop
-    → NothingFailed old new → StopsSumming files old new stop
-stop_of_memory files old new stop m no_failure =
-    record { cause = λ are. rw m.0 tt; answered = rw m.0 tt; path = inl m; out_of_memory = λ _. inr no_failure }
-
 one_is : (P : FileEntry → Type 0) (entry : FileEntry) → All P (entry ∷ []) → P entry
 one_is P entry all = All-contains P (entry ∷ []) entry all (contains_first entry [])
 

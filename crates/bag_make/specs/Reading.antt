@@ -4,7 +4,6 @@ use Rattle.bag_tree.specs.Bag.{files_of}
 use Rattle.bag_tree.specs.Tree.{TreeState, Keeps, refusal_of}
 use Rattle.bag_tree.specs.declared.answer.Answer.TheVariants.{Given}
 use Rattle.bag_tree.specs.declared.tree_fault.TreeFault.TheVariants as cause_of
-use Rattle.bag_make.specs.declared.fault.MakeFault.TheVariants.{Memory}
 
 -- of an honest tree the first files of the bag were opened, in path order and each once, and no
 -- other

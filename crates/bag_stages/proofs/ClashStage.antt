@@ -35,9 +35,6 @@ module _ (IsName : List ℕ → Type 0) where
   same_fault x y (name, (least, is, clash)) (other, (lower, made, too)) at =
       grind (arith, one_least IsName other least lower)
 
-  of_one_stage : (f : Fault) {name least : List ℕ} → f ≡ name_clash name least → stage f.code ≡ 6
-  of_one_stage f is = ap (λ (g : Fault). stage g.code) is
-
   path_by : (o : Ordering) (x y : Fault) → text_cmp x.path y.path ≡ o → IsClashAmong IsName x → IsClashAmong IsName y
       → fault_cmp x y ≡ Less → o ≡ Less
   path_by Less x y is h k less = refl

@@ -188,10 +188,6 @@ pub folder_is_no_file : (nodes : Nodes) (name : List ℕ) → IsStanding nodes n
     → LacksFile (bag_of nodes) name
 folder_is_no_file nodes name there = grind (arith, file_of_disk)
 
--- nothing stands where something is to be made
-pub nothing_is_no_file : (nodes : Nodes) (name : List ℕ) → node nodes name ≡ None → LacksFile (bag_of nodes) name
-nothing_is_no_file nodes name none = grind (arith, file_of_disk)
-
 -- a file that stands there isn't lacking
 pub has_file_there : (nodes : Nodes) (name : List ℕ) → HasFileNode nodes name → LacksFile (bag_of nodes) name → ⊥
 has_file_there nodes name has none = grind (arith, file_of_disk, false≢true)

@@ -1,14 +1,14 @@
 -- What putting a file in place of another, and removing one, makes of what stands on a disk.
-use Rattle.bag_store.proofs.Common.{◌≡◌, ℕ, true, false, IsTrue, List, None, length, take, take-length}
-use Rattle.bag_store.proofs.Common.{inl, inr, ◌⊎◌, ap, sym, ◌∙◌, arith, get-insert, get-remove, same_map}
+use Rattle.bag_store.proofs.Common.{◌≡◌, ℕ, true, false, IsTrue, List, None, length, take-length}
+use Rattle.bag_store.proofs.Common.{inr, ap, sym, ◌∙◌, arith, get-insert, get-remove, same_map}
 use Rattle.bag_store.proofs.Common.{nat_list_cmp_total, exact_texts, one_text, text_itself, is_base_name, DiskState}
 use Rattle.bag_store.proofs.Common.{Nodes, Node, node, is_folder_node, File, OnlyLooks, ClosesOpenFile}
-use Rattle.bag_store.proofs.Common.{HasFileNode, with_file_node, Begins, Makes}
+use Rattle.bag_store.proofs.Common.{with_file_node, Begins, Makes}
 use Rattle.std.specs.FinMap as map
 use Rattle.std.proofs.Common.{◌≢◌, Ok, Err, OnErr, OnOk, subst}
 use Rattle.bag_disk.specs.DiskNodes.{IsFileWith, OnlySyncs}
-use Rattle.bag_disk.specs.ReplaceDisk.{PutsInPlace, RemovesFile, without_node}
-use Rattle.bag_store.specs.Writing.{LeavesPut, MakesFileOf, Puts, RemovesIt}
+use Rattle.bag_disk.specs.ReplaceDisk.{PutsInPlace, without_node}
+use Rattle.bag_store.specs.Writing.{LeavesPut, MakesFileOf, Puts}
 use Rattle.bag_store.proofs.AskedOf.{Answer}
 use Rattle.bag_store.proofs.BagSteps.{node_put}
 use Rattle.bag_store.proofs.BaseNames.{base_reached}
@@ -107,46 +107,3 @@ pub puts_left : (r : Answer) (old seen made put new : DiskState) (beside name by
 puts_left (Ok u) old seen made put new beside name bytes looks makes two beside_is name_is closes replaces syncs = tt
 puts_left (Err f) old seen made put new beside name bytes looks makes two beside_is name_is closes replaces syncs =
     inr (inr (puts old seen made put beside name bytes looks makes new two beside_is name_is closes replaces syncs))
-
--- the making of the file was refused
-pub begun_before : (old seen new : DiskState) (beside name bytes : List ℕ) → OnlyLooks old seen
-    → OnlyLooks seen new ⊎ Begins seen new beside bytes → LeavesPut old new beside name bytes
-begun_before old seen new beside name bytes looks (inl two) = inl (record {
-  nodes = two.nodes ∙ looks.nodes;
-  honest = two.honest ∙ looks.honest;
-  openings = two.openings ∙ looks.openings;
-  rest = two.rest ∙ looks.rest;
-  noted = two.noted ∙ looks.noted;
-  trail = two.trail ∙ looks.trail;
-})
-begun_before old seen new beside name bytes looks (inr begins) = inr (inl (record {
-  count = begins.count;
-  first = record {
-    closed = record {
-      honest = begins.first.closed.honest ∙ looks.honest;
-      openings = begins.first.closed.openings ∙ looks.openings;
-      rest = begins.first.closed.rest;
-      noted = begins.first.closed.noted ∙ looks.noted;
-    };
-    file = λ honest.
-        subst (λ (ns : Nodes). MakesFileOf ns new.nodes beside (take begins.count bytes)) looks.nodes
-        (begins.first.file (looks.honest ∙ honest));
-  };
-}))
-
--- a file was removed, and then there were syncs
-pub removes : (old seen gone new : DiskState) (name : List ℕ) → OnlyLooks old seen → is_base_name name ≡ true
-    → (IsTrue old.honest → HasFileNode old.nodes name) → ClosesOpenFile seen gone → RemovesFile seen gone name
-    → OnlySyncs gone new → RemovesIt old new name
-removes old seen gone new name looks is file closes gone_is syncs = record {
-  closed = record {
-    honest = syncs.honest ∙ closes.honest ∙ looks.honest;
-    openings = syncs.openings ∙ closes.openings ∙ looks.openings;
-    rest = syncs.rest ∙ closes.rest;
-    noted = syncs.noted ∙ closes.noted ∙ looks.noted;
-  };
-  was = file;
-  removed = λ honest.
-      syncs.nodes ∙ (gone_is (looks.honest ∙ honest) (base_reached seen.nodes name is)).removed
-      ∙ ap (λ (ns : Nodes). without_node ns name) looks.nodes;
-}

@@ -16,16 +16,5 @@ pub one_sync : (e : DeviceEvent) → IsSync e → (before after : List DeviceEve
     → Adds AsksSyncs before after
 one_sync e is before after added = record { now = e ∷ []; trail = added; is = (sync_alone e is, tt) }
 
-both_syncs : (xs ys : List DeviceEvent) → ChangeNothing xs → ChangeNothing ys → ChangeNothing (xs ++ ys)
-both_syncs [] ys one two = two
-both_syncs (x ∷ xs) ys one two = (one.0, both_syncs xs ys one.1 two)
-
-pub more_syncs : (a b c : List DeviceEvent) → Adds AsksSyncs a b → Adds AsksSyncs b c → Adds AsksSyncs a c
-more_syncs a b c one two = record {
-  now = one.now ++ two.now;
-  trail = two.trail ∙ ap (λ (xs : List DeviceEvent). xs ++ two.now) one.trail ∙ append_assoc a one.now two.now;
-  is = both_syncs one.now two.now one.is two.is;
-}
-
 pub same_syncs : (a b c : List DeviceEvent) → Adds AsksSyncs a b → c ≡ b → Adds AsksSyncs a c
 same_syncs a b c so_far same = record { now = so_far.now; trail = same ∙ so_far.trail; is = so_far.is }

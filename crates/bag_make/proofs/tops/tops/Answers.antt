@@ -1,4 +1,4 @@
-use Rattle.bag_make.proofs.Common.{◌≡◌, ◌++◌, ◌∷◌, ◌∙◌, [], List, arith, ap, map, sym, in_order, lent_texts}
+use Rattle.bag_make.proofs.Common.{◌≡◌, ◌++◌, ◌∷◌, ◌∙◌, [], arith, ap, map, sym, in_order, lent_texts}
 use Rattle.std.proofs.lemmas.Grind.{common_steps}
 use Rattle.std.proofs.lemmas.Result.{IfOk-weaker}
 use Rattle.std.specs.Prelude.{if◌then◌else◌}
