@@ -19,11 +19,11 @@ use std::alloc::Global;
 /// Does a plan: writes the reports, what was made or the help to `out`, and what is refused beside
 /// that to `err`.
 ///
-/// Gives the exit status, over several folders the greatest: 0 where a bag was checked to its end,
-/// without a cursor, and has no fault, or was made, or help was written; 1 where it has faults, or
-/// the report was one above a cursor or stopped at its limit; 2 where the profile is refused; and 3
-/// where a read, a write or a growth was, or a bag wasn't made. The profile is read first. Where
-/// `out` refuses, it stops. Unless the status is 2 or 3, `out` took a whole report for each bag
+/// Gives the exit status, over several folders the greatest: 0 if a bag was checked to its end,
+/// without a cursor, and has no fault, or was made, or help was written; 1 if it has faults, or its
+/// report began at a cursor, stopped at a limit or is a part's; 2 if the profile is rejected; and 3
+/// if a read or a write failed, memory ran out, or a bag wasn't made. The profile is read first.
+/// If `out` fails, it stops. Unless the status is 2 or 3, `out` took a whole report for each bag
 /// that was checked, and the line of each that was made but for a quiet plan.
 ///
 /// `visits` are those that were made with the folders: each folder of the plan is looked into once

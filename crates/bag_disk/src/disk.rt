@@ -31,10 +31,10 @@ pub enum DiskFault {
     /// Something stands there already.
     #[error("{word}", word = said::EXISTS)]
     Exists,
-    /// A name isn't UTF-8, or is none for the system.
+    /// A name isn't UTF-8, or the system doesn't take it.
     #[error("{word}", word = said::NAME)]
     Name,
-    /// A growth was refused.
+    /// Memory ran out.
     #[error("{word}", word = said::MEMORY)]
     Memory,
     /// The system refused.

@@ -26,7 +26,7 @@ pub enum Refusal {
     /// There are more than 16,777,216 files and folders.
     #[error("{word}", word = said::TOO_MANY)]
     TooMany,
-    /// A growth was refused.
+    /// Memory ran out.
     #[error("{word}", word = said::MEMORY)]
     Memory,
     /// What was to be made is there.

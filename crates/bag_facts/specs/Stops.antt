@@ -11,7 +11,7 @@ use Rattle.bag_tree.specs.declared.tree_fault.TreeFault.TheVariants.{NoneOpen, M
 
 -- Why listing a tree and reading its tag files may be refused. Over an honest tree the cause is the
 -- device, something in the tree that is no file and no folder or has a name that isn't UTF-8, the
--- number of its files or out of memory.
+-- number of its files and folders, or out of memory.
 abbrev pub MayRefuseFacts : TreeState → TreeState → TreeFault → Type 0
 MayRefuseFacts old new Device = old.failures < new.failures
 MayRefuseFacts old new Special = FailsOver old new

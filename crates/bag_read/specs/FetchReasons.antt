@@ -49,7 +49,7 @@ FetchReasonHolds other rules line detail = ⊥
 abbrev pub fetch_reasons : List Code
 fetch_reasons = FetchLine ∷ FetchEscape ∷ FetchUnsafePath ∷ FetchOutsidePayload ∷ []
 
--- of these codes the reason is the first that holds: each before it holds with no detail
+-- the reason's code is the first of these that holds: none before it holds, whatever the detail
 abbrev pub IsFirst : (Code → List ℕ → Type 0) → List Code → Reason → Type 0
 IsFirst Holds [] reason = ⊥
 IsFirst Holds (code ∷ later) reason =

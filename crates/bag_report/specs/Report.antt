@@ -68,7 +68,7 @@ IsReported check f = Is check.bag check.profile f × (asks check.options f.code 
 abbrev pub IsReport : Check → List Fault → Type 0
 IsReport check report = IsListOf fault_cmp (IsReported check) report
 
--- a fault is greater than a cursor; each is where there is none
+-- a fault is greater than the cursor; if there is no cursor, each is
 abbrev pub is_above : Option Fault → Fault → Bool
 is_above None f = true
 is_above (Some cursor) f = is_lt (fault_cmp cursor f)

@@ -51,7 +51,7 @@ module _ (bag : Bag) (f : Fault) where
   MetadataHolds code.OxumMalformed =
       (e : Element) × At f bag_info_txt None e.line e.value × HasFirst bag oxum_label e
       × (oxum_of e.value ≡ None)
-  -- there is a second one
+  -- a later one is there
   MetadataHolds code.OxumAgain =
       (e : Element) × At f bag_info_txt None e.line e.value × HasLater bag oxum_label e
   -- the first one reads, and the payload has another size

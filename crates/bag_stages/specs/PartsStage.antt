@@ -23,7 +23,7 @@ module _ (bag : Bag) (f : Fault) where
   PartHolds code.AlgorithmUnsupported =
       (kind : Kind) × (alg : List ℕ) × At f (manifest_name kind alg) None 0 alg
       × HasManifest bag kind alg × (alg_named alg ≡ None)
-  -- a tag file that isn't UTF-8, but for the declaration (2.3)
+  -- bag-info.txt, fetch.txt or a manifest of a supported algorithm isn't UTF-8 (2.3)
   PartHolds code.NotUtf8 = AtPath f None [] × HasNoText bag f.path
   -- codes of other stages
   PartHolds other = ⊥

@@ -11,7 +11,7 @@ abbrev pub rules_of : Option (List ℕ) → Rules
 rules_of None = V10
 rules_of (Some version) = if bytes_eq version (codes "0.97") then V097 else V10
 
--- the label of what stands before the colon: by the rules of 0.97 blanks at its end are dropped
+-- the label of what stands before the colon: by the rules of 0.97 without the blanks at its ends
 abbrev pub label_of : Rules → List ℕ → List ℕ
 label_of V10 t = t
 label_of V097 t = trim t

@@ -49,7 +49,8 @@ pub enum Code {
     FetchUnsafePath = 403,
     /// A path in `fetch.txt` isn't that of a payload file (RFC 8493, 2.2.3).
     FetchOutsidePayload = 404,
-    /// A payload manifest doesn't name a path that is in `fetch.txt` (RFC 8493, 2.2.3).
+    /// A payload manifest doesn't name a path that is in `fetch.txt`; by the rules of 0.97 none
+    /// does (RFC 8493, 2.2.3).
     FetchNotInManifest = 405,
     /// A line of a manifest isn't a digest in hex and a path (RFC 8493, 2.1.3).
     ManifestLine = 501,
@@ -73,10 +74,11 @@ pub enum Code {
     PayloadFileMissing = 601,
     /// A tag manifest names a file that isn't there (RFC 8493, 3).
     TagFileMissing = 602,
-    /// A payload manifest doesn't name a payload file that is there (RFC 8493, 3).
+    /// A payload manifest doesn't name a payload file that is there; by the rules of 0.97 none
+    /// does (RFC 8493, 3).
     PayloadFileNotListed = 603,
-    /// The path differs from a lesser one of the payload only by Unicode normalization (RFC 8493,
-    /// 6).
+    /// The path differs from a lesser name of the payload, or that a payload manifest names, by
+    /// Unicode normal form alone (RFC 8493, 6.1.1.3).
     NameClash = 604,
     /// A payload file hasn't the digest that a payload manifest gives it (RFC 8493, 3).
     PayloadSumDiffers = 701,

@@ -3,7 +3,7 @@
 /// What begins a line about the program itself.
 pub const PROGRAM: &str = "bagit: ";
 
-/// A growth was refused.
+/// Memory ran out.
 pub const OUT_OF_MEMORY: &str = "out of memory";
 
 /// The output refused.

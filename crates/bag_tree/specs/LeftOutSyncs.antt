@@ -32,8 +32,8 @@ RenamesMayBeUndone =
     → ¬ (Contains syncs (SyncFolder (folder_of from)) × Contains syncs (SyncFolder (folder_of to)))
     → MayLeave (Rename from to ∷ syncs) bag bag
 
--- And then a rename to the name that was left loses what was to have been moved: a file that was to
--- be moved into a folder isn't there, once the folder is given its name.
+-- If a file's move into a folder is left out, and the folder is then renamed to the file's name,
+-- the file is lost.
 abbrev pub RenamesMayLose : Type 0
 RenamesMayLose =
     (bag : Bag) (folder name : Path) (syncs : List DeviceEvent)

@@ -18,7 +18,7 @@ pub enum HexFault {
     /// The algorithm wasn't asked for.
     #[error("the algorithm wasn't asked for")]
     NotAsked,
-    /// A growth was refused.
+    /// Memory ran out.
     #[error("{why}", why = said::OUT_OF_MEMORY)]
     Memory,
 }

@@ -32,7 +32,7 @@ pub enum TreeFault {
     /// A read without an open file.
     #[error("{word}", word = said::NONE_OPEN)]
     NoneOpen,
-    /// A growth was refused.
+    /// Memory ran out.
     #[error("{word}", word = said::MEMORY)]
     Memory,
     /// What was to be made is there.

@@ -1,4 +1,4 @@
--- The line that ends a report, and the exit status.
+-- The line that ends a report.
 use Rattle.std.specs.Prelude.{ℕ, List, [], ◌++◌, codes, decimal, if◌then◌else◌}
 use Rattle.bag_tree.specs.Tree.{cause_word}
 use Rattle.bag_tree.specs.declared.tree_fault.Stop.{Stop}

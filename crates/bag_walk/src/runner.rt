@@ -13,7 +13,7 @@ use bag_tree::{Out, Stop, Tree};
 use std::alloc::Global;
 
 /// Writes the faults of a tree's bag that the request asks for, one line each, and a closing line.
-/// Without a profile the bag has to conform to none.
+/// Without a profile stage 8 is skipped.
 ///
 /// A fault's line is handed to the output before the next file is opened. Each line ends in LF, and
 /// is one write where the output takes it whole; the closing line takes no memory. At depth `Full`

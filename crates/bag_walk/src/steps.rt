@@ -130,8 +130,7 @@ pub type Walk<T> = Steps<T, Sources>;
 
 impl<T: Tree> Walk<T> {
     /// Reads the tag files of a tree's bag, for a walk over the faults of its report that are
-    /// greater than a cursor, or over all without one. Without a profile the bag has to conform to
-    /// none.
+    /// greater than a cursor, or over all without one. Without a profile stage 8 is skipped.
     ///
     /// Each tag file is opened once at most, and no other file. The files whose digests are to be
     /// compared are opened by the steps of the walk, none below the depth `Full`; memory for
