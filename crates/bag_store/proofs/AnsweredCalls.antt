@@ -1,5 +1,5 @@
 -- What a call that changes a tree promises follows from what it did on the disk.
-use Rattle.bag_store.proofs.Common.{◌≡◌, ◌+◌, ◌≤◌, ℕ, IsTrue, refl, sym, arith, AppliesStep, Bag, DiskState, due_in_move}
+use Rattle.bag_store.proofs.Common.{◌≡◌, ◌+◌, ◌≤◌, ℕ, List, IsTrue, refl, sym, arith, AppliesStep, Bag, DiskState, due_in_move}
 use Rattle.bag_store.proofs.Common.{MeetsSpecial, Refusal, ReportsDisk, fault_answering, file_state_after}
 use Rattle.bag_store.proofs.ChangedTree.{count_grows}
 use Rattle.bag_store.proofs.RefusedCalls.{move_answered_so, tells_move}
@@ -13,7 +13,10 @@ use Rattle.bag_tree.specs.declared.answer.Answer.TheVariants.{Given, Refused}
 use Rattle.bag_tree.specs.declared.tree_fault.TreeFault.{TreeFault}
 use Rattle.bag_disk.specs.Refusal.{IsCounted, IsDueInStep}
 use Rattle.bag_store.specs.Answered.{answer_to, own_after}
-use Rattle.bag_store.specs.Asking.{AsksOfDisk}
+use Rattle.bag_store.specs.Asking.{AsksOfDisk, SeesTakenLast}
+use Rattle.bag_store.specs.FileTreeCalls.{AnswersTakenLast}
+use Rattle.bag_disk.specs.declared.refusal.Refusal.TheVariants as refused
+use Rattle.bag_tree.specs.declared.tree_fault.TreeFault.TheVariants as fault
 
 -- two facts of what was done
 pub on_ok_both : {T E P Q R : Type 0} (r : Result T E) → OnOk r P → OnOk r Q → (P → Q → R) → OnOk r R
@@ -89,3 +92,27 @@ module _ (old new : DiskState) (gone there : Type 0) where
       → IfErr result (ReportsDisk ⊥ old new)
   told done result is counts due =
       subst (λ answer. IfErr answer (ReportsDisk ⊥ old new)) (sym is) (so_told done counts due)
+
+-- only what is there already is answered so
+taken_alone : (r : Refusal) → fault_answering r ≡ fault.Exists → r ≡ refused.Exists
+taken_alone refused.Exists is = refl
+taken_alone refused.Device is = grind arith
+taken_alone refused.Special is = grind arith
+taken_alone refused.Name is = grind arith
+taken_alone refused.NotFound is = grind arith
+taken_alone refused.TooMany is = grind arith
+taken_alone refused.Memory is = grind arith
+taken_alone refused.Contradicts is = grind arith
+taken_alone refused.InTheWay is = grind arith
+
+so_taken : (folder : List ℕ) (old new : DiskState) (done : Result (Unit {0}) Refusal)
+    → IfErr done (SeesTakenLast folder old new) → IfErr (answer_to done) (AnswersTakenLast folder old new)
+so_taken folder old new (Ok done) sees = tt
+so_taken folder old new (Err r) sees = λ is. sees (taken_alone r is)
+
+-- a taken name is answered as it was seen
+pub taken_last : (folder : List ℕ) (old new : DiskState) (done : Result (Unit {0}) Refusal)
+    (result : Result (Unit {0}) TreeFault) → result ≡ answer_to done
+    → IfErr done (SeesTakenLast folder old new) → IfErr result (AnswersTakenLast folder old new)
+taken_last folder old new done result is sees =
+    subst (λ answer. IfErr answer (AnswersTakenLast folder old new)) (sym is) (so_taken folder old new done sees)

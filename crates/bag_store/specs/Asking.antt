@@ -7,6 +7,7 @@ use Rattle.bag_tree.specs.declared.event.DeviceEvent.{DeviceEvent}
 use Rattle.bag_tree.specs.declared.event.DeviceEvent.TheVariants.{Write, Sync, SyncFolder}
 use Rattle.bag_disk.specs.Disk.{DiskState}
 use Rattle.bag_disk.specs.declared.refusal.Refusal.{Refusal}
+use Rattle.bag_disk.specs.declared.refusal.Refusal.TheVariants as refused
 
 -- Of a device that notes what it does a call asked this: where it was answered, and where it was
 -- refused.
@@ -25,6 +26,12 @@ HasDurableFolders disk = IsTrue disk.noted → has_durable_folders disk.trail �
 -- a folder is synced, and then the base folder
 abbrev pub SyncsBoth : List ℕ → Asking
 SyncsBoth folder before now = now ≡ SyncFolder folder ∷ SyncFolder [] ∷ []
+
+-- a name was seen to be taken only after the folder and the base folder were synced
+abbrev pub SeesTakenLast : List ℕ → DiskState → DiskState → Refusal → Type 0
+SeesTakenLast folder old new refusal =
+    refusal ≡ refused.Exists → IsTrue old.noted
+    → Adds (SyncsBoth folder) old.trail new.trail
 
 -- the bytes of a file are written, in pieces
 pub record WritesPieces (path bytes : List ℕ) (before now : List DeviceEvent) : Type 0 where

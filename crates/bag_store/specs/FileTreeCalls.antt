@@ -1,5 +1,6 @@
 -- What the calls of a tree of files promise.
-use Rattle.std.specs.Prelude.{◌<◌, ◌⊎◌, ⊤}
+use Rattle.std.specs.Prelude.{◌≡◌, ◌<◌, ◌⊎◌, ⊤, IsTrue, List, ℕ}
+use Rattle.bag_tree.specs.Asked.{Adds}
 use Rattle.bag_tree.specs.Tree.{TreeState}
 use Rattle.bag_tree.specs.declared.tree_fault.TreeFault.{TreeFault}
 use Rattle.bag_tree.specs.declared.tree_fault.TreeFault.TheVariants.{Device, Special, Name}
@@ -10,6 +11,7 @@ use Rattle.bag_disk.specs.Disk.{DiskState}
 use Rattle.bag_disk.specs.declared.disk.Disk as Disk
 use Rattle.bag_disk.specs.Refusal.{MeetsSpecial, MeetsUnnamed}
 use Rattle.bag_store.specs.Answered.{bytes_given, own_failures}
+use Rattle.bag_store.specs.Asking.{SyncsBoth}
 use Rattle.bag_store.specs.FileTree.{file_state_after}
 
 -- the device of a disk refused
@@ -29,6 +31,12 @@ ReportsDisk reason old new Changed = ⊤
 ReportsDisk reason old new NoneOpen = ⊤
 ReportsDisk reason old new Memory = ⊤
 ReportsDisk reason old new Exists = ⊤
+
+-- That a name is taken is answered only where it was seen after the folder and the base folder were
+-- synced.
+abbrev pub AnswersTakenLast : List ℕ → DiskState → DiskState → TreeFault → Type 0
+AnswersTakenLast folder old new cause =
+    cause ≡ Exists → IsTrue old.noted → Adds (SyncsBoth folder) old.trail new.trail
 
 -- what a tree means whose disk means this
 abbrev pub state_of : {D : Type 0} {disk : Disk.Ghosts D} → (D → DiskState) → FileTree D disk

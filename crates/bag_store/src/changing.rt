@@ -6,7 +6,7 @@ ghost use Rattle.bag_tree.specs.Steps.{lacks_folder, lacks_source};
 ghost use Rattle.bag_tree.specs.declared.event.DeviceEvent.TheVariants.{Rename};
 ghost use Rattle.bag_disk.specs.DiskNodes.{Has, OnlyLooks, OnlySyncs};
 ghost use Rattle.bag_disk.specs.WritableDisk.{ClosesOpenFile, MakesFolderNode, Moves, Notes};
-ghost use Rattle.bag_store.specs.Asking.{AsksOfDisk, HasDurableFolders};
+ghost use Rattle.bag_store.specs.Asking.{AsksOfDisk, HasDurableFolders, SeesTakenLast};
 ghost use Rattle.bag_store.specs.Changing.{HasFolderInTheWay, HasTarget, IsRenamed, IsMovedIn};
 ghost use Rattle.bag_store.specs.Changing.{IsNameTaken, LacksFolder, LacksSource};
 ghost use Rattle.bag_store.specs.Due.{IsDueInMaking};
@@ -144,6 +144,8 @@ pub(crate) fn rename_folder<D: WritableDisk>(
     ensures same { OnErr result (OnlySyncs (D.state disk.old) (D.state disk.new)) }
     ensures asked { AsksOfDisk (AsksRename from.now to.now) AsksSyncs
         (D.state disk.old) (D.state disk.new) result }
+    ensures looks_last { IfErr result
+        (SeesTakenLast from.now (D.state disk.old) (D.state disk.new)) }
     ensures refused { IfErr result (IsDueInStep (MeetsSpecial (D.state disk.old))
         (LacksFolder (D.state disk.old) from.now) (IsNameTaken (D.state disk.old) to.now)) }
     ensures failures { IsCounted result (D.state disk.old) (D.state disk.new) }

@@ -126,7 +126,8 @@ impl<D: WritableDisk + Drop> WriteTree for FileTree<D> {
     ghost use Rattle.bag_text.specs.Path.{is_base_name};
     ghost use Rattle.bag_tree.specs.ChangeCalls.{Creates, MakesFolder, MovesIn, RenamesFolder};
     ghost use Rattle.bag_store.specs.Changing.{HasFolderInTheWay};
-    ghost use Rattle.bag_store.specs.FileTreeCalls.{ReportsDisk, disk_of, state_of};
+    ghost use Rattle.bag_store.specs.FileTreeCalls.{AnswersTakenLast, ReportsDisk};
+    ghost use Rattle.bag_store.specs.FileTreeCalls.{disk_of, state_of};
 
     fn make_folder(&mut self, name: &str) -> Result<(), TreeFault>
         requires { IsTrue (is_base_name name.now) }
@@ -167,6 +168,8 @@ impl<D: WritableDisk + Drop> WriteTree for FileTree<D> {
             (state_of D.state self.old) (state_of D.state self.new) result }
         ensures cause { IfErr result (
             ReportsDisk ⊥ (D.state (disk_of self.old)) (D.state (disk_of self.new))) }
+        ensures looks_last { IfErr result (
+            AnswersTakenLast from.now (D.state (disk_of self.old)) (D.state (disk_of self.new))) }
     {
         self.is_synced = false;
         let done = changing::rename_folder(&mut self.disk, from, to);
