@@ -24,10 +24,6 @@ is_member r set alg h =
     same_truth r (has_member set alg) (λ is. has_member-from_Contains set alg (h.0 is))
     (λ is. h.1 (Contains-from_has_member set alg is))
 
--- and so the files that a bag has
-pub is_had : (set : List Alg) (alg : Alg) (b : Bool) → (Contains set alg ↔ (b ≡ true)) → has_member set alg ≡ b
-is_had set alg b h = sym (is_member b set alg ((λ is. h.1 is), (λ has. h.0 has)))
-
 pub is_next : (i : ℕ) → i < length algs → get_or algs i Md5 ≡ get_or algs i (get_or algs i Md5)
 is_next i lt = sym (get_or_default algs i (get_or algs i Md5) Md5 lt)
 
@@ -38,7 +34,7 @@ has_member_where p alg = has_member-filter p alg
 same_where : (p q : Alg → Bool) → ((alg : Alg) → p alg ≡ q alg) → algs_where p ≡ algs_where q
 same_where p q same = λ i. algs_where (λ alg. same alg i)
 
-pub none_where : (p : Alg → Bool) → ((alg : Alg) → p alg ≡ false) → [] ≡ algs_where p
+none_where : (p : Alg → Bool) → ((alg : Alg) → p alg ≡ false) → [] ≡ algs_where p
 unfolding algs_where
 none_where p none = sym (λ i. filter (λ alg. none alg i) algs)
 
@@ -121,13 +117,6 @@ module _ (bag : Bag) (renewal : Renewal) where
   kept_is is alg =
       kept_by (has_payload_manifest bag alg) (has_member renewal.added alg) (has_member renewal.dropped alg) (keeps bag)
       is
-
-  nothing_by : (a b k : Bool) → k ≡ false → (a && (k && b)) ≡ false
-  nothing_by true b k is = grind arith
-  nothing_by false b k is = refl
-
-  pub kept_none : keeps bag ≡ false → (alg : Alg) → is_kept_alg bag renewal alg ≡ false
-  kept_none is alg = nothing_by (is_new_alg bag renewal alg) (has_payload_manifest bag alg) (keeps bag) is
 
   -- a payload manifest is written where some new algorithm isn't kept
   pub writes_some : (set kept : List Alg) (r : Bool) → set ≡ new_algs bag renewal

@@ -2,7 +2,9 @@
 use Rattle.bag_renew.proofs.Common.{◌≡◌, ◌≢◌, ◌⊎◌, ◌∷◌, ◌++◌, ◌&&◌, ◌||◌, ◌∙◌, ℕ, List, [], Bool, true, false, not, map}
 use Rattle.bag_renew.proofs.Common.{Option, None, Some, refl, sym, ap, subst, inl, inr, arith, Contains, append_assoc}
 use Rattle.bag_renew.proofs.Common.{any_from, from_any, false≢true, cond, contains_behind, contains_cases}
-use Rattle.bag_renew.proofs.Common.{contains_first, contains_mapped, contains_nothing, mapped_contains, Fetch, tag_path}
+use Rattle.bag_renew.proofs.Common.{contains_either, contains_first, contains_mapped, contains_nothing, mapped_contains}
+use Rattle.bag_renew.proofs.Common.{list_any, and_from, and_parts, tag_path, algs, Alg, Kind, Payload, Tag}
+use Rattle.bag_renew.proofs.Common.{TagName, Declaration, Info, Fetch, Manifest}
 use Rattle.bag_renew.proofs.Common.{Bag, HasFile, files_of, has_file, under, keeps, new_algs, Renewal, begun_file}
 use Rattle.std.specs.Prelude.{MatchOption, find}
 use Rattle.std.specs.Option.{option_map}
@@ -20,7 +22,8 @@ use Rattle.bag_tree.proofs.Within.{prefix_test}
 use Rattle.bag_tree.specs.Bag.{LacksFile}
 use Rattle.bag_tree.specs.declared.listing.FileEntry.{FileEntry}
 use Rattle.bag_renew.specs.Obstacles.{AreFree, HasBelow, HasNoObstacle, IsInTheWay, IsNamedAsTag, first_unnameable}
-use Rattle.bag_renew.specs.Obstacles.{has_below, has_percent, is_below, is_unnameable, paths_of, reserved_names}
+use Rattle.bag_renew.specs.Obstacles.{begins_as_payload, has_percent, is_below, is_below_some, is_unnameable}
+use Rattle.bag_renew.specs.Obstacles.{manifest_names, paths_of, reserved_names}
 use Rattle.bag_renew.specs.Renewed.{is_v10}
 use Rattle.bag_tree.specs.Listing.{entry_of_file}
 
@@ -71,6 +74,51 @@ is_below_it : (name rest : List ℕ) → is_below name (under name rest) ≡ tru
 is_below_it name rest =
     (prefix_test (name ++ slash ∷ []) (under name rest)).1 rest (sym (append_assoc name (slash ∷ []) rest))
 
+abbrev manifests : List (List ℕ)
+manifests = manifest_names Payload ++ manifest_names Tag
+
+-- no path below a reserved name begins as those of the payload
+module _ (rest : List ℕ) where
+  tag_begins : (tag : TagName) → begins_as_payload (under (tag_path tag) rest) ≡ false
+  tag_begins Declaration = refl
+  tag_begins Info = refl
+  tag_begins Fetch = refl
+  tag_begins (Manifest Payload alg) = refl
+  tag_begins (Manifest Tag alg) = refl
+
+  begun_begins : begins_as_payload (under begun_file rest) ≡ false
+  begun_begins = refl
+
+  so_begins : (one name : List ℕ) → one ≡ name → begins_as_payload (under one rest) ≡ false
+      → begins_as_payload (under name rest) ≡ false
+  so_begins one name same is = ap (λ n. begins_as_payload (under n rest)) (sym same) ∙ is
+
+  manifest_begins : (kind : Kind) (name : List ℕ) → Contains (manifest_names kind) name
+      → begins_as_payload (under name rest) ≡ false
+  unfolding manifest_names
+  manifest_begins kind name has =
+      let one = contains_mapped (λ (alg : Alg). tag_path (Manifest kind alg)) algs name has in
+      so_begins (tag_path (Manifest kind one.0)) name one.2 (tag_begins (Manifest kind one.0))
+
+  tags_begin : (name : List ℕ) → Contains manifests name
+      → begins_as_payload (under name rest) ≡ false
+  tags_begin name has = elim (contains_either (manifest_names Payload) (manifest_names Tag) name has) [
+    | inl payload ↦ manifest_begins Payload name payload
+    | inr tag ↦ manifest_begins Tag name tag
+  ]
+
+begins_otherwise : (name rest : List ℕ) → Contains reserved_names name → begins_as_payload (under name rest) ≡ false
+begins_otherwise name rest has = elim (contains_cases (tag_path Declaration) (tag_path Info ∷ begun_file ∷ manifests) name has) [
+  | inl is ↦ so_begins rest (tag_path Declaration) name is (tag_begins rest Declaration)
+  | inr others ↦ elim (contains_cases (tag_path Info) (begun_file ∷ manifests) name others) [
+    | inl is ↦ so_begins rest (tag_path Info) name is (tag_begins rest Info)
+    | inr more ↦ elim (contains_cases begun_file manifests name more) [
+      | inl is ↦ so_begins rest begun_file name is (begun_begins rest)
+      | inr manifest ↦ tags_begin rest name manifest
+    ]
+  ]
+]
+
 first_false : (a b : Bool) → (a || b) ≡ false → a ≡ false
 first_false true b e = e
 first_false false b e = refl
@@ -106,42 +154,53 @@ module _ (bag : Bag) (facts : Facts) (of : IsFactsOf bag facts) where
   path_there : (name : List ℕ) → HasFile bag name → Contains (map path files) name
   path_there name has = file_listed bag files name of.listing.files has
 
-  -- files stand below a name in the listing just where they do in the bag
-  pub below_there : (name : List ℕ) → has_below files name ≡ true → HasBelow bag name
-  below_there name e =
-      let some = from_any (λ (entry : FileEntry). is_below name entry.path) files e in
-      let below = below_is name some.0.path some.2 in (
+  -- a file stands below a name, as a listed one does
+  below_there : (entry : FileEntry) (name : List ℕ) → Contains files entry → is_below name entry.path ≡ true
+      → HasBelow bag name
+  below_there entry name c is =
+      let below = below_is name entry.path is in (
         below.0,
         subst (HasFile bag) below.1
-            (listed_file bag files some.0.path of.listing.files (mapped_contains path files some.0 some.1)),
+            (listed_file bag files entry.path of.listing.files (mapped_contains path files entry c)),
       )
 
-  pub there_below : (name : List ℕ) → HasBelow bag name → has_below files name ≡ true
-  there_below name (rest, has) =
-      let some = contains_mapped path files (under name rest) (path_there (under name rest) has) in
-      any_from (λ (entry : FileEntry). is_below name entry.path) files some.0 some.1
-      (ap (is_below name) some.2 ∙ is_below_it name rest)
+  module _ (listed : List FileEntry) (same : listed ≡ files) (names : List (List ℕ)) (reserved : names ≡ reserved_names)
+    where
+      abbrev is_found : FileEntry → Bool
+      is_found entry = is_below_some names entry.path
 
-  finds : (listed : List FileEntry) (names : List (List ℕ)) → listed ≡ files → names ≡ reserved_names
-      → find (has_below listed) names ≡ find (has_below files) reserved_names
-  finds listed names same reserved = λ i. find (has_below (same i)) (reserved i)
+      name_found : (found : Option (List ℕ)) (entry : FileEntry) (P : Type 0) → Contains files entry
+          → list_any (λ name. is_below name entry.path) names ≡ true
+          → found ≡ find (λ name. is_below name entry.path) names → MatchOption found P (IsInTheWay bag)
+      name_found (Some name) entry P c some e =
+          let is = found_passes (λ name. is_below name entry.path) names name (sym e) in
+          inl (subst (λ xs. Contains xs name) reserved is.0, below_there entry name c is.1)
+      name_found None entry P c some e =
+          let is = from_any (λ name. is_below name entry.path) names some in
+          absurd (false≢true
+          (sym (none_passes (λ name. is_below name entry.path) names is.0 (sym e) is.1) ∙ is.2))
 
-  in_the_way : (name : List ℕ) → find (has_below files) reserved_names ≡ Some name → IsInTheWay bag name
-  in_the_way name e =
-      let found = found_passes (has_below files) reserved_names name e in
-      inl (found.0, below_there name found.1)
+      -- a file below a reserved name was found, and then that name
+      pub in_the_way : (entry : FileEntry) (at : List ℕ) (found : Option (List ℕ)) (P : Type 0)
+          → Some entry ≡ find is_found listed → at ≡ entry.path → found ≡ find (λ name. is_below name at) names
+          → MatchOption found P (IsInTheWay bag)
+      in_the_way entry at found P first is e =
+          let this = found_passes is_found listed entry (sym first) in
+          name_found found entry P (subst (λ xs. Contains xs entry) same this.0)
+          (and_parts (not (begins_as_payload entry.path)) (list_any (λ name. is_below name entry.path) names) this.1).1
+          (e ∙ ap (λ p. find (λ name. is_below name p) names) is)
 
-  are_free : find (has_below files) reserved_names ≡ None → AreFree bag
-  are_free e name reserved has =
-      false≢true (sym (none_passes (has_below files) reserved_names name e reserved) ∙ there_below name has)
-
-  -- a reserved name below which files stand was found, or none
-  pub free_or_not : (listed : List FileEntry) (names : List (List ℕ)) (found : Option (List ℕ)) → listed ≡ files
-      → names ≡ reserved_names → found ≡ find (has_below listed) names → ¬ (IsNamedAsTag bag begun_file)
-      → MatchOption found (AreFree bag × ¬ (IsNamedAsTag bag begun_file)) (IsInTheWay bag)
-  free_or_not listed names None same reserved e own = (are_free (sym (e ∙ finds listed names same reserved)), own)
-  free_or_not listed names (Some name) same reserved e own =
-      in_the_way name (sym (e ∙ finds listed names same reserved))
+      -- or none
+      pub are_free : None ≡ find is_found listed → AreFree bag
+      are_free none name has (rest, there) =
+          let some = contains_mapped path files (under name rest) (path_there (under name rest) there) in
+          let above = any_from (λ n. is_below n some.0.path) names name
+          (subst (λ xs. Contains xs name) (sym reserved) has) (ap (is_below name) some.2 ∙ is_below_it name rest) in
+          let other : not (begins_as_payload some.0.path) ≡ true =
+          ap (λ p. not (begins_as_payload p)) some.2 ∙ ap not (begins_otherwise name rest has) in
+          false≢true
+          (sym (none_passes is_found listed some.0 (sym none) (subst (λ xs. Contains xs some.0) (sym same) some.1))
+          ∙ and_from (not (begins_as_payload some.0.path)) (list_any (λ n. is_below n some.0.path) names) other above)
 
   -- where none is found, each path can be named
   module _ (none : first_unnameable bag ≡ None) (name : List ℕ) (has : HasFile bag name) where

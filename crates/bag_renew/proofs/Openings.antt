@@ -13,7 +13,7 @@ use Rattle.std.specs.List.Sorted.{IsStrictlySortedBy}
 use Rattle.std.specs.Prelude.{drop}
 use Rattle.bag_facts.proofs.Mapped.{kept as among}
 use Rattle.bag_facts.proofs.Opens.{front_ascends, opens_none}
-use Rattle.bag_facts.specs.FactsOfBag.{IsFactsOf}
+use Rattle.bag_facts.specs.FactsOfBag.{IfBagRead, IsFactsOf}
 use Rattle.bag_facts.specs.Wanted.{IsWanted, OpensWanted, paths_of}
 use Rattle.bag_facts.specs.declared.facts.Facts.{Facts}
 use Rattle.bag_facts.specs.declared.fault.Fault.{Fault}
@@ -227,12 +227,12 @@ module _ (renewal : Renewal) (old mid new : TreeState) (is_bag : IsBag old.bag) 
   pub for_renewal_of_files : (facts : Facts) → facts.options ≡ full
       → ((bag : Bag) × IsBag bag × IsFactsOf bag facts) → (IsTrue old.honest → IsFactsOf old.bag facts)
       → OpensWanted full old mid → (algs : List Alg) → AllowsRenewal facts renewal algs → (b : Bool)
-      → ((bag : Bag) → IsFactsOf bag facts → b ≡ reads_payload bag renewal)
+      → IfBagRead facts (λ bag. b ≡ reads_payload bag renewal)
       → OpensFirstToRead b facts.listing.files mid new → OpensForRenewal renewal old new
   for_renewal_of_files facts options seen of tags algs allows b reads first =
       for_renewal renewal old new
       (then_first (λ bag. reads_payload bag renewal) (λ bag. HasNoEarlyFault bag × HasNoObstacle bag renewal) old mid new
-      is_bag facts seen of tags b reads
+      is_bag facts seen of tags b (λ bag is. reads bag is (deep facts bag is options))
       (λ bag is.
       (none_early facts bag is options allows.none, allows.no_obstacle bag is (deep facts bag is options)))
       first)

@@ -28,13 +28,14 @@ module _ (renewal : Renewal) (old new : TreeState) (facts : Facts) (summed : Lis
 
   module _ (info : Option (List ℕ))
       (is_info : IfBagRead facts (λ bag. IsInfoAfter bag renewal (lines_of_file read) info)) (made : List FileChange)
-      (is : (bag : Bag) (files : List File) → IsFactsOf bag facts → AreSummed (new_algs bag renewal) files summed
-      → is_some info ≡ writes_info bag renewal → made ≡ changes_from bag renewal files info) where
+      (is : IfBagRead facts (λ bag. (files : List File) → AreSummed (new_algs bag renewal) files summed
+      → is_some info ≡ writes_info bag renewal → made ≡ changes_from bag renewal files info)) where
     -- over any tree they are of the files that were read
     compared : ChangesCompared renewal made
     compared =
         let bag = has.seen.0 in
-        let after = is_info bag has.seen.2 (deep renewal old new facts summed read has) in record {
+        let far = deep renewal old new facts summed read has in
+        let after = is_info bag has.seen.2 far in record {
           bag = bag;
           is_bag = has.seen.1;
           files = has.files;
@@ -43,7 +44,7 @@ module _ (renewal : Renewal) (old new : TreeState) (facts : Facts) (summed : Lis
           old_info_is = has.info_of;
           info = info;
           info_is = after;
-          changes_are = is bag has.files has.seen.2 (has.summed_of bag has.seen.2)
+          changes_are = is bag has.seen.2 far has.files (has.summed_of bag has.seen.2)
               (has_info bag renewal (lines_of_file read) info after);
         }
 
@@ -51,8 +52,8 @@ module _ (renewal : Renewal) (old new : TreeState) (facts : Facts) (summed : Lis
     of_bag : IsTrue old.honest → made ≡ changes old.bag renewal
     of_bag honest =
         let new_one = new_info renewal old new facts summed read has honest info is_info in
-        is old.bag (files_to_read (reads_payload old.bag renewal) (files_of old.bag)) (has.of_bag honest)
-        (has.sums honest) (has_info old.bag renewal (lines_in old.bag bag_info_txt) info new_one)
+        is old.bag (has.of_bag honest) (deep renewal old new facts summed read has)
+        (files_to_read (reads_payload old.bag renewal) (files_of old.bag)) (has.sums honest) (has_info old.bag renewal (lines_in old.bag bag_info_txt) info new_one)
         ∙ changes_of_bag old.bag renewal info new_one
 
     pub planned : is_bad_request renewal.elements ≡ false → AreOfFiles made → HasPlanned renewal old new made

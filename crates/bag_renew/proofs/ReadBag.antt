@@ -260,7 +260,7 @@ module _ (renewal : Renewal) (facts : Facts) (old mid new : TreeState) (options 
 
   -- all was read and checked
   module _ (algs : List Alg) (allows : AllowsRenewal facts renewal algs) (with_payload : Bool)
-      (reads : (bag : Bag) → IsFactsOf bag facts → with_payload ≡ reads_payload bag renewal)
+      (reads : IfBagRead facts (λ bag. with_payload ≡ reads_payload bag renewal))
       (summed : List SummedFile) (info : List ℕ) (h : HasChecked facts with_payload algs old new summed info) where
     pub has_read_bag : IsBag old.bag → Keeps old new → NothingFailed old new
         → HasReadBag renewal old new facts summed info
@@ -268,7 +268,7 @@ module _ (renewal : Renewal) (facts : Facts) (old mid new : TreeState) (options 
       read = record {
         keeps = kept;
         no_failure = never;
-        opened = λ honest. subst (λ b. OpensRead b old new) (reads old.bag (of honest))
+        opened = λ honest. subst (λ b. OpensRead b old new) (reads old.bag (of honest) deep)
             (opens_read facts with_payload algs old new summed info h honest);
         can = λ honest. let free = allows.no_obstacle old.bag (of honest) deep in record {
           is_bag = is_bag;
@@ -278,7 +278,7 @@ module _ (renewal : Renewal) (facts : Facts) (old mid new : TreeState) (options 
           some_alg = free.some_alg;
         };
         valid = λ honest all.
-            none_at_all facts with_payload algs old new summed info h honest (reads old.bag (of honest) ∙ all);
+            none_at_all facts with_payload algs old new summed info h honest (reads old.bag (of honest) deep ∙ all);
         no_obstacle = λ honest. allows.no_obstacle old.bag (of honest) deep;
       };
       options = options;
@@ -286,14 +286,14 @@ module _ (renewal : Renewal) (facts : Facts) (old mid new : TreeState) (options 
       of_bag = of;
       sums = λ honest.
           subst (λ some. AreSummed some (files_to_read (reads_payload old.bag renewal) (files_of old.bag)) summed)
-          (allows.new old.bag (of honest))
-          (subst (λ b. AreSummed algs (files_to_read b (files_of old.bag)) summed) (reads old.bag (of honest))
+          (allows.new old.bag (of honest) deep)
+          (subst (λ b. AreSummed algs (files_to_read b (files_of old.bag)) summed) (reads old.bag (of honest) deep)
           (sums_are facts with_payload algs old new summed info h honest));
       files = h.checked.files;
-      compared = subst (λ b. AreCompared seen.0 b h.checked.files) (reads seen.0 seen.2)
+      compared = subst (λ b. AreCompared seen.0 b h.checked.files) (reads seen.0 seen.2 deep)
           (compared facts with_payload algs old new summed info h seen.0 seen.2);
       summed_of = λ bag is.
-          subst (λ some. AreSummed some h.checked.files summed) (allows.new bag is) h.checked.sums;
+          subst (λ some. AreSummed some h.checked.files summed) (allows.new bag is deep) h.checked.sums;
       info_of = h.checked.info_of;
       lines = λ honest. info_lines facts with_payload algs old new summed info h honest;
     }

@@ -19,7 +19,7 @@ use Rattle.bag_tree.specs.declared.file_change.FileChange.TheVariants.{Put, Remo
 use Rattle.bag_renew.specs.Changes.{unkept}
 use Rattle.bag_renew.specs.NewManifests.{summed_entry}
 use Rattle.bag_renew.specs.Renewed.{File, algs_where, begun_file, declaration_file, in_path_order}
-use Rattle.bag_renew.specs.Renewed.{info_files, is_kept, is_kept_alg, new_algs, payload_manifests}
+use Rattle.bag_renew.specs.Renewed.{has_payload_manifest, info_files, is_kept, is_kept_alg, new_algs, payload_manifests}
 use Rattle.bag_renew.specs.Renewed.{stays, writes_info}
 use Rattle.bag_renew.specs.Summed.{AreSummed}
 use Rattle.bag_renew.specs.declared.renewal.Renewal.{Renewal}
@@ -44,10 +44,7 @@ is_tag_path path = not (is_payload_path path)
 abbrev pub AreInPathOrder : List Alg → List File → List SummedFile → Type 0
 AreInPathOrder algs files summed = AreSummed algs (in_path_order files) summed
 
--- the members of one set of algorithms that are also in another, and those that aren't
-abbrev pub in_both : List Alg → List Alg → List Alg
-in_both set other = algs_where (λ alg. has_member set alg && has_member other alg)
-
+-- the members of one set of algorithms that aren't in another
 abbrev pub in_first : List Alg → List Alg → List Alg
 in_first set other = algs_where (λ alg. has_member set alg && not (has_member other alg))
 
@@ -86,6 +83,10 @@ module _ (bag : Bag) (renewal : Renewal) where
   first_files =
       (if writes_info bag renewal then info_files bag renewal else [])
       ++ unkept bag (payload_manifests bag renewal)
+
+  -- an algorithm whose payload manifest is there, and is removed
+  abbrev pub is_dropped_alg : Alg → Bool
+  is_dropped_alg alg = has_payload_manifest bag alg && has_member renewal.dropped alg
 
   -- the algorithms whose payload manifest is put
   abbrev pub written_algs : List Alg

@@ -1,6 +1,6 @@
 -- What keeps a bag without faults from being renewed (RFC 8493, 2).
 use Rattle.std.specs.Prelude.{ℕ, ◌≡◌, ◌≢◌, ◌⊎◌, ◌==◌, ◌&&◌, ◌||◌, Bool, true, false, not, List, [], ◌∷◌}
-use Rattle.std.specs.Prelude.{◌++◌, Option, Some, Contains, find, map, nat_eq}
+use Rattle.std.specs.Prelude.{◌++◌, Option, None, Some, Contains, find, map, nat_eq, slice_get}
 use Rattle.std.specs.List.{list_any, starts_with}
 use Rattle.bag_text.specs.Bytes.{Name, Path}
 use Rattle.bag_text.specs.Alg.{algs}
@@ -15,7 +15,6 @@ use Rattle.bag_facts.specs.Facts.{IsByV10}
 use Rattle.bag_stages.specs.TagFiles.{Names}
 use Rattle.bag_tags.specs.Writable.{begins_with_mark}
 use Rattle.bag_tree.specs.Bag.{Bag, HasFile, LacksFile, files_of}
-use Rattle.bag_tree.specs.declared.listing.FileEntry.{FileEntry}
 use Rattle.bag_renew.specs.Renewed.{begun_file, keeps, new_algs}
 use Rattle.bag_renew.specs.Telling.{AreUnmarked}
 use Rattle.bag_renew.specs.declared.fault.RenewFault.{RenewFault}
@@ -88,9 +87,19 @@ IsObstacle bag renewal (why.Unnameable path) = first_unnameable bag ≡ Some pat
 IsObstacle bag renewal why.Memory = Unit {0}
 IsObstacle bag renewal fault = ⊥
 
--- among listed files, some stands below the name
+-- the path is below the name
 abbrev pub is_below : Name → Path → Bool
 is_below name path = starts_with nat_eq path (under name [])
 
-abbrev pub has_below : List FileEntry → Name → Bool
-has_below files name = list_any (λ entry. is_below name entry.path) files
+-- a path that begins as those of the payload do, with a d
+abbrev pub is_some_d : Option ℕ → Bool
+is_some_d (Some c) = c == 100
+is_some_d None = false
+
+abbrev pub begins_as_payload : Path → Bool
+begins_as_payload path = is_some_d (slice_get path 0)
+
+-- a path that doesn't, and is below one of these names
+abbrev pub is_below_some : List Name → Path → Bool
+is_below_some names path =
+    not (begins_as_payload path) && list_any (λ name. is_below name path) names

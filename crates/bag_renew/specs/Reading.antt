@@ -108,7 +108,7 @@ MayRefuseReading renewal old new fault =
 pub record AllowsRenewal (facts : Facts) (renewal : Renewal) (algs : List Alg) : Type 0 where
   pub none : HasNoneBefore facts 7
   pub no_obstacle : IfBagRead facts (λ bag. HasNoObstacle bag renewal)
-  pub new : (bag : Bag) → IsFactsOf bag facts → algs ≡ new_algs bag renewal
+  pub new : IfBagRead facts (λ bag. algs ≡ new_algs bag renewal)
 
 -- Or it doesn't: by the first fault; where there is none, by an obstacle; and else by an element
 -- that can't be written. Or memory ran out.

@@ -1,10 +1,13 @@
 //! The algorithms whose manifests a renewed bag has, and which of them are kept.
-ghost use Rattle.std.specs.Prelude.{◌≡◌, ◌&&◌, ◌||◌, not};
+ghost use Rattle.std.specs.Prelude.{◌≡◌, ◌&&◌, not};
 ghost use Rattle.std.specs.List.{list_any};
 ghost use Rattle.bag_text.specs.Alg.{algs as all_algs};
 ghost use Rattle.bag_text.specs.AlgList.{has_member};
-ghost use Rattle.bag_facts.specs.FactsOfBag.{IsFactsOf};
-ghost use Rattle.bag_tree.specs.Bag.{Bag};
+ghost use Rattle.bag_read.specs.ManifestName.{tag_path};
+ghost use Rattle.bag_read.specs.declared.kind.Kind.TheVariants.{Payload};
+ghost use Rattle.bag_read.specs.declared.tag_name.TagName.TheVariants.{Manifest};
+ghost use Rattle.bag_facts.specs.FactsOfBag.{IfBagRead, IsFactsOf};
+ghost use Rattle.bag_tree.specs.Bag.{Bag, has_file};
 ghost use Rattle.bag_renew.specs.Renewed as spec;
 
 use crate::Renewal;
@@ -24,12 +27,11 @@ pub(crate) fn keeps(facts: &Facts) -> bool
 
 /// The algorithms of the renewed bag's manifests.
 pub(crate) fn new_algs(facts: &Facts, renewal: &Renewal) -> AlgSet
-    ensures { (bag : Bag) → IsFactsOf bag facts.now → result ≡ spec.new_algs bag renewal.now }
+    ensures { IfBagRead facts.now (λ bag. result ≡ spec.new_algs bag renewal.now) }
 {
-    let old = facts.algs(Kind::Payload);
     let mut algs = AlgSet::empty();
     for alg in Alg::ALL {
-        if is_new(old, renewal, alg) {
+        if is_new(facts, renewal, alg) {
             algs = algs.with(alg);
         }
     }
@@ -38,16 +40,12 @@ pub(crate) fn new_algs(facts: &Facts, renewal: &Renewal) -> AlgSet
 
 /// Those of them whose payload manifest is kept.
 pub(crate) fn kept_algs(facts: &Facts, renewal: &Renewal) -> AlgSet
-    ensures { (bag : Bag) → IsFactsOf bag facts.now
-        → result ≡ spec.algs_where (spec.is_kept_alg bag renewal.now) }
+    ensures { IfBagRead facts.now (λ bag.
+        result ≡ spec.algs_where (spec.is_kept_alg bag renewal.now)) }
 {
-    let old = facts.algs(Kind::Payload);
     let mut algs = AlgSet::empty();
-    if !keeps(facts) {
-        return algs;
-    }
     for alg in Alg::ALL {
-        if stays(old, renewal, alg) {
+        if is_kept(facts, renewal, alg) {
             algs = algs.with(alg);
         }
     }
@@ -56,26 +54,40 @@ pub(crate) fn kept_algs(facts: &Facts, renewal: &Renewal) -> AlgSet
 
 /// Whether the payload is read: a payload manifest is written.
 pub(crate) fn reads_payload(facts: &Facts, renewal: &Renewal) -> bool
-    ensures { (bag : Bag) → IsFactsOf bag facts.now
-        → result ≡ spec.reads_payload bag renewal.now }
+    ensures { IfBagRead facts.now (λ bag. result ≡ spec.reads_payload bag renewal.now) }
 {
     has_other(new_algs(facts, renewal), kept_algs(facts, renewal))
 }
 
-/// Whether the renewed bag has the manifest of an algorithm, where the bag had these.
-fn is_new(old: AlgSet, renewal: &Renewal, alg: Alg) -> bool
-    ensures { result
-        ≡ ((has_member old alg || has_member renewal.now.added alg)
-        && not (has_member renewal.now.dropped alg)) }
+/// Whether the renewed bag has the manifests of an algorithm.
+fn is_new(facts: &Facts, renewal: &Renewal, alg: Alg) -> bool
+    ensures { IfBagRead facts.now (λ bag. result ≡ spec.is_new_alg bag renewal.now alg) }
 {
-    (has(old, alg) || has(renewal.added, alg)) && !has(renewal.dropped, alg)
+    (has_manifest(facts, Kind::Payload, alg) || has(renewal.added, alg))
+        && !has(renewal.dropped, alg)
 }
 
-/// Whether the bag had the manifest of an algorithm, and it isn't dropped.
-fn stays(old: AlgSet, renewal: &Renewal, alg: Alg) -> bool
-    ensures { result ≡ (has_member old alg && not (has_member renewal.now.dropped alg)) }
+/// Whether its payload manifest is kept.
+fn is_kept(facts: &Facts, renewal: &Renewal, alg: Alg) -> bool
+    ensures { IfBagRead facts.now (λ bag. result ≡ spec.is_kept_alg bag renewal.now alg) }
 {
-    has(old, alg) && !has(renewal.dropped, alg)
+    is_new(facts, renewal, alg) && keeps_manifest(facts, alg)
+}
+
+/// Whether a payload manifest is there, of a bag that keeps what needs no change.
+fn keeps_manifest(facts: &Facts, alg: Alg) -> bool
+    ensures { IfBagRead facts.now (λ bag.
+        result ≡ spec.is_kept bag (tag_path (Manifest Payload alg))) }
+{
+    keeps(facts) && has_manifest(facts, Kind::Payload, alg)
+}
+
+/// Whether a bag has a manifest. It was read then, so that no listing is gone through.
+pub(crate) fn has_manifest(facts: &Facts, kind: Kind, alg: Alg) -> bool
+    ensures { IfBagRead facts.now (λ bag.
+        result ≡ has_file bag (tag_path (Manifest kind alg))) }
+{
+    facts.manifest(kind, alg).is_some()
 }
 
 /// Whether a set has a member that isn't one of the others.

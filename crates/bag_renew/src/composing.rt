@@ -1,7 +1,6 @@
 //! The changes that renew a bag, composed of what was read of it.
 ghost use Rattle.std.specs.Prelude.{◌≡◌, ◌++◌, IfOk, List, OnOk, is_some, map};
-ghost use Rattle.bag_facts.specs.FactsOfBag.{IsFactsOf};
-ghost use Rattle.bag_tree.specs.Bag.{Bag};
+ghost use Rattle.bag_facts.specs.FactsOfBag.{IfBagRead};
 ghost use Rattle.bag_renew.specs.Changes.{put};
 ghost use Rattle.bag_renew.specs.Composed.{IsComposed, PutsFiles};
 ghost use Rattle.bag_renew.specs.Composing.{AreOfFiles, tag_manifests_of};
@@ -42,10 +41,10 @@ pub(crate) fn changes_of(
     summed: Vec<SummedFile>,
     info: Option<Items<u8>>,
 ) -> Result<Vec<FileChange>, AllocError>
-    ensures changes { IfOk result (λ made. (bag : Bag) (files : List File) → IsFactsOf bag facts.now
+    ensures changes { IfOk result (λ made. IfBagRead facts.now (λ bag. (files : List File)
         → AreSummed (new_algs bag renewal.now) files summed.items
         → is_some info ≡ writes_info bag renewal.now
-        → made.items ≡ changes_from bag renewal.now files info) }
+        → made.items ≡ changes_from bag renewal.now files info)) }
     ensures files { IfOk result (λ made. AreOfFiles made.items) }
 {
     let algs = new_algs(facts, renewal).members(alloc)?;
@@ -66,10 +65,10 @@ fn compose(
     summed: Vec<SummedFile>,
     info: Option<Items<u8>>,
 ) -> Result<Composed, AllocError>
-    ensures composed { IfOk result (λ composed. (bag : Bag) (files : List File)
-        → IsFactsOf bag facts.now → AreSummed (new_algs bag renewal.now) files summed.items
+    ensures composed { IfOk result (λ composed. IfBagRead facts.now (λ bag. (files : List File)
+        → AreSummed (new_algs bag renewal.now) files summed.items
         → is_some info ≡ writes_info bag renewal.now
-        → IsComposed bag renewal.now files info composed) }
+        → IsComposed bag renewal.now files info composed)) }
     ensures files { IfOk result PutsFiles }
 {
     let algs = new_algs(facts, renewal);

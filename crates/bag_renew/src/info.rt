@@ -1,10 +1,10 @@
 //! The new `bag-info.txt` (RFC 8493, 2.2.2).
-ghost use Rattle.std.specs.Prelude.{◌≡◌, false, length, All, IfErr, IfOk};
+ghost use Rattle.std.specs.Prelude.{◌≡◌, false, All, IfErr, IfOk};
 ghost use Rattle.std.specs.List.{list_any};
 ghost use Rattle.bag_facts.specs.FactsOfBag.{IfBagRead, IsFactsOf};
 ghost use Rattle.bag_read.specs.Oxum.{oxum_text};
 ghost use Rattle.bag_stages.specs.MetadataStage.{bag_info_txt};
-ghost use Rattle.bag_stages.specs.PayloadSize.{listed_oxum, payload_entries};
+ghost use Rattle.bag_stages.specs.PayloadSize.{listed_oxum};
 ghost use Rattle.bag_tags.specs.OnLines as bad;
 ghost use Rattle.bag_stages.specs.TagFiles.{lines_in};
 ghost use Rattle.bag_text.specs.Lines.{lines_of_file};
@@ -164,33 +164,18 @@ fn labels_and_values(alloc: Global, elements: &[Element]) -> Result<Vec<(Text, T
     Ok(made)
 }
 
-/// The value of `Payload-Oxum`: how many bytes the payload has, a dot, and how many files.
+/// The value of `Payload-Oxum`: how many bytes the payload has, a dot, and how many files. Sizes that
+/// each fit 64 bits need not fit them together.
 fn size_text(alloc: Global, files: &[FileEntry]) -> Result<Text, AllocError>
     ensures { IfOk result (λ text. text ≡ oxum_text (listed_oxum files.now)) }
 {
-    let octets = payload_octets(files);
-    let streams = payload_count(files);
-    Ok(Text::from_string(format!(in alloc; "{octets}.{streams}")?))
-}
-
-/// How many bytes the payload has. Sizes that each fit 64 bits need not fit them together.
-fn payload_octets(files: &[FileEntry]) -> u128
-    ensures { result ≡ (listed_oxum files.now).octets }
-{
     let mut octets: u128 = 0;
+    let mut streams: u64 = 0;
     for entry in files {
         if is_payload(entry.path.as_str()) {
             octets += u128::from(entry.size);
+            streams += 1;
         }
     }
-    octets
-}
-
-fn payload_count(files: &[FileEntry]) -> usize
-    ensures { result ≡ length (payload_entries files.now) }
-{
-    files
-        .iter()
-        .filter(|entry| is_payload(entry.path.as_str()))
-        .count()
+    Ok(Text::from_string(format!(in alloc; "{octets}.{streams}")?))
 }

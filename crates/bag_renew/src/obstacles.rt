@@ -1,6 +1,7 @@
 //! What keeps a bag without faults from being renewed.
 ghost use Rattle.std.specs.Prelude.{◌≡◌, ◌↔◌, ◌&&◌, ◌++◌, not, find, IfErr, IfOk, IsTrue};
 ghost use Rattle.std.specs.Prelude.{MatchOption, OnOk};
+ghost use Rattle.std.specs.List.{list_any};
 ghost use Rattle.std.specs.Option.{option_copied};
 ghost use Rattle.bag_read.specs.ManifestName.{tag_path};
 ghost use Rattle.bag_read.specs.declared.kind.Kind.TheVariants.{Tag};
@@ -26,6 +27,9 @@ pub(crate) const BEGUN_FILE: &str = ".bagit-begun";
 const STAR: u8 = b'*';
 
 const PERCENT: u8 = b'%';
+
+/// The first byte of the payload folder's name.
+const PAYLOAD_START: u8 = b'd';
 
 /// Whether nothing keeps a bag without faults from being renewed; else the first obstacle, in this
 /// order: its version, what it fetches, its algorithms, the names of tag files, and paths that no
@@ -107,7 +111,10 @@ fn name_in_the_way(alloc: Global, facts: &Facts) -> Result<Option<Text>, AllocEr
         return Ok(Some(begun));
     }
     let names = reserved_names(alloc)?;
-    Ok(first_with_below(facts.files(), names))
+    match first_below(facts.files(), &names) {
+        Some(entry) => Ok(first_above(names, entry.path.as_str())),
+        None => Ok(None),
+    }
 }
 
 /// Whether some tag manifest names a path.
@@ -153,22 +160,44 @@ fn push_manifest_names(alloc: Global, names: &mut Vec<Text>, kind: Kind) -> Resu
     Ok(())
 }
 
-/// The first of these names below which a file stands.
-fn first_with_below(files: &[FileEntry], names: Vec<Text>) -> Option<Text>
-    ensures { result ≡ find (spec.has_below files.now) names.items }
-{
-    names
-        .into_iter()
-        .find(|name| has_below(files, name.as_str()))
-}
-
-/// Whether one of the files stands below a name.
-fn has_below(files: &[FileEntry], name: &str) -> bool
-    ensures { result ≡ spec.has_below files.now name.now }
+/// The first of the files that isn't of the payload and stands below one of these names.
+fn first_below<'a>(files: &'a [FileEntry], names: &[Text]) -> Option<&'a FileEntry>
+    ensures { option_copied result
+        ≡ find (λ entry. spec.is_below_some names.now entry.path) files.now }
 {
     files
         .iter()
-        .any(|entry| is_below(name, entry.path.as_str()))
+        .find(|entry| is_below_some(names, entry.path.as_str()))
+}
+
+fn is_below_some(names: &[Text], path: &str) -> bool
+    ensures { result ≡ spec.is_below_some names.now path.now }
+{
+    !begins_as_payload(path) && has_above(names, path)
+}
+
+/// Whether a path begins with a `d`, as that of each payload file does, and no reserved name.
+fn begins_as_payload(path: &str) -> bool
+    ensures { result ≡ spec.begins_as_payload path.now }
+{
+    match path.as_bytes().first() {
+        Some(byte) => *byte == PAYLOAD_START,
+        None => false,
+    }
+}
+
+/// Whether a path is below one of these names.
+fn has_above(names: &[Text], path: &str) -> bool
+    ensures { result ≡ list_any (λ name. spec.is_below name path.now) names.now }
+{
+    names.iter().any(|name| is_below(name.as_str(), path))
+}
+
+/// The first of these names that a path is below.
+fn first_above(names: Vec<Text>, path: &str) -> Option<Text>
+    ensures { result ≡ find (λ name. spec.is_below name path.now) names.items }
+{
+    names.into_iter().find(|name| is_below(name.as_str(), path))
 }
 
 fn is_below(name: &str, path: &str) -> bool

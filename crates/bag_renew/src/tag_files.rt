@@ -1,10 +1,9 @@
 //! Which tag files are kept, and the texts of those that are put.
-ghost use Rattle.std.specs.Prelude.{◌≡◌, ◌++◌, bytes_eq, not, IfOk, map};
-ghost use Rattle.std.specs.List.{list_any};
+ghost use Rattle.std.specs.Prelude.{◌≡◌, ◌++◌, not, IfOk, map};
 ghost use Rattle.bag_read.specs.ManifestName.{tag_path};
 ghost use Rattle.bag_read.specs.declared.kind.Kind.TheVariants as kind;
 ghost use Rattle.bag_read.specs.declared.tag_name.TagName.TheVariants as tag;
-ghost use Rattle.bag_facts.specs.FactsOfBag.{IsFactsOf};
+ghost use Rattle.bag_facts.specs.FactsOfBag.{IfBagRead, IsFactsOf};
 ghost use Rattle.bag_tags.specs.Declaration.{declaration_text};
 ghost use Rattle.bag_tree.specs.Bag.{Bag, has_file};
 ghost use Rattle.bag_renew.specs.Changes.{put};
@@ -21,7 +20,6 @@ use bag_facts::Facts;
 use bag_read::{Kind, TagName};
 use bag_tags::write_declaration;
 use bag_text::{Alg, Items, Text};
-use bag_tree::FileEntry;
 use std::alloc::{AllocError, Global};
 
 pub(crate) const DECLARATION: &str = "bagit.txt";
@@ -35,9 +33,9 @@ pub(crate) fn kept_names(
     renewal: &Renewal,
     keeps_info: bool,
 ) -> Result<Vec<TagName>, AllocError>
-    ensures { IfOk result (λ names. (bag : Bag) → IsFactsOf bag facts.now
-        → keeps_info ≡ not (writes_info bag renewal.now)
-        → names.items ≡ spec.kept_names bag renewal.now) }
+    ensures { IfOk result (λ names. IfBagRead facts.now (λ bag.
+        keeps_info ≡ not (writes_info bag renewal.now)
+        → names.items ≡ spec.kept_names bag renewal.now)) }
 {
     let algs = kept_algs(facts, renewal).members(alloc)?;
     let mut names = manifest_names(alloc, &algs)?;
@@ -64,9 +62,9 @@ pub(crate) fn first_files(
     payload: &[SummedFile],
     info: Option<Items<u8>>,
 ) -> Result<Vec<(Text, Items<u8>)>, AllocError>
-    ensures texts { IfOk result (λ made. (bag : Bag) → IsFactsOf bag facts.now
-        → made.items ≡ with_path (tag_path tag.Info) info
-        ++ manifests_of (spec.written_algs bag renewal.now) payload.now) }
+    ensures texts { IfOk result (λ made. IfBagRead facts.now (λ bag.
+        made.items ≡ with_path (tag_path tag.Info) info
+        ++ manifests_of (spec.written_algs bag renewal.now) payload.now)) }
     ensures files { IfOk result (λ made. spec.AreOfFiles (map put made.items)) }
 {
     let algs = members_of_first(alloc, new_algs(facts, renewal), kept_algs(facts, renewal))?;
@@ -117,15 +115,12 @@ fn keeps_declaration(facts: &Facts) -> bool
     keeps(facts) && is_listed(facts, DECLARATION)
 }
 
-/// Whether a file is listed.
+/// Whether a file is listed, found in time log n of all files.
 pub(crate) fn is_listed(facts: &Facts, path: &str) -> bool
     ensures { (bag : Bag) → IsFactsOf bag facts.now → result ≡ has_file bag path.now }
 {
-    has_path(facts.files(), path)
-}
-
-fn has_path(files: &[FileEntry], path: &str) -> bool
-    ensures { result ≡ list_any (λ file. bytes_eq file.path path.now) files.now }
-{
-    files.iter().any(|file| file.path.as_str() == path)
+    facts
+        .files()
+        .binary_search_by(|entry| entry.path.as_str().cmp(path))
+        .is_ok()
 }

@@ -10,6 +10,6 @@ returns-in-None c = λ bag of deep.
     no_obstacle bag c.args.renewal.now c.args.facts.now of
     (sym (c.stays_old.ensures bag of) ∙ c.if-stays_old.false)
     (sym (c.has_old_fetch.ensures bag of deep) ∙ c.if-has_old_fetch.false)
-    (λ e. false≢true (sym c.if-is_empty.false ∙ c.is_empty.ensures.1 (c.new_algs.ensures bag of ∙ e)))
+    (λ e. false≢true (sym c.if-is_empty.false ∙ c.is_empty.ensures.1 (c.new_algs.ensures bag of deep ∙ e)))
     free.0 free.1
     (sym (c.in_ok-path.ensures bag of) ∙ c.in-None.is)

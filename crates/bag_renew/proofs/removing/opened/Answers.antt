@@ -1,18 +1,13 @@
-use Rattle.bag_renew.proofs.Common.{◌≡◌, ◌∙◌, ◌++◌, ◌∷◌, [], ap, cond, has_member, has_tag_manifest, Remove, Tag}
+use Rattle.bag_renew.proofs.Common.{◌≡◌, ◌∙◌, ◌++◌, ◌∷◌, [], ap, cond, Remove, Tag}
 use Rattle.bag_renew.specs.Composing.{removals_of}
 use Rattle.bag_renew.specs.Changes.{opening}
-use Rattle.bag_renew.proofs.AlgsMade.{is_had}
-use Rattle.bag_renew.proofs.Passing.{same_where}
 use Rattle.bag_renew.proofs.OfFiles.{opened_of_files}
 use Rattle.bag_renew.proofs.removing.opened.Goals as goal
 
 pub returns-clause-changes : goal.returns-clause-changes
-returns-clause-changes c = λ bag renewal of.
-    let set = c.algs.result in
+returns-clause-changes c = λ bag of deep renewal.
     let removed : c.in_ok-changes.changes.items ≡ opening bag renewal =
-    c.in_ok-changes.ensures ∙ ap (removals_of Tag) (c.deref.ensures.value ∙ c.in_ok-there.ensures
-    ∙ same_where (has_member set) (has_tag_manifest bag) (λ alg.
-    is_had set alg (has_tag_manifest bag alg) (c.algs.ensures bag of alg))) in
+    c.in_ok-changes.ensures ∙ ap (removals_of Tag) (c.deref.ensures.value ∙ c.in_ok-there.ensures bag of deep) in
     c.in_ok-push_where.ensures
     ∙ (λ j. removed j ++ cond (c.is_listed.ensures bag of j) (Remove (c.in_ok-from_str.ensures j) ∷ []) [])
 

@@ -1,0 +1,10 @@
+use Rattle.bag_renew.proofs.Common.{◌≡◌, ◌≤◌, take}
+use Rattle.std.proofs.Common.{◌-◌, ◌*◌, ◌^◌}
+use Rattle.bag_stages.specs.PayloadSize.{listed_oxum}
+use Rattle.bag_renew.proofs.info.size_text.Given as goal
+
+abbrev pub invariant-loop-entry : goal.invariant-loop-entry
+invariant-loop-entry l =
+    (l.octets ≡ (listed_oxum (take l.entry-index l.files)).octets)
+    × (l.streams ≡ (listed_oxum (take l.entry-index l.files)).streams)
+    × (l.octets ≤ l.entry-index * (2 ^ 64 - 1)) × (l.streams ≤ l.entry-index)
