@@ -260,6 +260,7 @@ refuses '--set takes LABEL=VALUE' --set Contact-Name d
 refuses '--append takes LABEL=VALUE' --append '' d
 refuses '--print takes an algorithm, as sha512' --print sha d
 refuses '--print takes one directory' --print sha512 d d
+refuses "a word isn't UTF-8" $'\xff' d
 for words in '--add sha512' '--drop md5' '--set a=b' '--unset a' '--append a=b' --to-1.0 --dry-run; do
     # shellcheck disable=SC2086
     refuses '--print takes no other option but --quiet' --print sha512 $words d

@@ -1,5 +1,5 @@
 -- What the whole program does, and which folders it looks into meanwhile.
-use Rattle.std.specs.Prelude.{ℕ, ◌≡◌, ◌⊎◌, true, List, Result, Ok, Err, drop}
+use Rattle.std.specs.Prelude.{ℕ, ◌≡◌, ◌⊎◌, true, List, Result, Ok, Err, codes, drop}
 use Rattle.bag_tree.specs.Out.{OutState}
 use Rattle.bag_arguments.specs.Plan.{usage_status as status_without_words}
 use Rattle.bag_arguments.specs.declared.usage.Usage.{Usage}
@@ -11,6 +11,7 @@ use Rattle.bag_renew_cli.specs.Renewals.{IsPerformed}
 use Rattle.bag_renew_cli.specs.Words.{clap_takes}
 use Rattle.bag_renew_cli.specs.declared.plan.RenewPlan.{RenewPlan}
 use Rattle.bag_renew_cli.specs.declared.usage.RenewUsage.{RenewUsage}
+use Rattle.bag_renew_cli.specs.declared.usage.RenewUsage.TheVariants.{Memory, Refused}
 
 -- a plan was performed; where the words are refused, nothing is written
 abbrev pub IsPlanPerformed : Below → Result RenewPlan RenewUsage → Deed
@@ -38,6 +39,11 @@ IsProgramOrNone below words before after visits n =
 abbrev pub is_usage_of : Usage → RenewUsage → Type 0
 is_usage_of usage told =
     (usage_status told ≡ status_without_words usage) ⊎ (usage_status told ≡ 3)
+
+-- it is told so: a word isn't UTF-8, or memory ran out
+abbrev pub IsUnread : RenewUsage → Type 0
+IsUnread usage =
+    (usage ≡ Refused (codes "bagit-renew: a word isn't UTF-8\n")) ⊎ (usage ≡ Memory)
 
 -- where there are no words, nothing is written; else what they ask for without the program's name
 -- was done

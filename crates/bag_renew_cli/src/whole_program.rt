@@ -2,13 +2,14 @@
 ghost use Rattle.bag_arguments.specs.Words.{texts_of_words};
 ghost use Rattle.bag_cli.specs.Folders.{disks_of};
 ghost use Rattle.bag_cli.specs.InTurn.{Does};
-ghost use Rattle.bag_renew_cli.specs.Program.{IsProgram, IsWholeProgram, is_usage_of};
+ghost use Rattle.bag_renew_cli.specs.Program.{IsProgram, IsUnread, IsWholeProgram, is_usage_of};
 
 use crate::performing::perform;
+use crate::said::WORD_NOT_UTF8;
 use crate::{RenewUsage, refuse_words, renewal_of};
 use bag_arguments::Usage;
 use bag_cli::{Disks, Folders, Visits, Words, asked_words, texts_of};
-use bag_text::{Text, said};
+use bag_text::Text;
 use bag_tree::Out;
 use std::alloc::{AllocError, Global};
 
@@ -58,14 +59,14 @@ pub fn run_renewal<R: Words + AllocGlobal, D: Disks, O: Out, E: Out>(
     }
 }
 
-/// Why there are no words: one of them isn't UTF-8, or memory ran out.
+/// Why there are no words, as this program says it: one of them isn't UTF-8, or memory ran out.
 fn usage_without_words(alloc: Global, usage: Usage) -> RenewUsage
-    ensures { is_usage_of usage result }
+    ensures status { is_usage_of usage result }
+    ensures said { IsUnread result }
 {
     match usage {
-        Usage::Refused(text) => RenewUsage::Refused(text),
         Usage::Memory => RenewUsage::Memory,
-        _ => match Text::from_str(alloc, said::WORD_NOT_UTF8) {
+        _ => match Text::from_str(alloc, WORD_NOT_UTF8) {
             Ok(text) => RenewUsage::Refused(text),
             Err(AllocError) => RenewUsage::Memory,
         },

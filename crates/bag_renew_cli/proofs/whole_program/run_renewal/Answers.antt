@@ -11,12 +11,12 @@ returns-in-Err g c = (
     | inl answered ↦ inr (
       Err c.in-Err.usage,
       answered,
-      (elim c.usage_without_words.ensures [
+      (elim c.usage_without_words.ensures.status [
         | inl same ↦ inl (c.refuse_words.ensures.status ∙ same, refl, refl)
         | inr memory ↦ inr (c.refuse_words.ensures.status ∙ memory, refl, refl)
       ]),
     )
-    | inr memory ↦ elim c.usage_without_words.ensures [
+    | inr memory ↦ elim c.usage_without_words.ensures.status [
       | inl same ↦ inl (c.refuse_words.ensures.status ∙ same ∙ ap usage_status memory, refl, refl)
       | inr three ↦ inl (c.refuse_words.ensures.status ∙ three, refl, refl)
     ]
