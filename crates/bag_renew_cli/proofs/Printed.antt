@@ -9,6 +9,7 @@ use Rattle.bag_stages.specs.Payload.{payload}
 use Rattle.bag_tree.specs.Tree.{Keeps, TreeState}
 use Rattle.bag_tree.specs.Out.{IsCut}
 use Rattle.bag_renew.specs.NewManifests.{AreOfSameBytes, manifests_for}
+use Rattle.bag_renew.specs.Openings.{OpensAllInTurn}
 use Rattle.bag_renew.specs.Renewed.{File, manifest}
 use Rattle.bag_renew.specs.Valid.{HasNoFault}
 use Rattle.bag_renew_cli.specs.Printing.{IsPrinting, text_of}
@@ -25,13 +26,14 @@ one_alg Sha512 = refl
 
 module _ (alg : Alg) (algs : List Alg) (is : algs ≡ alg ∷ []) (old new : TreeState) (before after : OutState)
     (reported : Result ℕ Refused) (made : List File) where
-  pub printed : Keeps old new → AreOfSameBytes algs made → (IsTrue old.honest → HasNoFault old.bag)
+  pub printed : Keeps old new → OpensAllInTurn old new → AreOfSameBytes algs made → (IsTrue old.honest → HasNoFault old.bag)
       → (IsTrue old.honest → made ≡ manifests_for algs (payload old.bag))
       → MatchResult reported (λ n. (n ≡ 0) × Appends before.taken after.taken (flat_map text_of made))
       (λ _. IsCut before.taken after.taken (flat_map text_of made) × (after.has_refused ≡ true))
       → IsPrinting alg old new before after reported
-  printed keeps same valid manifests reports = record {
+  printed keeps opens same valid manifests reports = record {
     keeps = keeps;
+    opens = opens;
     printed = inl (record {
       made = made;
       same_bytes = subst (λ some. AreOfSameBytes some made) is same;

@@ -8,6 +8,7 @@ use Rattle.bag_tree.specs.Out.{IsCut, OutState}
 use Rattle.bag_tree.specs.Tree.{Keeps, TreeState}
 use Rattle.bag_tree.specs.declared.out.Refused.{Refused}
 use Rattle.bag_renew.specs.NewManifests.{AreOfSameBytes, IsRefusedFor}
+use Rattle.bag_renew.specs.Openings.{OpensAllInTurn, OpensBeforeFiles}
 use Rattle.bag_renew.specs.Renewed.{File, manifest}
 use Rattle.bag_renew.specs.Stops.{MayStopUnchecked}
 use Rattle.bag_renew.specs.Valid.{HasNoFault}
@@ -47,12 +48,15 @@ pub record IsNotPrinted (old new : TreeState) (before after : OutState)
   pub unchecked : Unchecked
   pub stopped : MayStopUnchecked old new unchecked
   pub refused : IsTrue old.honest → IsRefusedFor old.bag unchecked
+  pub opens_before : OpensBeforeFiles old new unchecked
   pub unwritten : after ≡ before
   pub reports : MatchResult reported (is_status_of unchecked) (λ _. ⊥)
 
--- The bag stays as it is, and its new manifest is written where it has no fault.
+-- The bag stays as it is, files are opened in turn, each payload file once at most, and its new
+-- manifest is written where it has no fault.
 pub record IsPrinting (alg : Alg) (old new : TreeState) (before after : OutState)
     (reported : Result ℕ Refused) : Type 0 where
   pub keeps : Keeps old new
+  pub opens : OpensAllInTurn old new
   pub printed : IsPrinted alg old new before after reported
       ⊎ IsNotPrinted old new before after reported

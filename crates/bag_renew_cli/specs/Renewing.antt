@@ -6,6 +6,7 @@ use Rattle.bag_tree.specs.Out.{IsCut, OutState}
 use Rattle.bag_tree.specs.Tree.{Keeps, TreeState}
 use Rattle.bag_tree.specs.declared.file_change.FileChange.{FileChange}
 use Rattle.bag_tree.specs.declared.out.Refused.{Refused}
+use Rattle.bag_renew.specs.Openings.{OpensBefore, OpensForRenewal}
 use Rattle.bag_renew.specs.Reading.{MayRefuseReading}
 use Rattle.bag_renew.specs.Renew.{HasPlanned, IsRenewal}
 use Rattle.bag_renew.specs.declared.fault.RenewFault.{RenewFault}
@@ -36,11 +37,13 @@ abbrev pub ReportsPlan : List ℕ → Result (List FileChange) RenewFault → Bo
 ReportsPlan name planned quiet = Reports (planned_lines name planned quiet) (plan_status planned)
 
 -- what would be put and removed, or why nothing is, was reported under this name; the bag stays as
--- it is
+-- it is, and files are opened as for a renewal
 pub record IsDryRun (name : List ℕ) (renewal : Renewal) (quiet : Bool)
     (old new : TreeState) (before after : OutState) (reported : Result ℕ Refused) : Type 0 where
   pub planned : Result (List FileChange) RenewFault
   pub keeps : Keeps old new
   pub is_planned : IfOk planned (HasPlanned renewal old new)
   pub refused : IfErr planned (MayRefuseReading renewal old new)
+  pub opens : OpensForRenewal renewal old new
+  pub opens_before : IfErr planned (OpensBefore old new)
   pub reports : ReportsPlan name planned quiet before after reported
