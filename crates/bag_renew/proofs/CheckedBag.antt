@@ -39,6 +39,7 @@ use Rattle.bag_stages.proofs.PartFaults.{parts_of_stage_two}
 use Rattle.bag_stages.proofs.ValidityFaults.{validity_of_stage_seven}
 use Rattle.bag_stages.specs.ValidityStage.{Differs, IsOfValidity, ValidityHolds}
 use Rattle.bag_tags.specs.Entry.{NewEntry, manifest_text}
+use Rattle.bag_tags.specs.Summed.{manifests_of, summed_entry}
 use Rattle.bag_tree.specs.Digest.{digest}
 use Rattle.bag_tree.specs.DigestsOf.{sum_at}
 use Rattle.bag_tree.specs.Bag.{IsBag}
@@ -50,7 +51,7 @@ use Rattle.bag_renew.specs.Compared.{AreCompared}
 use Rattle.bag_renew.specs.FirstFaults.{HasNoneBefore, IsFoundFirst}
 use Rattle.bag_renew.specs.NewManifests.{AreOfSameBytes, HasChecked, HasCheckedAll, HasFault, IsRefusedFor}
 use Rattle.bag_renew.specs.NewManifests.{OpensRead, OpensTwice}
-use Rattle.bag_renew.specs.NewManifests.{manifests_for, manifests_of, summed_entry}
+use Rattle.bag_renew.specs.NewManifests.{manifests_for}
 use Rattle.bag_renew.specs.Renewed.{entries_of}
 use Rattle.bag_renew.specs.Summed.{AreChecked, AreSummed, IsFaultyFile, IsRight, files_to_read}
 use Rattle.bag_tree.specs.Listing.{entry_of_file}
@@ -58,7 +59,7 @@ use Rattle.bag_renew.specs.Summed.{is_to_read, payload_of, to_read}
 use Rattle.bag_renew.specs.Valid.{HasNoFault, IsDamage, full}
 use Rattle.bag_renew.specs.declared.checked.Unchecked.{Unchecked}
 use Rattle.bag_renew.specs.declared.checked.Unchecked.TheVariants.{Faulty, Stopped}
-use Rattle.bag_renew.specs.declared.summed.SummedFile.{SummedFile}
+use Rattle.bag_tags.specs.declared.summed.SummedFile.{SummedFile}
 
 -- a path that a tag manifest names isn't of the payload, and is read
 tag_by : (b with_payload : Bool) → ◌≡◌ {A = Kind} (cond b Payload Tag) Tag → (with_payload || not b) ≡ true
@@ -222,14 +223,14 @@ module _ (algs : List Alg) (alg : Alg) (has : Contains algs alg) where
 
 module _ (algs : List Alg) (files : List File) (summed : List SummedFile) (are : AreSummed algs files summed) where
   pub manifests_some : (some : List Alg) → ((alg : Alg) → Contains some alg → Contains algs alg)
-      → manifests_of some (filter (λ one. is_payload_path one.path) summed) ≡ manifests_for some (payload_of files)
+      → manifests_of Payload some (filter (λ one. is_payload_path one.path) summed) ≡ manifests_for some (payload_of files)
   manifests_some [] has = refl
   manifests_some (alg ∷ some) has =
       let entries = entries_are algs alg (has alg (contains_first alg some)) files summed are in
       let others = manifests_some some (λ other c. has other (contains_behind alg some other c)) in
       λ i. (tag_path (Manifest Payload alg), manifest_text (entries i)) ∷ others i
 
-  pub manifests_are : manifests_of algs (filter (λ one. is_payload_path one.path) summed)
+  pub manifests_are : manifests_of Payload algs (filter (λ one. is_payload_path one.path) summed)
       ≡ manifests_for algs (payload_of files)
   manifests_are = manifests_some algs (λ alg has. has)
 
@@ -322,7 +323,7 @@ module _ (facts : Facts) (with_payload : Bool) (algs : List Alg) (old new : Tree
 module _ (algs : List Alg) (old new : TreeState) (summed : List SummedFile)
     (all : HasCheckedAll algs old new summed) where
   -- the manifests are those of its payload, whatever tree it is
-  pub same_bytes : (made : List File) → made ≡ manifests_of algs (filter (λ one. is_payload_path one.path) summed)
+  pub same_bytes : (made : List File) → made ≡ manifests_of Payload algs (filter (λ one. is_payload_path one.path) summed)
       → AreOfSameBytes algs made
   same_bytes made is = record {
     bag = all.2.seen.0;
@@ -334,7 +335,7 @@ module _ (algs : List Alg) (old new : TreeState) (summed : List SummedFile)
 
   module _ (honest : IsTrue old.honest) where
     pub of_the_bag : (made : List File)
-        → made ≡ manifests_of algs (filter (λ one. is_payload_path one.path) summed)
+        → made ≡ manifests_of Payload algs (filter (λ one. is_payload_path one.path) summed)
         → made ≡ manifests_for algs (payload old.bag)
     of_the_bag made is =
         is ∙ manifests_are algs (files_to_read true (files_of old.bag)) summed

@@ -4,8 +4,7 @@ use Rattle.bag_renew.proofs.Common.{filter, is_some, sym, ap, subst, append_asso
 use Rattle.bag_renew.proofs.Common.{or_right, Tag, Manifest, tag_path, Bag, files_of, File, FileChange, changes}
 use Rattle.bag_renew.proofs.Common.{clearing, cond, dropping, opening, put, info_files, manifest}
 use Rattle.bag_renew.proofs.Common.{named_tag_files, new_algs, payload_manifests, unkept}
-use Rattle.bag_renew.proofs.Common.{writes_info, Alg, Info, Renewal, [], is_payload_path}
-use Rattle.std.proofs.lemmas.Simd.{map-map}
+use Rattle.bag_renew.proofs.Common.{writes_info, Alg, Info, Payload, Renewal, [], is_payload_path}
 use Rattle.bag_renew.proofs.CheckedBag.{manifests_some}
 use Rattle.bag_renew.proofs.NamedFiles.{all_named, old_files}
 use Rattle.bag_renew.proofs.SummedFiles.{filter_within, passing_summed}
@@ -13,11 +12,11 @@ use Rattle.bag_renew.proofs.WrittenManifests.{info_put, manifests_put, tag_manif
 use Rattle.bag_renew.specs.Composing.{AreInPathOrder, first_files, is_tag_file, is_tag_path}
 use Rattle.bag_renew.specs.Composing.{keeps_bytes, kept_names, last_files, of_path, tag_manifests_of, written_algs}
 use Rattle.bag_renew.specs.NewInfo.{IsInfoAfter, IsNewInfo}
-use Rattle.bag_renew.specs.NewManifests.{manifests_of}
+use Rattle.bag_tags.specs.Summed.{manifests_of}
 use Rattle.bag_renew.specs.Planned.{changes_from, first_from, kept_from, named_from, tag_manifests_from}
 use Rattle.bag_renew.specs.Renewed.{in_path_order, reads_payload, with_path}
 use Rattle.bag_renew.specs.Summed.{AreSummed, files_to_read, is_to_read}
-use Rattle.bag_renew.specs.declared.summed.SummedFile.{SummedFile}
+use Rattle.bag_tags.specs.declared.summed.SummedFile.{SummedFile}
 
 turned : (a b : Bool) → b ≡ not a → a ≡ not b
 turned true b is = sym (ap not is)
@@ -43,12 +42,12 @@ module _ (bag : Bag) (renewal : Renewal) where
     -- the files that are put first
     pub first_is : (summed payload : List SummedFile) (first : List File)
         → AreSummed (new_algs bag renewal) files summed → payload ≡ filter (of_path is_payload_path) summed
-        → first ≡ with_path (tag_path Info) info ++ manifests_of (written_algs bag renewal) payload
+        → first ≡ with_path (tag_path Info) info ++ manifests_of Payload (written_algs bag renewal) payload
         → first ≡ first_from bag renewal files info
     first_is summed payload first are some is =
         is
         ∙ ap (λ xs. with_path (tag_path Info) info ++ xs)
-        (ap (manifests_of (written_algs bag renewal)) some
+        (ap (manifests_of Payload (written_algs bag renewal)) some
         ∙ manifests_some (new_algs bag renewal) files summed are (written_algs bag renewal)
         (written_is_new bag renewal))
 
@@ -77,9 +76,7 @@ module _ (bag : Bag) (renewal : Renewal) where
         → tag_manifests_of algs named ≡ map put (tag_manifests_from bag renewal files info)
     tag_manifests_put algs named new are =
         ap (λ some. tag_manifests_of some named) new
-        ∙ tag_manifests_are (new_algs bag renewal) (named_from bag renewal files info) named are
-        ∙ sym (map-map put (λ (alg : Alg). (tag_path (Manifest Tag alg), manifest alg (named_from bag renewal files info)))
-        (new_algs bag renewal))
+        ∙ ap (map put) (tag_manifests_are (new_algs bag renewal) (named_from bag renewal files info) named are)
 
     -- the changes
     pub changes_are : (made before first gone last manifests : List FileChange)

@@ -22,7 +22,7 @@ use Rattle.bag_renew.specs.Openings.{IsOfSeventh, OpensFirstToRead}
 use Rattle.bag_renew.specs.Summed.{IsNoMemory, is_to_read, to_read}
 use Rattle.bag_renew.specs.declared.checked.Unchecked.{Unchecked}
 use Rattle.bag_renew.specs.declared.checked.Unchecked.TheVariants.{Faulty, Stopped}
-use Rattle.bag_renew.specs.declared.summed.SummedFile.{SummedFile}
+use Rattle.bag_tags.specs.declared.summed.SummedFile.{SummedFile}
 
 module _ (with_payload : Bool) (files : List FileEntry) (old new : TreeState) where
   abbrev front : ℕ → List (List ℕ)
@@ -88,3 +88,6 @@ seventh_of_bytes state entry expected (Faulty fault) (content, rest, read, same)
 pub seventh_for_memory : (e : Unchecked) → IsNoMemory e → IsOfSeventh e
 seventh_for_memory (Stopped stop) h = tt
 seventh_for_memory (Faulty fault) h = absurd h
+
+-- for the checking of files, and of one of them
+pub ruleset opening = (opens_none, seventh_of_bytes, seventh_for_memory)

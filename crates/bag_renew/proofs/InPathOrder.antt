@@ -10,7 +10,7 @@ use Rattle.std.specs.declared.cmp.Ordering.TheVariants.{Equal, Greater, Less}
 use Rattle.bag_renew.specs.Composing.{AreInPathOrder, summed_of}
 use Rattle.bag_renew.specs.Renewed.{in_path_order}
 use Rattle.bag_renew.specs.Summed.{AreSummed, HasItsSums}
-use Rattle.bag_renew.specs.declared.summed.SummedFile.{SummedFile}
+use Rattle.bag_tags.specs.declared.summed.SummedFile.{SummedFile}
 
 -- a path, and the digests of a file
 abbrev pub Entry : Type 0

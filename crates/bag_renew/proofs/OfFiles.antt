@@ -4,10 +4,10 @@ use Rattle.bag_renew.proofs.Common.{map, refl, sym, subst, All-append, All-cons,
 use Rattle.bag_renew.proofs.Common.{in_base, Info, Declaration, Manifest, Payload, Tag, TagName, Kind, tag_path, Alg}
 use Rattle.bag_renew.proofs.Common.{File, FileChange, Put, Remove, begun_file, put, with_path}
 use Rattle.bag_tags.specs.Entry.{manifest_text}
+use Rattle.bag_tags.specs.Summed.{manifests_of, summed_entry}
 use Rattle.bag_tree.specs.ChangeFiles.{IsOfFile}
 use Rattle.bag_renew.specs.Composing.{AreOfFiles, removals_of, tag_manifests_of}
-use Rattle.bag_renew.specs.NewManifests.{manifests_of, summed_entry}
-use Rattle.bag_renew.specs.declared.summed.SummedFile.{SummedFile}
+use Rattle.bag_tags.specs.declared.summed.SummedFile.{SummedFile}
 use Rattle.bag_renew.proofs.Staying.{no_begun}
 
 -- a tag file is put
@@ -36,14 +36,15 @@ removals_of_files kind algs =
 abbrev text_for : Alg → List SummedFile → List ℕ
 text_for alg files = manifest_text (map (summed_entry alg) files)
 
-pub tag_manifests_of_files : (algs : List Alg) (files : List SummedFile) → AreOfFiles (tag_manifests_of algs files)
-tag_manifests_of_files algs files = each_of_file
-    (λ (alg : Alg). Put (tag_path (Manifest Tag alg)) (text_for alg files)) (λ alg. tag_put (Manifest Tag alg) (text_for alg files)) algs
+manifests_of_files : (kind : Kind) (algs : List Alg) (files : List SummedFile)
+    → AreOfFiles (map put (manifests_of kind algs files))
+manifests_of_files kind [] files = none_of_files
+manifests_of_files kind (alg ∷ algs) files =
+    All-cons (IsOfFile begun_file) _ _ (tag_put (Manifest kind alg) (text_for alg files))
+    (manifests_of_files kind algs files)
 
-manifests_of_files : (algs : List Alg) (files : List SummedFile) → AreOfFiles (map put (manifests_of algs files))
-manifests_of_files [] files = none_of_files
-manifests_of_files (alg ∷ algs) files =
-    All-cons (IsOfFile begun_file) _ _ (tag_put (Manifest Payload alg) (text_for alg files)) (manifests_of_files algs files)
+pub tag_manifests_of_files : (algs : List Alg) (files : List SummedFile) → AreOfFiles (tag_manifests_of algs files)
+tag_manifests_of_files algs files = manifests_of_files Tag algs files
 
 info_of_files : (info : Option (List ℕ)) → AreOfFiles (map put (with_path (tag_path Info) info))
 info_of_files None = none_of_files
@@ -51,11 +52,12 @@ info_of_files (Some text) = one_of_files (Put (tag_path Info) text) (tag_put Inf
 
 -- the files that are put first
 pub first_of_files : (made : List File) (info : Option (List ℕ)) (algs : List Alg) (files : List SummedFile)
-    → made ≡ with_path (tag_path Info) info ++ manifests_of algs files → AreOfFiles (map put made)
+    → made ≡ with_path (tag_path Info) info ++ manifests_of Payload algs files → AreOfFiles (map put made)
 first_of_files made info algs files is =
     let some = with_path (tag_path Info) info in
-    subst AreOfFiles (sym ((λ i. map put (is i)) ∙ map-append put some (manifests_of algs files)))
-    (both_of_files (map put some) (map put (manifests_of algs files)) (info_of_files info) (manifests_of_files algs files))
+    subst AreOfFiles (sym ((λ i. map put (is i)) ∙ map-append put some (manifests_of Payload algs files)))
+    (both_of_files (map put some) (map put (manifests_of Payload algs files)) (info_of_files info)
+    (manifests_of_files Payload algs files))
 
 -- and last
 pub last_of_files : (made : List File) (file : File) (text : List ℕ) (b : Bool) → file ≡ (tag_path Declaration, text)

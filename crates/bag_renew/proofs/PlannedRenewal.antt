@@ -17,7 +17,7 @@ use Rattle.bag_renew.specs.Renewed.{reads_payload}
 use Rattle.bag_renew.specs.Request.{is_bad_request}
 use Rattle.bag_renew.specs.Summed.{AreSummed, files_to_read}
 use Rattle.bag_renew.specs.declared.fault.RenewFault.TheVariants.{Memory}
-use Rattle.bag_renew.specs.declared.summed.SummedFile.{SummedFile}
+use Rattle.bag_tags.specs.declared.summed.SummedFile.{SummedFile}
 use Rattle.bag_renew.proofs.ComposedChanges.{changes_of_bag, has_info}
 use Rattle.bag_renew.proofs.ReadForRenewal.{deep, new_info, read_for_renewal}
 

@@ -42,7 +42,7 @@ use Rattle.bag_renew.specs.declared.checked.Unchecked.{Unchecked}
 use Rattle.bag_renew.specs.declared.checked.Unchecked.TheVariants as checked
 use Rattle.bag_renew.specs.declared.fault.RenewFault.{RenewFault}
 use Rattle.bag_renew.specs.declared.fault.RenewFault.TheVariants as why
-use Rattle.bag_renew.specs.declared.summed.SummedFile.{SummedFile}
+use Rattle.bag_tags.specs.declared.summed.SummedFile.{SummedFile}
 
 -- ---- a stop
 

@@ -23,7 +23,7 @@ use Rattle.bag_renew.specs.Valid.{HasGoodElements, full}
 use Rattle.bag_renew.specs.declared.fault.RenewFault.{RenewFault}
 use Rattle.bag_renew.specs.declared.fault.RenewFault.TheVariants as why
 use Rattle.bag_renew.specs.declared.renewal.ElementChanges.{ElementChanges}
-use Rattle.bag_renew.specs.declared.summed.SummedFile.{SummedFile}
+use Rattle.bag_tags.specs.declared.summed.SummedFile.{SummedFile}
 
 left_false : (a b : Bool) → (a || b) ≡ false → a ≡ false
 left_false false b none = refl

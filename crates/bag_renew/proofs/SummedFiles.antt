@@ -1,10 +1,10 @@
 -- Files with their digests: one more, some more, and those that pass a test.
-use Rattle.bag_renew.proofs.Common.{◌≡◌, ◌<◌, ◌+◌, ◌++◌, ◌∷◌, ℕ, Bool, true, false, cond, List, [], length, take}
-use Rattle.bag_renew.proofs.Common.{get_or, filter, refl, sym, ap, subst, ◌∙◌, false≢true, Alg, File}
-use Rattle.bag_facts.proofs.Mapped.{take_one_more}
+use Rattle.bag_renew.proofs.Common.{◌≡◌, ◌++◌, ◌∷◌, ℕ, Bool, true, false, cond, List, []}
+use Rattle.bag_renew.proofs.Common.{filter, refl, sym, ap, subst, ◌∙◌, false≢true, Alg, File}
+use Rattle.bag_tags.specs.Summed as exact
 use Rattle.bag_renew.specs.Composing.{of_path}
 use Rattle.bag_renew.specs.Summed.{AreSummed, HasItsSums}
-use Rattle.bag_renew.specs.declared.summed.SummedFile.{SummedFile}
+use Rattle.bag_tags.specs.declared.summed.SummedFile.{SummedFile}
 
 -- those that pass a test, of those that pass a wider one
 module _ {A : Type 0} (narrow wide : A → Bool) (within : (x : A) → narrow x ≡ true → wide x ≡ true) where
@@ -47,11 +47,11 @@ module _ (algs : List Alg) where
   passing_summed test (x ∷ files) (y ∷ summed) h =
       filter_by test (test y.path) x y _ _ refl h.0 (passing_summed test files summed h.1)
 
--- the digests of the first of these files
-pub sums_more : (algs : List Alg) (files : List File) (i : ℕ) (e : File) (summed : List SummedFile) (one : SummedFile)
-    → i < length files → e ≡ get_or files i e
-    → AreSummed algs (take i files) summed → HasItsSums algs e one
-    → AreSummed algs (take (i + 1) files) (summed ++ one ∷ [])
-sums_more algs files i e summed one lt is h s =
-    subst (λ xs. AreSummed algs xs (summed ++ one ∷ [])) (sym (take_one_more files i e lt is))
-    (some_more algs (take i files) (e ∷ []) summed (one ∷ []) h (s, tt))
+  -- those whose digests by these algorithms are known, and no others, are among them
+  pub summed_so : (files : List File) (summed : List SummedFile) → exact.AreSummed algs files summed
+      → AreSummed algs files summed
+  summed_so [] [] h = tt
+  summed_so [] (y ∷ summed) h = absurd h
+  summed_so (x ∷ files) [] h = absurd h
+  summed_so (x ∷ files) (y ∷ summed) h =
+      (record { path = h.0.0; sums = h.0.1.each }, summed_so files summed h.1)

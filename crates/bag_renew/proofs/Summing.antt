@@ -26,7 +26,7 @@ use Rattle.bag_renew.specs.Renewed.{File}
 use Rattle.bag_renew.specs.Summed.{AreChecked, AreSummed, HasItsSums, IsCheckedFile, IsFaultyFile, IsGivenFor}
 use Rattle.bag_renew.specs.Summed.{IsInfoAmong, IsRight, is_to_read, to_read}
 use Rattle.bag_tree.specs.Listing.{entry_of_file}
-use Rattle.bag_renew.specs.declared.summed.SummedFile.{SummedFile}
+use Rattle.bag_tags.specs.declared.summed.SummedFile.{SummedFile}
 use Rattle.bag_renew.proofs.Stopping.{stops_at, stops_for_memory}
 
 summed_more : (algs : List Alg) (files : List File) (summed : List SummedFile) (e : File) (one : SummedFile)

@@ -5,21 +5,22 @@ use Rattle.bag_renew.proofs.Common.{contains_behind, contains_first, any_from, a
 use Rattle.bag_renew.proofs.Common.{and_parts, false≢true, or_left, tag_path, Payload, Tag, Info, Manifest, Alg, Bag, file}
 use Rattle.bag_renew.proofs.Common.{files_of, payload, File, is_kept, is_new_alg, info_files, manifest, new_algs}
 use Rattle.bag_renew.proofs.Common.{new_elements, payload_manifest, payload_manifests, unkept, with_path, writes_info}
-use Rattle.bag_renew.proofs.Common.{Put, FileChange, Renewal}
+use Rattle.bag_renew.proofs.Common.{Renewal, Tag}
 use Rattle.bag_text.proofs.AlgSets.{each_is_listed}
 use Rattle.bag_tags.specs.Entry.{manifest_text}
 use Rattle.bag_tags.specs.OnLines.{text_on_lines}
+use Rattle.bag_tags.specs.Summed.{manifests_of, summed_entry}
 use Rattle.bag_renew.proofs.AlgsMade.{any_where, has_member_where}
 use Rattle.bag_renew.proofs.AlgsWhere.{alg_in, passes}
 use Rattle.bag_renew.proofs.KeptOr.{kept_or_written}
 use Rattle.bag_renew.proofs.Passing.{same_where}
 use Rattle.bag_renew.proofs.SummedFiles.{filter_within}
-use Rattle.bag_renew.specs.Composing.{tag_manifests_of, written_algs}
-use Rattle.bag_renew.specs.NewManifests.{manifests_for, summed_entry}
+use Rattle.bag_renew.specs.Composing.{written_algs}
+use Rattle.bag_renew.specs.NewManifests.{manifests_for}
 use Rattle.bag_renew.specs.Renewed.{algs_where, entries_of, is_kept_alg, reads_payload}
 use Rattle.bag_renew.specs.NewInfo.{IsNewInfo}
 use Rattle.bag_renew.specs.Summed.{AreSummed, files_to_read, is_to_read, payload_of}
-use Rattle.bag_renew.specs.declared.summed.SummedFile.{SummedFile}
+use Rattle.bag_tags.specs.declared.summed.SummedFile.{SummedFile}
 
 -- what a manifest says of files with their digests
 pub entries_are : (algs : List Alg) (alg : Alg) → Contains algs alg → (files : List File)
@@ -39,10 +40,10 @@ mapped_alike f g (x ∷ xs) same =
 
 -- the tag manifests that are put
 pub tag_manifests_are : (algs : List Alg) (files : List File) (summed : List SummedFile) → AreSummed algs files summed
-    → tag_manifests_of algs summed ≡ map (λ alg. Put (tag_path (Manifest Tag alg)) (manifest alg files)) algs
+    → manifests_of Tag algs summed ≡ map (λ alg. (tag_path (Manifest Tag alg), manifest alg files)) algs
 tag_manifests_are algs files summed are =
-    mapped_alike {B = FileChange} _ _ algs (λ alg has i.
-    Put (tag_path (Manifest Tag alg)) (manifest_text (entries_are algs alg has files summed are i)))
+    mapped_alike {B = File} _ _ algs (λ alg has i.
+    (tag_path (Manifest Tag alg), manifest_text (entries_are algs alg has files summed are i)))
 
 no_members : {A : Type 0} (xs : List A) → ((x : A) → Contains xs x → ⊥) → xs ≡ []
 no_members [] none = refl

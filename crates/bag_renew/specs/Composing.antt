@@ -11,19 +11,18 @@ use Rattle.bag_read.specs.declared.kind.Kind.{Kind}
 use Rattle.bag_read.specs.declared.kind.Kind.TheVariants.{Payload, Tag}
 use Rattle.bag_read.specs.declared.tag_name.TagName.{TagName}
 use Rattle.bag_read.specs.declared.tag_name.TagName.TheVariants.{Declaration, Info, Manifest}
-use Rattle.bag_tags.specs.Entry.{manifest_text}
+use Rattle.bag_tags.specs.Summed.{manifests_of}
 use Rattle.bag_tree.specs.Bag.{Bag}
 use Rattle.bag_tree.specs.ChangeFiles.{IsOfFile}
 use Rattle.bag_tree.specs.declared.file_change.FileChange.{FileChange}
-use Rattle.bag_tree.specs.declared.file_change.FileChange.TheVariants.{Put, Remove}
-use Rattle.bag_renew.specs.Changes.{unkept}
-use Rattle.bag_renew.specs.NewManifests.{summed_entry}
+use Rattle.bag_tree.specs.declared.file_change.FileChange.TheVariants.{Remove}
+use Rattle.bag_renew.specs.Changes.{put, unkept}
 use Rattle.bag_renew.specs.Renewed.{File, algs_where, begun_file, declaration_file, in_path_order}
 use Rattle.bag_renew.specs.Renewed.{has_payload_manifest, info_files, is_kept, is_kept_alg, new_algs, payload_manifests}
 use Rattle.bag_renew.specs.Renewed.{stays, writes_info}
 use Rattle.bag_renew.specs.Summed.{AreSummed}
 use Rattle.bag_renew.specs.declared.renewal.Renewal.{Renewal}
-use Rattle.bag_renew.specs.declared.summed.SummedFile.{SummedFile}
+use Rattle.bag_tags.specs.declared.summed.SummedFile.{SummedFile}
 
 abbrev pub is_tag_file : File → Bool
 is_tag_file e = not (is_payload_path e.0)
@@ -59,8 +58,7 @@ AreOfFiles changes = All (IsOfFile begun_file) changes
 
 -- the tag manifests that give these digests are put
 abbrev pub tag_manifests_of : List Alg → List SummedFile → List FileChange
-tag_manifests_of algs files =
-    map (λ alg. Put (tag_path (Manifest Tag alg)) (manifest_text (map (summed_entry alg) files))) algs
+tag_manifests_of algs files = map put (manifests_of Tag algs files)
 
 -- the file of this name stays, or is one whose bytes are kept
 abbrev pub keeps_bytes : List TagName → Path → Bool

@@ -1,5 +1,5 @@
 -- The payload manifests of further algorithms.
-use Rattle.std.specs.Prelude.{ℕ, ◌≡◌, ◌<◌, ◌++◌, All, Bool, IsTrue, List, None, Option, Some, [], map}
+use Rattle.std.specs.Prelude.{ℕ, ◌≡◌, ◌<◌, ◌++◌, All, Bool, IsTrue, List, None, map}
 use Rattle.std.specs.Prelude.{true}
 use Rattle.std.specs.List.Sorted.{IsStrictlySortedBy}
 use Rattle.bag_text.specs.Bytes.{Path}
@@ -14,9 +14,7 @@ use Rattle.bag_facts.specs.Wanted.{IsWanted, paths_of}
 use Rattle.bag_facts.specs.declared.facts.Facts.{Facts}
 use Rattle.bag_facts.specs.declared.fault.Fault.{Fault}
 use Rattle.bag_report.specs.Report.{IsReported}
-use Rattle.bag_tags.specs.Entry.{NewEntry, manifest_text}
 use Rattle.bag_tree.specs.Bag.{Bag, IsBag, files_of}
-use Rattle.bag_tree.specs.DigestsOf.{sum_at}
 use Rattle.bag_tree.specs.Tree.{TreeState}
 use Rattle.bag_renew.specs.Compared.{AreCompared}
 use Rattle.bag_renew.specs.FirstFaults.{HasNoneBefore}
@@ -26,24 +24,11 @@ use Rattle.bag_tree.specs.Listing.{entry_of_file}
 use Rattle.bag_renew.specs.Valid.{full}
 use Rattle.bag_renew.specs.declared.checked.Unchecked.{Unchecked}
 use Rattle.bag_renew.specs.declared.checked.Unchecked.TheVariants.{Faulty, Stopped}
-use Rattle.bag_renew.specs.declared.summed.SummedFile.{SummedFile}
+use Rattle.bag_tags.specs.declared.summed.SummedFile.{SummedFile}
 
 -- the payload manifests that name these files of the payload, one for each algorithm
 abbrev pub manifests_for : List Alg → List File → List File
 manifests_for algs payload = map (λ alg. (tag_path (Manifest Payload alg), manifest alg payload)) algs
-
-abbrev pub text_or_none : Option (List ℕ) → List ℕ
-text_or_none (Some text) = text
-text_or_none None = []
-
--- what a manifest of an algorithm says of a file with these digests
-abbrev pub summed_entry : Alg → SummedFile → NewEntry
-summed_entry alg one = (text_or_none (sum_at one.sums alg), one.path)
-
--- the manifests that give these digests
-abbrev pub manifests_of : List Alg → List SummedFile → List File
-manifests_of algs files =
-    map (λ alg. (tag_path (Manifest Payload alg), manifest_text (map (summed_entry alg) files))) algs
 
 -- the tag files that are read were opened, each once, and then once each file of the bag that is to
 -- be read

@@ -32,7 +32,7 @@ use Rattle.bag_renew.specs.declared.checked.Unchecked.TheVariants as checked
 use Rattle.bag_renew.specs.declared.fault.RenewFault.{RenewFault}
 use Rattle.bag_renew.specs.declared.fault.RenewFault.TheVariants as why
 use Rattle.bag_renew.specs.declared.renewal.Renewal.{Renewal}
-use Rattle.bag_renew.specs.declared.summed.SummedFile.{SummedFile}
+use Rattle.bag_tags.specs.declared.summed.SummedFile.{SummedFile}
 
 -- the number of the payload's files and of their bytes can be written
 pub record HasKnownSize (bag : Bag) : Type 0 where

@@ -25,7 +25,7 @@ use Rattle.bag_renew.specs.Checked.{IsKeptOf}
 use Rattle.bag_renew.specs.Renewed.{File}
 use Rattle.bag_renew.specs.declared.checked.Unchecked.{Unchecked}
 use Rattle.bag_renew.specs.declared.checked.Unchecked.TheVariants.{Faulty, Stopped}
-use Rattle.bag_renew.specs.declared.summed.SummedFile.{SummedFile}
+use Rattle.bag_tags.specs.declared.summed.SummedFile.{SummedFile}
 
 -- those of the payload
 abbrev pub payload_of : List File → List File
@@ -55,7 +55,7 @@ pub record IsRight (facts : Facts) (e : File) : Type 0 where
   pub given : IsGivenFor facts e.0 expected
   pub right : faults_of_bytes e.0 e.1 expected ≡ []
 
--- the path of a file, and the digests of its bytes by these algorithms
+-- the path of a file, and the digests of its bytes by these algorithms, and perhaps by others
 pub record HasItsSums (algs : List Alg) (e : File) (one : SummedFile) : Type 0 where
   pub path : one.path ≡ e.0
   pub sums : (alg : Alg) → Contains algs alg → sum_at one.sums alg ≡ Some (digest alg e.1)

@@ -3,6 +3,7 @@ ghost use Rattle.std.specs.Prelude.{◌≡◌, ◌<◌, ◌⊎◌, ◌∷◌, �
 ghost use Rattle.std.specs.Prelude.{IfOk, IfErr, MatchOption, OnErr, OnOk};
 ghost use Rattle.bag_facts.specs.declared.fault.Fault.{Fault as Found};
 ghost use Rattle.bag_tree.specs.Tree.{Keeps, NothingFailed};
+ghost use Rattle.bag_tree.specs.DigestsOf.{AreSumsOf};
 ghost use Rattle.bag_tree.specs.FileReads.{OpensAtMost};
 ghost use Rattle.bag_text.specs.declared.alg.Alg.{Alg as Member};
 ghost use Rattle.bag_stages.specs.Expected.{Expected};
@@ -11,12 +12,11 @@ ghost use Rattle.bag_renew.specs.Checked.{DiffersFirst, IsChecked, IsCheckedAndK
 ghost use Rattle.bag_renew.specs.Checked.{IsUnchecked};
 ghost use Rattle.bag_renew.specs.Stops.{StopsChecking};
 
-use crate::named::sums_of;
 use crate::tag_files::INFO;
 use bag_facts::Fault;
 use bag_stages::{Packed, faults_by};
 use bag_text::{AlgSet, Items, Text};
-use bag_tree::{FileEntry, Stop, Sums, Tree, digest_file, read_whole};
+use bag_tree::{Digests, FileEntry, Stop, Sums, Tree, digest_file, read_whole};
 use std::alloc::Global;
 
 /// Why a file isn't known to have the digests that manifests give for it.
@@ -179,4 +179,13 @@ fn with_given(algs: AlgSet, expected: &Packed) -> AlgSet
         all = all.with(alg);
     }
     all
+}
+
+/// The digests of bytes.
+fn sums_of(bytes: &[u8], algs: AlgSet) -> Sums
+    ensures { AreSumsOf algs bytes.now result }
+{
+    let mut digests = Digests::new(algs);
+    digests.update(bytes);
+    digests.finish()
 }

@@ -10,13 +10,12 @@ ghost use Rattle.bag_renew.specs.Summed.{AreSummed};
 
 use crate::Renewal;
 use crate::algorithms::new_algs;
-use crate::further::manifest;
 use crate::named::{named_tag_files, parted};
 use crate::removing::{dropped, opened};
-use crate::summed::SummedFile;
 use crate::tag_files::{first_files, kept_names, last_files};
 use bag_facts::Facts;
-use bag_read::{Kind, TagName};
+use bag_read::Kind;
+use bag_tags::{SummedFile, manifests_of};
 use bag_text::{Alg, Items, Text};
 use bag_tree::FileChange;
 use std::alloc::{AllocError, Global};
@@ -107,10 +106,5 @@ fn tag_manifests(
 ) -> Result<Vec<FileChange>, AllocError>
     ensures { IfOk result (λ made. made.items ≡ tag_manifests_of algs.now files.now) }
 {
-    let mut changes = Vec::new(alloc);
-    for alg in algs {
-        let path = TagName::Manifest(Kind::Tag, *alg).path(alloc)?;
-        changes.push(FileChange::Put(path, manifest(alloc, *alg, files)?))?;
-    }
-    Ok(changes)
+    puts(alloc, manifests_of(alloc, Kind::Tag, algs, files)?)
 }

@@ -1,13 +1,12 @@
 //! The payload manifests of further algorithms, of a bag that has no fault.
-ghost use Rattle.std.specs.Prelude.{◌≡◌, ◌∷◌, ◌++◌, [], IfOk, IfErr, IsTrue, OnOk};
-ghost use Rattle.std.specs.Prelude.{filter, map, string_bytes};
+ghost use Rattle.std.specs.Prelude.{◌≡◌, IfOk, IfErr, IsTrue, OnOk, filter};
 ghost use Rattle.bag_text.specs.Path.{is_payload_path};
-ghost use Rattle.bag_text.specs.Lines.{line_feed};
+ghost use Rattle.bag_read.specs.declared.kind.Kind.TheVariants.{Payload};
 ghost use Rattle.bag_stages.specs.Payload.{payload};
-ghost use Rattle.bag_tags.specs.Entry as entry;
+ghost use Rattle.bag_tags.specs.Summed.{manifests_of};
 ghost use Rattle.bag_tree.specs.Tree.{Keeps, NothingFailed};
 ghost use Rattle.bag_renew.specs.NewManifests.{AreOfSameBytes, HasCheckedAll, IsRefusedFor};
-ghost use Rattle.bag_renew.specs.NewManifests.{OpensTwice, manifests_for, manifests_of, summed_entry};
+ghost use Rattle.bag_renew.specs.NewManifests.{OpensTwice, manifests_for};
 ghost use Rattle.bag_renew.specs.Openings.{OpensAllInTurn, OpensBeforeFiles};
 ghost use Rattle.bag_renew.specs.Stops.{MayStopUnchecked};
 ghost use Rattle.bag_renew.specs.Valid.{HasNoFault};
@@ -15,11 +14,11 @@ ghost use Rattle.bag_renew.specs.Valid.{HasNoFault};
 use crate::Unchecked;
 use crate::reading::FULL;
 use crate::stages::check_stages;
-use crate::summed::{SummedFile, check_files, no_memory};
+use crate::summed::{check_files, no_memory};
 use bag_facts::Facts;
-use bag_read::{Kind, TagName};
-use bag_tags::push_entry;
-use bag_text::{Alg, AlgSet, Items, Text, is_payload};
+use bag_read::Kind;
+use bag_tags::{SummedFile, manifests_of};
+use bag_text::{AlgSet, Items, Text, is_payload};
 use bag_tree::Tree;
 use std::alloc::{AllocError, Global};
 
@@ -106,57 +105,8 @@ fn manifests(
     algs: AlgSet,
     files: &[SummedFile],
 ) -> Result<Vec<(Text, Items<u8>)>, AllocError>
-    ensures { IfOk result (λ made. made.items ≡ manifests_of algs files.now) }
+    ensures { IfOk result (λ made. made.items ≡ manifests_of Payload algs files.now) }
 {
     let members = algs.members(alloc)?;
-    manifests_by(alloc, &members, files)
-}
-
-pub(crate) fn manifests_by(
-    alloc: Global,
-    algs: &[Alg],
-    files: &[SummedFile],
-) -> Result<Vec<(Text, Items<u8>)>, AllocError>
-    ensures { IfOk result (λ made. made.items ≡ manifests_of algs.now files.now) }
-{
-    let mut manifests = Vec::new(alloc);
-    for alg in algs {
-        let path = TagName::Manifest(Kind::Payload, *alg).path(alloc)?;
-        manifests.push((path, manifest(alloc, *alg, files)?))?;
-    }
-    Ok(manifests)
-}
-
-/// The manifest of an algorithm that names these files (RFC 8493, 2.1.3).
-pub(crate) fn manifest(
-    alloc: Global,
-    alg: Alg,
-    files: &[SummedFile],
-) -> Result<Items<u8>, AllocError>
-    ensures { IfOk result (λ bytes.
-        bytes ≡ entry.manifest_text (map (summed_entry alg) files.now)) }
-{
-    let mut text = String::new(alloc);
-    for file in files {
-        push_file(alloc, &mut text, alg, file)?;
-    }
-    Ok(Items::from_vec(text.into_bytes()))
-}
-
-/// Adds the line of a file, whose digests are asked of the algorithm.
-fn push_file(
-    alloc: Global,
-    text: &mut String,
-    alg: Alg,
-    file: &SummedFile,
-) -> Result<(), AllocError>
-    ensures { OnOk result
-        (string_bytes text.new
-        ≡ string_bytes text.old ++ entry.entry_line (summed_entry alg file.now)
-        ++ line_feed ∷ []) }
-{
-    match file.sums.hex(alloc, alg) {
-        Ok(digest) => push_entry(alloc, text, digest.as_str(), file.path.as_str()),
-        Err(_) => Err(AllocError),
-    }
+    manifests_of(alloc, Kind::Payload, &members, files)
 }

@@ -4,17 +4,16 @@ ghost use Rattle.std.specs.List.{list_any};
 ghost use Rattle.bag_text.specs.Path.{is_payload_path};
 ghost use Rattle.bag_read.specs.ManifestName.{is_manifest_name, tag_path};
 ghost use Rattle.bag_text.specs.declared.alg.Alg.{Alg as Member};
-ghost use Rattle.bag_tree.specs.DigestsOf.{AreSumsOf};
 ghost use Rattle.bag_renew.specs.Composing as spec;
 ghost use Rattle.bag_renew.specs.Renewed as renewed;
 ghost use Rattle.bag_renew.specs.Summed.{AreSummed};
 
 use crate::obstacles::BEGUN_FILE;
-use crate::summed::SummedFile;
 use crate::tag_files::{DECLARATION, INFO};
 use bag_read::{Kind, TagName, manifest_alg};
+use bag_tags::{SummedFile, sum_texts};
 use bag_text::{AlgSet, Items, Text, is_payload};
-use bag_tree::{Digests, Sums};
+use bag_tree::Sums;
 use std::alloc::{AllocError, Global};
 use std::collections::BTreeMap;
 
@@ -131,31 +130,4 @@ fn listed(alloc: Global, by_path: BTreeMap<Text, Sums>) -> Result<Vec<SummedFile
         files.push(SummedFile { path, sums })?;
     }
     Ok(files)
-}
-
-/// The digests of texts.
-fn sum_texts(
-    alloc: Global,
-    files: &[(Text, Items<u8>)],
-    algs: AlgSet,
-) -> Result<Vec<SummedFile>, AllocError>
-    ensures { IfOk result (λ summed. AreSummed algs files.now summed.items) }
-{
-    let mut summed = Vec::with_capacity(alloc, files.len())?;
-    for file in files {
-        summed.push(SummedFile {
-            path: file.0.copy(alloc)?,
-            sums: sums_of(file.1.as_slice(), algs),
-        })?;
-    }
-    Ok(summed)
-}
-
-/// The digests of bytes.
-pub(crate) fn sums_of(bytes: &[u8], algs: AlgSet) -> Sums
-    ensures { AreSumsOf algs bytes.now result }
-{
-    let mut digests = Digests::new(algs);
-    digests.update(bytes);
-    digests.finish()
 }

@@ -12,19 +12,13 @@ use crate::Unchecked;
 use crate::checked::check_or_keep;
 use bag_facts::Facts;
 use bag_stages::{Packed, Places, expected_of};
+use bag_tags::SummedFile;
 use bag_text::{AlgSet, Items, Text, is_payload};
-use bag_tree::{FileEntry, Stop, Sums, Tree};
+use bag_tree::{FileEntry, Stop, Tree};
 use std::alloc::{AllocError, Global};
 
 /// How many bytes are read at once.
 const BUFFER_BYTES: usize = 65_536;
-
-/// A file that manifests may name, with its digests.
-#[derive(Debug, Drop)]
-pub(crate) struct SummedFile {
-    pub path: Text,
-    pub sums: Sums,
-}
 
 /// Files that were checked, each read once.
 #[derive(Debug, Drop)]
@@ -45,7 +39,7 @@ pub(crate) fn no_memory(alloc: Global) -> Unchecked
 /// The digests of listed files in their order, where each file has those that manifests give for
 /// it: of all of them, or of all but those of the payload. Each is opened once, and read through one
 /// buffer: what is compared and what is computed are digests of the same bytes.
-#[tactic(auto, using(crate::proofs::Stopping::stops_for_memory, bag_tree::proofs::Calm::nothing_asked, crate::proofs::FirstOpened::opens_none, crate::proofs::FirstOpened::seventh_for_memory))]
+#[tactic(auto, using(crate::proofs::Summing::summing_one, crate::proofs::FirstOpened::opening))]
 pub(crate) fn check_files<T: Tree>(
     alloc: Global,
     tree: &mut T,
@@ -137,7 +131,7 @@ fn is_read(entry: &FileEntry, with_payload: bool) -> bool
 
 /// The digests of one listed file, where it has those that manifests give for it; and its bytes,
 /// where it is `bag-info.txt`.
-#[tactic(auto, using(crate::proofs::Summing::summing_one, crate::proofs::FirstOpened::seventh_of_bytes, crate::proofs::FirstOpened::seventh_for_memory))]
+#[tactic(auto, using(crate::proofs::Summing::summing_one, crate::proofs::FirstOpened::opening))]
 fn check_file<T: Tree>(
     alloc: Global,
     tree: &mut T,

@@ -5,20 +5,18 @@ ghost use Rattle.bag_read.specs.declared.kind.Kind.TheVariants as kind;
 ghost use Rattle.bag_read.specs.declared.tag_name.TagName.TheVariants as tag;
 ghost use Rattle.bag_facts.specs.FactsOfBag.{IfBagRead, IsFactsOf};
 ghost use Rattle.bag_tags.specs.Declaration.{declaration_text};
+ghost use Rattle.bag_tags.specs.Summed.{manifests_of};
 ghost use Rattle.bag_tree.specs.Bag.{Bag, has_file};
 ghost use Rattle.bag_renew.specs.Changes.{put};
 ghost use Rattle.bag_renew.specs.Composing as spec;
-ghost use Rattle.bag_renew.specs.NewManifests.{manifests_of};
 ghost use Rattle.bag_renew.specs.Renewed.{is_kept, with_path, writes_info};
 
 use crate::Renewal;
 use crate::alg_choice::{members_of_first, push_where};
 use crate::algorithms::{keeps, kept_algs, new_algs};
-use crate::further::manifests_by;
-use crate::summed::SummedFile;
 use bag_facts::Facts;
 use bag_read::{Kind, TagName};
-use bag_tags::write_declaration;
+use bag_tags::{SummedFile, manifests_of, write_declaration};
 use bag_text::{Alg, Items, Text};
 use std::alloc::{AllocError, Global};
 
@@ -64,12 +62,12 @@ pub(crate) fn first_files(
 ) -> Result<Vec<(Text, Items<u8>)>, AllocError>
     ensures texts { IfOk result (λ made. IfBagRead facts.now (λ bag.
         made.items ≡ with_path (tag_path tag.Info) info
-        ++ manifests_of (spec.written_algs bag renewal.now) payload.now)) }
+        ++ manifests_of kind.Payload (spec.written_algs bag renewal.now) payload.now)) }
     ensures files { IfOk result (λ made. spec.AreOfFiles (map put made.items)) }
 {
     let algs = members_of_first(alloc, new_algs(facts, renewal), kept_algs(facts, renewal))?;
     let mut files = info_file(alloc, info)?;
-    let mut manifests = manifests_by(alloc, &algs, payload)?;
+    let mut manifests = manifests_of(alloc, Kind::Payload, &algs, payload)?;
     files.append(&mut manifests)?;
     Ok(files)
 }

@@ -1,7 +1,7 @@
 use Rattle.bag_renew.proofs.Common.{is_payload_path}
 use Rattle.std.proofs.Common.{rules}
 use Rattle.std.proofs.lemmas.Fn.{filter_same}
-use Rattle.bag_renew.specs.declared.summed.SummedFile.{SummedFile}
+use Rattle.bag_tags.specs.declared.summed.SummedFile.{SummedFile}
 use Rattle.bag_renew.proofs.further.payload_only.Goals as goal
 
 pub returns : goal.returns

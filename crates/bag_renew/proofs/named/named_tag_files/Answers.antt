@@ -2,7 +2,7 @@ use Rattle.bag_renew.proofs.Common.{◌≡◌, ◌∙◌, ◌++◌, List, sym, a
 use Rattle.std.proofs.lemmas.Result.{IfOk-weaker}
 use Rattle.bag_renew.specs.Composing.{AreInPathOrder}
 use Rattle.bag_renew.specs.Summed.{AreSummed}
-use Rattle.bag_renew.proofs.SummedFiles.{some_more}
+use Rattle.bag_renew.proofs.SummedFiles.{some_more, summed_so}
 use Rattle.bag_renew.proofs.named.named_tag_files.Goals as goal
 
 pub returns : goal.returns
@@ -19,5 +19,5 @@ returns c =
     subst (λ of. AreInPathOrder algs of named.items) (append_assoc files first last)
     (h algs ((files ++ first) ++ last) (subst (AreSummed algs ((files ++ first) ++ last)) (sym all)
     (some_more algs (files ++ first) last (c.args.tags.items ++ before) after
-    (some_more algs files first c.args.tags.items before are c.in_ok-sum_texts.ensures)
-    c.in_ok-sum_texts-2.ensures)))) c.in_path_order.ensures
+    (some_more algs files first c.args.tags.items before are (summed_so algs first before c.in_ok-sum_texts.ensures))
+    (summed_so algs last after c.in_ok-sum_texts-2.ensures))))) c.in_path_order.ensures
