@@ -22,11 +22,12 @@ use Rattle.bag_read.specs.declared.manifest.ManifestEntry.{ManifestEntry}
 use Rattle.bag_facts.specs.Facts.{IsByV10, rules_in}
 use Rattle.bag_facts.specs.declared.fault.Fault.{Fault}
 use Rattle.bag_report.specs.Report.{Is, asks}
-use Rattle.bag_stages.proofs.LeftOut.{by_one, left_out_by, not_both}
-use Rattle.bag_stages.specs.CompletenessStage.{CompletenessHolds, IsOfCompleteness, Missing}
+use Rattle.bag_facts.specs.FactsOfBag.{IsByV097}
+use Rattle.bag_stages.proofs.LeftOut.{by_all, by_one, left_out_by, not_both}
+use Rattle.bag_stages.specs.CompletenessStage.{CompletenessHolds, IsOfCompleteness, IsPayloadFile, Missing}
 use Rattle.bag_stages.specs.DeclarationStage.{IsOfDeclaration}
-use Rattle.bag_stages.specs.FetchStage.{FetchHolds, IsOfFetch}
-use Rattle.bag_stages.specs.LeftOut.{IsLeftOut, IsLeftOutByOne}
+use Rattle.bag_stages.specs.FetchStage.{FetchHolds, HasFetch, IsOfFetch, fetch_txt}
+use Rattle.bag_stages.specs.LeftOut.{IsLeftOut, IsLeftOutByAll, IsLeftOutByOne}
 use Rattle.bag_stages.specs.ManifestsStage.{InManifest, IsOfManifests, ManifestHolds}
 use Rattle.bag_stages.specs.MetadataStage.{IsOfMetadata, bag_info_txt}
 use Rattle.bag_stages.specs.PartsStage.{IsOfParts, PartHolds}
@@ -36,7 +37,9 @@ use Rattle.bag_stages.specs.ValidityStage.{Differs, IsEntryIn, IsOfValidity, Val
 use Rattle.bag_tree.specs.Bag.{LacksFile}
 use Rattle.bag_tree.specs.Digest.{digest}
 use Rattle.bag_renew.specs.Valid.{full}
-use Rattle.bag_renew.proofs.AlikeFaults.{AreAlike, declaration_was, differs_was, entry_was, fetch_was, left_out_was}
+use Rattle.bag_read.specs.declared.fetch.FetchEntry.{FetchEntry}
+use Rattle.bag_renew.proofs.AlikeFaults.{AreAlike, declaration_was, differs_was, entry_was, fetch_was, has_list}
+use Rattle.bag_renew.proofs.AlikeFaults.{left_out_was}
 use Rattle.bag_renew.proofs.AlikeFaults.{manifest_was, metadata_was, missing_was, named_was, names_now}
 use Rattle.bag_facts.proofs.Found.{content_of}
 use Rattle.bag_renew.proofs.Staying.{no_begun}
@@ -54,10 +57,18 @@ NoneNamesBegun base = (alg : Alg) → Names base Tag alg begun_file → ⊥
 abbrev pub HasNoPayloadManifest : Bag → Type 0
 HasNoPayloadManifest bag = (alg : List ℕ) → ¬ (HasManifest bag Payload alg)
 
+-- A bag of 0.97 that has nothing to fetch: what its payload manifests leave out, those of the old one
+-- did.
+pub record IsBetweenByV097 (mid old : Bag) : Type 0 where
+  pub rules : IsByV097 mid
+  pub old_rules : IsByV097 old
+  pub no_list : LacksFile mid fetch_txt
+  pub left_out : (path : List ℕ) → IsPayloadFile mid path → IsLeftOutByAll mid path → IsLeftOutByAll old path
+
 -- each file is that of the one or the other bag, and each tag manifest stands beside what it was
 -- written for
 pub record IsBetween (mid old new : Bag) : Type 0 where
-  pub rules : IsByV10 mid
+  pub rules : IsByV10 mid ⊎ IsBetweenByV097 mid old
   pub as_old : AreAlike mid old
   pub as_new : AreAlike mid new
   pub folders : mid.folders ≡ old.folders
@@ -78,7 +89,7 @@ no_manifest_begun Tag alg = λ same. absurd (omega (arith, ap (λ t. get_or t 0 
 pub one_kind : (a b : List ℕ) → manifest_name Payload a ≡ manifest_name Tag b → ⊥
 one_kind a b same = absurd (omega (arith, ap (λ t. get_or t 0 0) same))
 
-other_kind : (alg : List ℕ) → is_manifest_name Tag (manifest_name Payload alg) ≡ false
+pub other_kind : (alg : List ℕ) → is_manifest_name Tag (manifest_name Payload alg) ≡ false
 other_kind alg = false_from_ne_true _ (λ is.
     let n = is_named Tag (manifest_name Payload alg) is in one_kind alg n.0 n.2)
 
@@ -123,7 +134,7 @@ module _ (mid base : Bag) (alike : AreAlike mid base) (begun : NoneNamesBegun ba
         alg,
         other,
         told,
-        sym alike.rules ∙ ruled,
+        alike.v10 ruled,
         ap is_some of_base.text_is,
         (has.0, ap is_some (sym same) ∙ has.1),
         λ names. unnamed (names_now mid base alike Tag alg same_text path names),
@@ -212,27 +223,37 @@ module _ (mid old new : Bag) (between : IsBetween mid old new) (f : Fault) where
     abbrev LeavesOut : Bag → Type 0
     LeavesOut base = IsLeftOut (rules_in base) base f.alg path
 
-    by_manifest : (alg : Alg) → f.alg ≡ Some alg → IsLeftOutByOne mid alg path → LeavesOut old ⊎ LeavesOut new
-    by_manifest alg told out = elim (manifest_as Payload alg out.0) [
-      | inl same ↦
-          inl (by_told old alg (sym as_old.rules ∙ between.rules) told
-          (left_out_was mid old as_old f alg path same out))
-      | inr same ↦
-          inr (by_told new alg (sym as_new.rules ∙ between.rules) told
-          (left_out_was mid new as_new f alg path same out))
+    by_manifest : (alg : Alg) → IsByV10 mid → f.alg ≡ Some alg → IsLeftOutByOne mid alg path
+        → LeavesOut old ⊎ LeavesOut new
+    by_manifest alg ruled told out = elim (manifest_as Payload alg out.0) [
+      | inl same ↦ inl (by_told old alg (as_old.v10 ruled) told (left_out_was mid old as_old f alg path same out))
+      | inr same ↦ inr (by_told new alg (as_new.v10 ruled) told (left_out_was mid new as_new f alg path same out))
     ]
 
-    left_out : LeavesOut mid → LeavesOut old ⊎ LeavesOut new
-    left_out out = elim (left_out_by mid path (rules_in mid) f.alg out) [
-      | inl one ↦ by_manifest one.1.0 one.1.1 one.1.2
-      | inr all ↦ absurd (not_both (rules_in mid) between.rules all.0)
+    by_rules : IsByV097 mid → IsPayloadFile mid path → f.alg ≡ None → IsLeftOutByAll mid path → LeavesOut old
+    by_rules ruled there told out = elim between.rules [
+      | inl v10 ↦ absurd (not_both (rules_in mid) v10 ruled)
+      | inr old_one ↦ subst (λ t. IsLeftOut (rules_in old) old t path) (sym told)
+          (by_all old path (rules_in old) old_one.old_rules (old_one.left_out path there out))
+    ]
+
+    left_out : (IsByV097 mid → IsPayloadFile mid path) → LeavesOut mid → LeavesOut old ⊎ LeavesOut new
+    left_out there out = elim (left_out_by mid path (rules_in mid) f.alg out) [
+      | inl one ↦ by_manifest one.1.0 one.0 one.1.1 one.1.2
+      | inr all ↦ inl (by_rules all.0 (there all.0) all.1 all.2)
     ]
 
   -- ---- the list of files to fetch
 
+  nothing_listed : IsByV097 mid → (e : FetchEntry) → HasFetch mid e → ⊥
+  nothing_listed ruled e has = elim between.rules [
+    | inl v10 ↦ not_both (rules_in mid) v10 ruled
+    | inr old_one ↦ false≢true (sym old_one.no_list ∙ has_list mid e has)
+  ]
+
   fetches : (code : Code) → FetchHolds mid f code → FetchHolds old f code ⊎ FetchHolds new f code
   unfolding FetchHolds
-  fetches FetchNotInManifest (e, at, has, out) = elim (left_out e.path out) [
+  fetches FetchNotInManifest (e, at, has, out) = elim (left_out e.path (λ ruled. absurd (nothing_listed ruled e has)) out) [
     | inl o ↦ inl (e, at, entry_was mid old as_old f e has, o)
     | inr o ↦ inr (e, at, entry_was mid new as_new f e has, o)
   ]
@@ -303,7 +324,7 @@ module _ (mid old new : Bag) (between : IsBetween mid old new) (f : Fault) where
   unfolding CompletenessHolds asks
   completes PayloadFileMissing h asked = payload_missing h
   completes TagFileMissing h asked = tags_missing h
-  completes PayloadFileNotListed (at, (held, is), out) asked = elim (left_out f.path out) [
+  completes PayloadFileNotListed (at, (held, is), out) asked = elim (left_out f.path (λ ruled. (held, is)) out) [
     | inl o ↦ inl (at, (ap is_some (sym (as_old.payload_file f.path is)) ∙ held, is), o)
     | inr o ↦ inr (at, (ap is_some (sym (as_new.payload_file f.path is)) ∙ held, is), o)
   ]

@@ -35,12 +35,14 @@ pub mod OnTheWay
 pub mod OnTheWayBegun
 pub mod OnTheWayChanges
 pub mod OnTheWayFiles
+pub mod OnTheWayFromV097
 pub mod OneChange
 pub mod Openings
 pub mod Passing
 pub mod PayloadFiles
 pub mod Places
 pub mod Placing
+pub mod ReadAlike
 pub mod ReadBag
 pub mod ReadForRenewal
 pub mod PlannedRenewal

@@ -1,45 +1,77 @@
 -- Each fault of a bag on the way is damage that the bag had.
-use Rattle.bag_renew.proofs.Common.{inl, inr, sym, subst, Bag, changes, begun_file, Renewal}
+use Rattle.bag_renew.proofs.Common.{◌≡◌, ◌⊎◌, inl, inr, ℕ, List, refl, sym, subst, Bag, after, changes, create}
+use Rattle.bag_renew.proofs.Common.{begun_file, Renewal}
 use Rattle.bag_text.proofs.ListOf.{contains_nothing, nothing_listed}
 use Rattle.bag_tree.specs.FileChanges.{IsAfterFirst}
+use Rattle.bag_text.specs.declared.rules.Rules.{Rules}
+use Rattle.bag_text.specs.declared.rules.Rules.TheVariants.{V10, V097}
+use Rattle.bag_facts.specs.Facts.{IsByV10, rules_in}
 use Rattle.bag_facts.specs.FaultOrder.{fault_cmp}
+use Rattle.bag_stages.proofs.LeftOut.{not_both}
 use Rattle.bag_facts.specs.declared.fault.Fault.{Fault}
-use Rattle.bag_renew.specs.Changes.{after}
 use Rattle.bag_renew.specs.OnTheWay.{CanRenewInPlace, EachBagOnTheWayHasOldFaults, EachBagOnTheWayIsValid}
-use Rattle.bag_renew.specs.OnTheWay.{EachCutBagHasOldFaults, EachCutBagIsValid}
+use Rattle.bag_renew.specs.OnTheWay.{EachCutBagHasOldFaults, EachCutBagIsValid, HasNoPercent}
 use Rattle.bag_renew.specs.Renewed.{renewed}
 use Rattle.bag_renew.specs.Valid.{HasNoFault, IsDamage, IsFaultOf}
 use Rattle.bag_renew.proofs.BetweenFaults.{IsBetween, of_either}
 use Rattle.bag_renew.proofs.OnTheWayBegun.{with_begun}
 use Rattle.bag_renew.proofs.OnTheWayFiles.{between}
+use Rattle.bag_renew.proofs.OnTheWayFromV097.{between_v097}
 use Rattle.bag_renew.proofs.Valid.{renewed_has_old_faults}
 
+pub by_v10_or_v097 : (rules : Rules) → (rules ≡ V10) ⊎ (rules ≡ V097)
+by_v10_or_v097 V10 = inl refl
+by_v10_or_v097 V097 = inr refl
+
 module _ (bag : Bag) (renewal : Renewal) (can : CanRenewInPlace bag renewal) where
+  abbrev now : Bag
+  now = renewed bag renewal
+
+  -- between the bag and the renewed one, or the renewed one but for tag manifests
+  abbrev IsOnItsWay : Bag → Type 0
+  IsOnItsWay mid = IsBetween mid bag now ⊎ IsBetween mid now now
+
   abbrev HasOldFaults : Bag → Type 0
   HasOldFaults mid = (f : Fault) → IsFaultOf mid f → IsDamage f × IsFaultOf bag f
 
-  have_old_faults : (mid : Bag) → IsBetween mid bag (renewed bag renewal) → HasOldFaults mid
-  have_old_faults mid is_between f is =
-      elim (of_either mid bag (renewed bag renewal) is_between f is.0 is.1) [
+  of_now : HasOldFaults now
+  of_now f is = let d = renewed_has_old_faults bag renewal can.can can.info f is in (d.0, d.1)
+
+  have_old_faults : (mid : Bag) → IsOnItsWay mid → HasOldFaults mid
+  have_old_faults mid (inl is_between) f is =
+      elim (of_either mid bag now is_between f is.0 is.1) [
         | inl old ↦ (can.can.damaged f (old, is.1), (old, is.1))
-        | inr new ↦ (let d = renewed_has_old_faults bag renewal can.can can.info f (new, is.1) in (d.0, d.1))
+        | inr new ↦ of_now f (new, is.1)
       ]
+  have_old_faults mid (inr is_between) f is =
+      elim (of_either mid now now is_between f is.0 is.1) [ inl old ↦ of_now f (old, is.1) | inr new ↦ of_now f (new, is.1) ]
 
   no_fault : (mid : Bag) → HasOldFaults mid → HasNoFault bag → HasNoFault mid
   no_fault mid old none =
       nothing_listed fault_cmp (IsFaultOf mid) (λ f is. contains_nothing f ((none.members f).1 (old f is).1))
 
-  cut_between : (left : Bag) → IsAfterFirst begun_file (changes bag renewal) bag left
-      → IsBetween left bag (renewed bag renewal)
-  cut_between left cut = elim cut.is [
-    | inl whole ↦ subst (λ b. IsBetween b bag (renewed bag renewal)) (sym whole) (between bag renewal cut.k can)
-    | inr begun ↦ subst (λ b. IsBetween b bag (renewed bag renewal)) (sym begun.1)
-        (with_begun (after bag renewal cut.k) bag (renewed bag renewal) begun.0 (between bag renewal cut.k can))
+  by_rules : (k : ℕ) → (rules_in bag ≡ V10) ⊎ (rules_in bag ≡ V097) → IsByV10 bag ⊎ HasNoPercent bag
+      → IsOnItsWay (after bag renewal k)
+  by_rules k (inl v10) spelled = inl (between bag renewal k can v10)
+  by_rules k (inr v097) (inl v10) = absurd (not_both (rules_in bag) v10 v097)
+  by_rules k (inr v097) (inr none) = between_v097 bag renewal k can v097 none
+
+  pub on_its_way : (k : ℕ) → IsOnItsWay (after bag renewal k)
+  on_its_way k = by_rules k (by_v10_or_v097 (rules_in bag)) can.spelled
+
+  begun_too : (mid : Bag) (found : List ℕ) → IsOnItsWay mid → IsOnItsWay (create begun_file found mid)
+  begun_too mid found (inl is) = inl (with_begun mid bag now found is)
+  begun_too mid found (inr is) = inr (with_begun mid now now found is)
+
+  pub cut_on_its_way : (left : Bag) → IsAfterFirst begun_file (changes bag renewal) bag left → IsOnItsWay left
+  cut_on_its_way left cut = elim cut.is [
+    | inl whole ↦ subst IsOnItsWay (sym whole) (on_its_way cut.k)
+    | inr begun ↦ subst IsOnItsWay (sym begun.1) (begun_too (after bag renewal cut.k) begun.0 (on_its_way cut.k))
   ]
 
 pub each_has_old_faults : EachBagOnTheWayHasOldFaults
 each_has_old_faults bag renewal k can =
-    have_old_faults bag renewal can (after bag renewal k) (between bag renewal k can)
+    have_old_faults bag renewal can (after bag renewal k) (on_its_way bag renewal can k)
 
 pub each_is_valid : EachBagOnTheWayIsValid
 each_is_valid bag renewal k can =
@@ -47,7 +79,7 @@ each_is_valid bag renewal k can =
 
 pub each_cut_has_old_faults : EachCutBagHasOldFaults
 each_cut_has_old_faults bag renewal left can cut =
-    have_old_faults bag renewal can left (cut_between bag renewal can left cut)
+    have_old_faults bag renewal can left (cut_on_its_way bag renewal can left cut)
 
 pub each_cut_is_valid : EachCutBagIsValid
 each_cut_is_valid bag renewal left can cut =

@@ -50,6 +50,19 @@ first_or_rest (suc k) (x ∷ xs) ys = elim (first_or_rest k xs ys) [
   | inr rest ↦ inr rest
 ]
 
+-- those that are made are of the front, or those that aren't are of the rest after one more
+first_or_after : (k : ℕ) (xs : List FileChange) (d : FileChange) (ys : List FileChange)
+    → AllIn (take k (xs ++ (d ∷ ys))) xs ⊎ AllIn (drop k (xs ++ (d ∷ ys))) ys
+first_or_after zero xs d ys = inl (λ e has. absurd (contains_nothing e has))
+first_or_after (suc k) [] d ys = inr (in_dropped k ys)
+first_or_after (suc k) (x ∷ xs) d ys = elim (first_or_after k xs d ys) [
+  | inl first ↦ inl (λ e has. elim (contains_cases x (take k (xs ++ (d ∷ ys))) e has) [
+    | inl same ↦ subst (Contains (x ∷ xs)) same (contains_first x xs)
+    | inr more ↦ contains_behind x xs e (first e more)
+  ])
+  | inr rest ↦ inr rest
+]
+
 -- what stands there and isn't removed still stands there
 pub never_lost : (cs : List FileChange) (q : List ℕ) (o : Option (List ℕ)) → is_some o ≡ true
     → (Contains cs (Remove q) → ⊥) → is_some (with_changes cs q o) ≡ true
@@ -224,6 +237,16 @@ module _ (bag : Bag) (renewal : Renewal) where
   dropped_then : till_dropped ++ closing bag renewal ≡ changes bag renewal
   dropped_then = append_assoc till_put (dropping bag renewal) (closing bag renewal) ∙ put_then
 
+  -- the tag manifests are put last
+  abbrev pub tags_put : List FileChange
+  tags_put = map put (tag_manifests bag renewal)
+
+  declared_then : is_kept bag (tag_path Declaration) ≡ false
+      → till_dropped ++ (put (declaration_file bag) ∷ tags_put) ≡ changes bag renewal
+  declared_then out =
+      ap (λ b. till_dropped ++ (map put (cond (not b) (declaration_file bag ∷ []) []) ++ tags_put)) (sym out)
+      ∙ dropped_then
+
   module _ (k : ℕ) where
     -- the changes that are made, and those that aren't yet
     abbrev pub made : List FileChange
@@ -243,6 +266,12 @@ module _ (bag : Bag) (renewal : Renewal) where
 
     pub dropped_or_not : AllIn made till_dropped ⊎ AllIn left (closing bag renewal)
     dropped_or_not = split till_dropped (closing bag renewal) dropped_then
+
+    -- where the declaration isn't kept, it isn't put yet, or only tag manifests are left
+    pub declared_or_not : is_kept bag (tag_path Declaration) ≡ false → AllIn made till_dropped ⊎ AllIn left tags_put
+    declared_or_not out =
+        subst (λ cs. AllIn (take k cs) till_dropped ⊎ AllIn (drop k cs) tags_put) (declared_then out)
+        (first_or_after k till_dropped (put (declaration_file bag)) tags_put)
 
   -- ---- what is removed and put
 
@@ -369,3 +398,39 @@ module _ (bag : Bag) (renewal : Renewal) where
           false≢true (sym out ∙ ap (is_kept bag) declared ∙ is_there)
       of_put e path (inr (alg, named)) =
           false≢true (sym other ∙ named_is Tag q (name alg) (name_is_text alg, path ∙ named))
+
+  -- where it isn't, only these are put after it
+  pub tags_names : (q : List ℕ) → is_manifest_name Tag q ≡ false → (d : FileChange) → Contains tags_put d
+      → q ≢ name_of d
+  tags_names q other d has same =
+      let p = in_puts (tag_manifests bag renewal) d has in
+      let m =
+      contains_mapped {B = File} (λ alg. (tag_path (Manifest Tag alg), manifest alg (named_tag_files bag renewal)))
+      (new_algs bag renewal) p.0 p.1 in
+      let named : q ≡ tag_path (Manifest Tag m.0) = same ∙ ap name_of p.2 ∙ sym (ap (λ (y : File). y.0) m.2) in
+      false≢true (sym other ∙ named_is Tag q (name m.0) (name_is_text m.0, named))
+
+  pub no_remove_last : (q : List ℕ) → Contains tags_put (Remove q) → ⊥
+  no_remove_last q has = let p = in_puts (tag_manifests bag renewal) (Remove q) has in no_put q p.0 p.2
+
+  -- and nothing before it is of the declaration
+  pub declaration_unnamed : (d : FileChange) → Contains till_dropped d → tag_path Declaration ≢ name_of d
+  declaration_unnamed d has same =
+      elim (contains_either till_put (dropping bag renewal) d has) [
+        | inl first ↦ elim (contains_either till_opened (putting bag renewal) d first) [
+          | inl opens ↦ elim (in_opened d opens) [
+            | inl begun ↦ no_begun Declaration (sym (same ∙ ap name_of begun))
+            | inr m ↦ of_manifest Tag m.0 (same ∙ ap name_of m.1)
+          ]
+          | inr puts ↦ (let p = in_putting d puts in of_put p.0 (same ∙ ap name_of p.1) p.2)
+        ]
+        | inr drops ↦ (let m = in_dropping d drops in of_manifest Payload m.0 (same ∙ ap name_of m.1))
+      ]
+    where
+      of_manifest : (kind : Kind) (alg : Alg) → tag_path Declaration ≡ tag_path (Manifest kind alg) → ⊥
+      of_manifest kind alg path = no_manifest_name Declaration tt kind (name alg) path
+
+      of_put : (e : File) → tag_path Declaration ≡ e.0 → IsPutName e.0 → ⊥
+      of_put e path (inl info) =
+          let same_tag : Declaration ≡ Info = paths_differ Declaration Info (path ∙ info) in cc
+      of_put e path (inr (alg, named)) = of_manifest Payload alg (path ∙ named)

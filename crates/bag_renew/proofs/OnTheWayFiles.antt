@@ -1,6 +1,6 @@
 -- Each file of a bag on the way is that of the bag, or that of the renewed one.
 use Rattle.bag_renew.proofs.Common.{◌≡◌, ◌≢◌, ◌⊎◌, ◌∙◌, inl, inr, ℕ, Bool, true, false, List, Option, None, Some}
-use Rattle.bag_renew.proofs.Common.{is_some, refl, ap, sym, subst, Contains, and_from, and_parts, [], false≢true}
+use Rattle.bag_renew.proofs.Common.{is_some, refl, ap, sym, subst, Contains, and_from, [], false≢true}
 use Rattle.bag_renew.proofs.Common.{fold-append, is_payload_path, manifest_name, tag_path, Payload, Tag, TagName}
 use Rattle.bag_renew.proofs.Common.{Declaration, Fetch, Info, Alg, name, name_is_text, Bag, HasFile, file, has_file}
 use Rattle.bag_renew.proofs.Common.{paths_differ, All-contains, All-from_recursion, FileChange, Put, Remove, after}
@@ -14,7 +14,7 @@ use Rattle.bag_text.specs.declared.code.Code.TheVariants.{NoDeclaration}
 use Rattle.bag_read.proofs.ManifestName.{named_is}
 use Rattle.bag_read.specs.Declaration.{declared_version}
 use Rattle.bag_read.specs.Manifest.{named}
-use Rattle.bag_facts.specs.Facts.{rules_in}
+use Rattle.bag_facts.specs.Facts.{IsByV10, rules_in}
 use Rattle.bag_report.specs.Report.{Is, asks}
 use Rattle.bag_stages.specs.DeclarationStage.{DeclarationHolds, IsOfDeclaration}
 use Rattle.bag_stages.specs.MetadataStage.{bag_info_txt}
@@ -24,7 +24,7 @@ use Rattle.bag_tags.specs.Declaration.{declaration_text}
 use Rattle.bag_renew.specs.OnTheWay.{CanRenewInPlace}
 use Rattle.bag_renew.specs.Renewed.{is_v10, renewed}
 use Rattle.bag_renew.specs.Telling.{NamesItsFiles}
-use Rattle.bag_renew.proofs.AlikeFaults.{AreAlike}
+use Rattle.bag_renew.proofs.AlikeFaults.{AreAlike, alike_by_rules}
 use Rattle.bag_renew.proofs.BetweenFaults.{HasNoPayloadManifest, IsBetween, IsTagManifestOf, NoneNamesBegun, named_by}
 use Rattle.bag_renew.proofs.ChangedNames.{are_of_files, back, of_changes}
 use Rattle.bag_renew.proofs.ChangesRenew.{they_renew}
@@ -65,12 +65,12 @@ module _ (bag : Bag) (renewal : Renewal) (k : ℕ) (can : CanRenewInPlace bag re
   abbrev all : List FileChange
   all = changes bag renewal
 
-  has_known : HasKnownManifests bag
+  pub has_known : HasKnownManifests bag
   has_known = known bag can.can.damaged
 
   -- ---- what stands at a path
 
-  at_mid : (q : List ℕ) → file mid q ≡ with_changes first q (file bag q)
+  pub at_mid : (q : List ℕ) → file mid q ≡ with_changes first q (file bag q)
   at_mid q =
       at_changes bag first bag (first_are bag k all (are_of_files bag renewal can.way))
       (itself_level bag can.can.is_bag) q
@@ -87,23 +87,23 @@ module _ (bag : Bag) (renewal : Renewal) (k : ℕ) (can : CanRenewInPlace bag re
       ∙ ap (λ cs. with_changes cs q (file bag q)) (take-append-drop k all) ∙ at_new q
 
   -- a file of the bag on the way was put, or stood there
-  mid_from : (q c : List ℕ) → file mid q ≡ Some c
+  pub mid_from : (q c : List ℕ) → file mid q ≡ Some c
       → Contains first (Put q c) ⊎ ((file bag q ≡ Some c) × ((d : FileChange) → Contains first d → q ≢ name_of d))
   mid_from q c at = came_from first q c (file bag q) (sym (at_mid q) ∙ at)
 
   -- and one of the renewed bag is yet to be put, or stands there
-  new_from : (q c : List ℕ) → file new q ≡ Some c
+  pub new_from : (q c : List ℕ) → file new q ≡ Some c
       → Contains later (Put q c) ⊎ ((file mid q ≡ Some c) × ((d : FileChange) → Contains later d → q ≢ name_of d))
   new_from q c at = came_from later q c (file mid q) (at_end q ∙ at)
 
-  put_is_new : (q c : List ℕ) → Contains first (Put q c) → file new q ≡ Some c
+  pub put_is_new : (q c : List ℕ) → Contains first (Put q c) → file new q ≡ Some c
   put_is_new q c has =
       (these_files bag renewal q c).1 (inr (put_in_changes bag renewal q c (in_first k all (Put q c) has)))
 
-  either : (q c : List ℕ) → file mid q ≡ Some c → (file bag q ≡ Some c) ⊎ (file new q ≡ Some c)
+  pub either : (q c : List ℕ) → file mid q ≡ Some c → (file bag q ≡ Some c) ⊎ (file new q ≡ Some c)
   either q c at = elim (mid_from q c at) [ inl has ↦ inr (put_is_new q c has) | inr stayed ↦ inl stayed.0 ]
 
-  still_there : (q : List ℕ) → HasFile bag q → (Contains first (Remove q) → ⊥) → HasFile mid q
+  pub still_there : (q : List ℕ) → HasFile bag q → (Contains first (Remove q) → ⊥) → HasFile mid q
   still_there q there none = ap is_some (at_mid q) ∙ never_lost first q (file bag q) there none
 
   -- where no change is of a path
@@ -115,7 +115,7 @@ module _ (bag : Bag) (renewal : Renewal) (k : ℕ) (can : CanRenewInPlace bag re
     as_it_will_be = as_it_was ∙ sym (not_named all q (file bag q) unnamed) ∙ at_new q
 
   -- where no change that isn't made yet is
-  as_renewed : (q : List ℕ) → ((d : FileChange) → Contains later d → q ≢ name_of d) → file mid q ≡ file new q
+  pub as_renewed : (q : List ℕ) → ((d : FileChange) → Contains later d → q ≢ name_of d) → file mid q ≡ file new q
   as_renewed q unnamed = sym (not_named later q (file mid q) unnamed) ∙ at_end q
 
   -- ---- the payload, and the list of files to fetch
@@ -151,7 +151,7 @@ module _ (bag : Bag) (renewal : Renewal) (k : ℕ) (can : CanRenewInPlace bag re
   manifest_stays alg keeps there = still_there (manifest_of Payload alg) there (λ has.
       kept_not_removed bag renewal alg keeps (in_first k all (Remove (manifest_of Payload alg)) has))
 
-  -- ---- the declaration stays
+  -- ---- the declaration
 
   no_declaration : has_file bag bagit_txt ≡ false → ⊥
   unfolding Is IsOfDeclaration DeclarationHolds asks
@@ -159,52 +159,36 @@ module _ (bag : Bag) (renewal : Renewal) (k : ℕ) (can : CanRenewInPlace bag re
       none bag can.can.damaged (record { code = NoDeclaration; path = bagit_txt; alg = None; line = 0; detail = [] })
       (inl (record { path_is = refl; alg_is = refl; line_is = refl; detail_is = refl }, lacks)) refl (λ same. cc)
 
-  declaration_kept : is_kept bag bagit_txt ≡ true
-  declaration_kept =
-      and_from (keeps bag) (has_file bag bagit_txt) (ap is_v10 can.rules) (by_test (has_file bag bagit_txt) refl)
+  has_declaration : HasFile bag bagit_txt
+  has_declaration = by_test (has_file bag bagit_txt) refl
     where
       by_test : (b : Bool) → has_file bag bagit_txt ≡ b → has_file bag bagit_txt ≡ true
       by_test true there = there
       by_test false lacks = absurd (no_declaration lacks)
 
-  has_declaration : HasFile bag bagit_txt
-  has_declaration = (and_parts (keeps bag) (has_file bag bagit_txt) declaration_kept).1
+  -- ---- alike, where the declaration is the same
 
-  renewed_declaration : file new bagit_txt ≡ file bag bagit_txt
-  renewed_declaration = elim (kept_or_written bag bagit_txt declaration_text) [
-    | inl was ↦ declared bag renewal ∙ sym was.1
-    | inr new ↦ absurd (false≢true (sym new.0 ∙ declaration_kept))
-  ]
+  pub fetch_stays : file mid fetch_txt ≡ file bag fetch_txt
+  fetch_stays = as_it_was fetch_txt fetch_unnamed
 
-  declaration_stays : file mid bagit_txt ≡ file bag bagit_txt
-  declaration_stays =
-      let c =
-      content_of (file mid bagit_txt) (still_there bagit_txt has_declaration (λ has.
-      not_removed bag renewal Declaration tt (in_first k all (Remove bagit_txt) has))) in
-      elim (either bagit_txt c.0 c.1) [
-        | inl old ↦ c.1 ∙ sym old
-        | inr at ↦ c.1 ∙ sym at ∙ renewed_declaration
-      ]
+  pub payload_stays : (q : List ℕ) → is_payload_path q ≡ true → file mid q ≡ file bag q
+  payload_stays q of_it = as_it_was q (payload_unnamed q of_it)
 
-  -- ---- alike
+  pub payload_will_be : (q : List ℕ) → is_payload_path q ≡ true → file mid q ≡ file new q
+  payload_will_be q of_it = as_it_will_be q (payload_unnamed q of_it)
 
-  pub as_bag : AreAlike mid bag
-  as_bag = record {
-    rules = same_rules mid bag declaration_stays;
-    fetch = as_it_was fetch_txt fetch_unnamed;
-    payload_file = λ q of_it. as_it_was q (payload_unnamed q of_it);
-  }
+  pub fetch_will_be : file mid fetch_txt ≡ file new fetch_txt
+  fetch_will_be = as_it_will_be fetch_txt fetch_unnamed
 
-  pub as_new : AreAlike mid new
-  as_new = record {
-    rules = same_rules mid new (declaration_stays ∙ sym renewed_declaration);
-    fetch = as_it_will_be fetch_txt fetch_unnamed;
-    payload_file = λ q of_it. as_it_will_be q (payload_unnamed q of_it);
-  }
+  pub as_bag : file mid bagit_txt ≡ file bag bagit_txt → AreAlike mid bag
+  as_bag same = alike_by_rules mid bag (same_rules mid bag same) fetch_stays payload_stays
+
+  pub as_new : file mid bagit_txt ≡ file new bagit_txt → AreAlike mid new
+  as_new same = alike_by_rules mid new (same_rules mid new same) fetch_will_be payload_will_be
 
   -- ---- the metadata
 
-  abbrev IsOldOrNew : List ℕ → Type 0
+  abbrev pub IsOldOrNew : List ℕ → Type 0
   IsOldOrNew q = (file mid q ≡ file bag q) ⊎ (file mid q ≡ file new q)
 
   old_or_new : (q : List ℕ) → (Contains first (Remove q) → ⊥) → IsOldOrNew q
@@ -217,9 +201,12 @@ module _ (bag : Bag) (renewal : Renewal) (k : ℕ) (can : CanRenewInPlace bag re
       by_file None (Some c) at there =
           absurd (false≢true (sym (ap is_some at) ∙ still_there q (ap is_some there) kept))
 
+  pub info_is : IsOldOrNew bag_info_txt
+  info_is = old_or_new bag_info_txt (λ has. not_removed bag renewal Info tt (in_first k all (Remove bag_info_txt) has))
+
   -- ---- payload manifests
 
-  no_manifest : HasNoPayloadManifest mid → HasNoPayloadManifest bag ⊎ HasNoPayloadManifest new
+  pub no_manifest : HasNoPayloadManifest mid → HasNoPayloadManifest bag ⊎ HasNoPayloadManifest new
   no_manifest none = elim (put_or_not bag renewal k) [
     | inl puts ↦ inl (λ alg has. none alg (
       has.0,
@@ -237,7 +224,7 @@ module _ (bag : Bag) (renewal : Renewal) (k : ℕ) (can : CanRenewInPlace bag re
   -- ---- tag manifests
 
   -- while they are removed, those that are left and all else are those of the bag
-  while_opening : AllIn first (till_opened bag renewal) → (alg : Alg) (text : List ℕ)
+  pub while_opening : AllIn first (till_opened bag renewal) → (alg : Alg) (text : List ℕ)
       → file mid (manifest_of Tag alg) ≡ Some text → IsTagManifestOf bag mid alg text
   while_opening opens alg text at = record {
     text_is = elim (mid_from (manifest_of Tag alg) text at) [
@@ -252,7 +239,7 @@ module _ (bag : Bag) (renewal : Renewal) (k : ℕ) (can : CanRenewInPlace bag re
   }
 
   -- then each was put
-  was_put : AllIn later (back bag renewal) → (alg : Alg) (text : List ℕ) → file mid (manifest_of Tag alg) ≡ Some text
+  pub was_put : AllIn later (back bag renewal) → (alg : Alg) (text : List ℕ) → file mid (manifest_of Tag alg) ≡ Some text
       → Contains first (Put (manifest_of Tag alg) text)
   was_put ends alg text at = elim (mid_from (manifest_of Tag alg) text at) [
     | inl has ↦ has
@@ -261,25 +248,6 @@ module _ (bag : Bag) (renewal : Renewal) (k : ℕ) (can : CanRenewInPlace bag re
           | inl has ↦ stayed.1 (Remove (manifest_of Tag alg)) has refl
           | inr has ↦ tag_not_removed bag renewal alg (ends (Remove (manifest_of Tag alg)) has)
         ])
-  ]
-
-  -- beside what the renewed bag has
-  when_closing : AllIn later (back bag renewal) → (alg : Alg) (text : List ℕ)
-      → file mid (manifest_of Tag alg) ≡ Some text → IsTagManifestOf new mid alg text
-  when_closing ends alg text at =
-      let has = was_put ends alg text at in record {
-        text_is = put_is_new (manifest_of Tag alg) text has;
-        files = λ q other unbegun. elim (dropped_or_not bag renewal k) [
-          | inl drops ↦ absurd (tag_not_put bag renewal alg text (drops (Put (manifest_of Tag alg) text) has))
-          | inr closes ↦ as_renewed q (λ d more. closing_names bag renewal declaration_kept q other d (closes d more))
-        ];
-      }
-
-  tag_manifests_of : (alg : Alg) (text : List ℕ) → file mid (manifest_of Tag alg) ≡ Some text
-      → IsTagManifestOf bag mid alg text ⊎ IsTagManifestOf new mid alg text
-  tag_manifests_of alg text at = elim (opened_or_not bag renewal k) [
-    | inl opens ↦ inl (while_opening opens alg text at)
-    | inr ends ↦ inr (when_closing ends alg text at)
   ]
 
   -- ---- no tag manifest names the file that is begun
@@ -295,29 +263,75 @@ module _ (bag : Bag) (renewal : Renewal) (k : ℕ) (can : CanRenewInPlace bag re
         | inr written ↦ no_begun written.0 written.1
       ]
 
-  renewed_names : NamesItsFiles new
+  pub renewed_names : NamesItsFiles new
   renewed_names =
       names_files bag renewal can.can.is_bag can.can.unmarked has_known (names_its_payload bag can.can.damaged)
 
-  new_begun : NoneNamesBegun new
+  pub new_begun : NoneNamesBegun new
   new_begun alg names =
       let n = named_by new Tag alg begun_file names in
       no_new_begun (((renewed_names.told Tag alg n.0 n.1).paths begun_file).0
       (subst (λ rules. Contains (named rules Tag alg (lines_of_file n.0)) begun_file) renewed_names.rules
       (subst (λ o. Contains (named (rules_in new) Tag alg (lines_or_none o)) begun_file) n.1 names))).0
 
-  pub between : IsBetween mid bag new
-  between = record {
-    rules = as_bag.rules ∙ can.rules;
-    as_old = as_bag;
-    as_new = as_new;
-    folders = (all_level bag first bag (first_are bag k all (are_of_files bag renewal can.way))
-        (itself_level bag can.can.is_bag)).folders;
-    declaration = declaration_stays;
-    info = old_or_new bag_info_txt (λ has. not_removed bag renewal Info tt (in_first k all (Remove bag_info_txt) has));
-    either = λ q c unbegun at. either q c at;
-    no_manifest = no_manifest;
-    tags = tag_manifests_of;
-    old_begun = can.begun;
-    new_begun = new_begun;
-  }
+  pub same_folders : mid.folders ≡ bag.folders
+  same_folders =
+      (all_level bag first bag (first_are bag k all (are_of_files bag renewal can.way))
+      (itself_level bag can.can.is_bag)).folders
+
+  -- ---- of a bag of 1.0 the declaration stays
+
+  module _ (v10 : IsByV10 bag) where
+    declaration_kept : is_kept bag bagit_txt ≡ true
+    declaration_kept = and_from (keeps bag) (has_file bag bagit_txt) (ap is_v10 v10) has_declaration
+
+    renewed_declaration : file new bagit_txt ≡ file bag bagit_txt
+    renewed_declaration = elim (kept_or_written bag bagit_txt declaration_text) [
+      | inl was ↦ declared bag renewal ∙ sym was.1
+      | inr new ↦ absurd (false≢true (sym new.0 ∙ declaration_kept))
+    ]
+
+    declaration_stays : file mid bagit_txt ≡ file bag bagit_txt
+    declaration_stays =
+        let c =
+        content_of (file mid bagit_txt) (still_there bagit_txt has_declaration (λ has.
+        not_removed bag renewal Declaration tt (in_first k all (Remove bagit_txt) has))) in
+        elim (either bagit_txt c.0 c.1) [
+          | inl old ↦ c.1 ∙ sym old
+          | inr at ↦ c.1 ∙ sym at ∙ renewed_declaration
+        ]
+
+    -- tag manifests are put beside what the renewed bag has
+    when_closing : AllIn later (back bag renewal) → (alg : Alg) (text : List ℕ)
+        → file mid (manifest_of Tag alg) ≡ Some text → IsTagManifestOf new mid alg text
+    when_closing ends alg text at =
+        let has = was_put ends alg text at in record {
+          text_is = put_is_new (manifest_of Tag alg) text has;
+          files = λ q other unbegun. elim (dropped_or_not bag renewal k) [
+            | inl drops ↦ absurd (tag_not_put bag renewal alg text (drops (Put (manifest_of Tag alg) text) has))
+            | inr closes ↦ as_renewed q (λ d more.
+                closing_names bag renewal declaration_kept q other d (closes d more))
+          ];
+        }
+
+    tag_manifests_of : (alg : Alg) (text : List ℕ) → file mid (manifest_of Tag alg) ≡ Some text
+        → IsTagManifestOf bag mid alg text ⊎ IsTagManifestOf new mid alg text
+    tag_manifests_of alg text at = elim (opened_or_not bag renewal k) [
+      | inl opens ↦ inl (while_opening opens alg text at)
+      | inr ends ↦ inr (when_closing ends alg text at)
+    ]
+
+    pub between : IsBetween mid bag new
+    between = record {
+      rules = inl (same_rules mid bag declaration_stays ∙ v10);
+      as_old = as_bag declaration_stays;
+      as_new = as_new (declaration_stays ∙ sym renewed_declaration);
+      folders = same_folders;
+      declaration = declaration_stays;
+      info = info_is;
+      either = λ q c unbegun at. either q c at;
+      no_manifest = no_manifest;
+      tags = tag_manifests_of;
+      old_begun = can.begun;
+      new_begun = new_begun;
+    }

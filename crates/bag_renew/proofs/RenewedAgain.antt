@@ -1,8 +1,9 @@
 -- Each bag on the way becomes the same renewed bag.
-use Rattle.bag_renew.proofs.Common.{◌≡◌, ◌++◌, ◌∷◌, ◌&&◌, ◌||◌, ◌∙◌, inl, inr, ℕ, Bool, true, false, not, cond, List}
-use Rattle.bag_renew.proofs.Common.{[], Option, None, Some, is_some, refl, sym, ap, subst, Contains, and_from}
+use Rattle.bag_renew.proofs.Common.{◌≡◌, ◌≢◌, ◌⊎◌, ◌++◌, ◌∷◌, ◌&&◌, ◌||◌, ◌∙◌, inl, inr, ℕ, Bool, true, false, not}
+use Rattle.bag_renew.proofs.Common.{cond, List, [], Option, None, Some, is_some, refl, sym, ap, subst, Contains, and_from}
 use Rattle.bag_renew.proofs.Common.{and_parts, map, false≢true, or_cases, or_left, or_right, contains_behind}
-use Rattle.bag_renew.proofs.Common.{contains_first, has_member, tag_path, Payload, Tag, Info, Manifest, Alg, name}
+use Rattle.bag_renew.proofs.Common.{contains_first, has_member, is_manifest_name, is_payload_path, tag_path, Payload, Tag}
+use Rattle.bag_renew.proofs.Common.{Info, Manifest, Alg, name}
 use Rattle.bag_renew.proofs.Common.{Bag, HasFile, file, File, begun_file, declaration_file, algs_where}
 use Rattle.bag_renew.proofs.Common.{has_payload_manifest, info_files, is_new_alg, keeps, kept_or, kept_tag_files}
 use Rattle.bag_renew.proofs.Common.{manifest, named_tag_files, new_algs, new_elements, new_tag_files, payload}
@@ -13,8 +14,11 @@ use Rattle.std.specs.Option.{unwrap_or}
 use Rattle.std.specs.List.{enumerate_from}
 use Rattle.bag_read.specs.InfoReader.{elements}
 use Rattle.bag_text.specs.Text.{text_cmp}
+use Rattle.bag_text.specs.declared.rules.Rules.{Rules}
 use Rattle.bag_text.specs.declared.rules.Rules.TheVariants.{V10}
 use Rattle.bag_facts.specs.Facts.{IsByV10, rules_in}
+use Rattle.bag_facts.specs.FactsOfBag.{IsByV097}
+use Rattle.bag_stages.proofs.LeftOut.{not_both}
 use Rattle.bag_stages.specs.MetadataStage.{bag_info_txt}
 use Rattle.bag_read.specs.Oxum.{oxum_text}
 use Rattle.bag_stages.specs.Payload.{oxum, oxum_of_files}
@@ -26,19 +30,26 @@ use Rattle.bag_tags.specs.OnLines.{text_on_lines}
 use Rattle.bag_tree.specs.FileChanges.{IsAfterFirst}
 use Rattle.bag_renew.specs.Again.{RenewingAgainMakesTheSame}
 use Rattle.bag_renew.specs.Elements.{asks_nothing, elements_of, renewed_elements}
-use Rattle.bag_renew.specs.OnTheWay.{CanRenewInPlace}
+use Rattle.bag_renew.specs.OnTheWay.{CanRenewInPlace, HasNoPercent}
 use Rattle.bag_renew.specs.Renewed.{file_at, in_path_order, is_v10, renewed}
 use Rattle.bag_renew.specs.Request.{is_bad_request}
 use Rattle.bag_renew.specs.Valid.{HasGoodElements}
-use Rattle.bag_renew.proofs.AlgsWhere.{passes}
-use Rattle.bag_renew.proofs.BetweenFaults.{IsBetween, no_manifest_begun}
+use Rattle.bag_renew.proofs.AlgsWhere.{alg_in, passes}
+use Rattle.bag_renew.proofs.AlikeFaults.{AreAlike}
+use Rattle.bag_renew.proofs.BetweenFaults.{IsBetween, no_manifest_begun, other_kind}
 use Rattle.bag_renew.proofs.Contents.{these_files}
 use Rattle.bag_renew.proofs.ElementsAgain.{renewed_once_only}
 use Rattle.bag_facts.proofs.Found.{content_of, same_option}
-use Rattle.bag_renew.proofs.OnTheWayBegun.{at_manifest, stays_elsewhere, with_begun}
-use Rattle.bag_renew.proofs.OnTheWayFiles.{between, manifest_stays, stays_as_it_was}
+use Rattle.bag_renew.proofs.OnTheWay.{by_v10_or_v097}
+use Rattle.bag_renew.proofs.OnTheWayBegun.{at_manifest, elsewhere, stays_elsewhere, with_begun}
+use Rattle.bag_renew.proofs.OnTheWayChanges.{AllIn, left as yet_to_make, tags_put}
+use Rattle.bag_renew.proofs.OnTheWayFiles.{between, manifest_stays, same_rules, stays_as_it_was}
+use Rattle.bag_renew.proofs.OnTheWayFromV097.{early_between, early_or_late, late_between, put_all}
 use Rattle.bag_renew.proofs.PayloadFiles.{files_alike, payload_alike}
-use Rattle.bag_renew.proofs.RenewedNames.{new_text}
+use Rattle.bag_renew.proofs.ReadAlike.{elements_alike}
+use Rattle.bag_renew.proofs.RenewedNames.{by_v10, declared, new_text, same_file}
+use Rattle.bag_renew.proofs.Staying.{no_begun}
+use Rattle.bag_renew.proofs.TagNames.{not_tag_manifest}
 
 same_bool : (a b : Bool) → (a ≡ true → b ≡ true) → (b ≡ true → a ≡ true) → a ≡ b
 same_bool true b to from = sym (to refl)
@@ -50,55 +61,98 @@ map_same f g [] each = refl
 map_same f g (x ∷ xs) each =
     λ i. each x (contains_first x xs) i ∷ map_same f g xs (λ y has. each y (contains_behind x xs y has)) i
 
--- a bag on the way: its files are those of the bag or of the renewed one, and none of those that a
--- renewal reads is lost
-pub record IsOnTheWay (left bag : Bag) (renewal : Renewal) : Type 0 where
-  pub between : IsBetween left bag (renewed bag renewal)
-  pub same : (q : List ℕ) → stays q ≡ true → file left q ≡ file bag q
-  pub manifests : (alg : Alg) → has_member renewal.dropped alg ≡ false → HasFile bag (manifest_of Payload alg)
-      → HasFile left (manifest_of Payload alg)
+-- ---- two bags of which the renewed bag is made of the same
 
-module _ (left bag : Bag) (renewal : Renewal) (v10 : IsByV10 bag) (on : IsOnTheWay left bag renewal)
-    (asked : is_bad_request renewal.elements ≡ false)
-    (good : writes_info bag renewal ≡ true → HasGoodElements bag renewal) where
+pub record AreRenewedAlike (left bag : Bag) (renewal : Renewal) : Type 0 where
+  pub payload_file : (q : List ℕ) → is_payload_path q ≡ true → file left q ≡ file bag q
+  pub kept : (q : List ℕ) → stays q ≡ true → file left q ≡ file bag q
+  pub folders : left.folders ≡ bag.folders
+  pub declaration : declaration_file left ≡ declaration_file bag
+  pub algs : (alg : Alg) → is_new_alg left renewal alg ≡ is_new_alg bag renewal alg
+  pub manifests : (alg : Alg) → is_new_alg bag renewal alg ≡ true
+      → payload_manifest left renewal alg ≡ payload_manifest bag renewal alg
+  pub writes : writes_info left renewal ≡ true → writes_info bag renewal ≡ true
+  pub written : writes_info left renewal ≡ true → new_elements left renewal ≡ new_elements bag renewal
+  pub kept_info : writes_info left renewal ≡ false → file_at left bag_info_txt ≡ info_files bag renewal
+
+module _ (left bag : Bag) (renewal : Renewal) (are : AreRenewedAlike left bag renewal) where
+  pub same_payload : payload left ≡ payload bag
+  same_payload = payload_alike left bag are.payload_file
+
+  same_kept : kept_tag_files left ≡ kept_tag_files bag
+  same_kept = files_alike stays left bag are.kept
+
+  pub same_algs : new_algs left renewal ≡ new_algs bag renewal
+  same_algs = ap algs_where (λ i alg. are.algs alg i)
+
+  same_manifests : payload_manifests left renewal ≡ payload_manifests bag renewal
+  same_manifests =
+      ap (map {B = File} (payload_manifest left renewal)) same_algs
+      ∙ map_same {B = File} (payload_manifest left renewal) (payload_manifest bag renewal) (new_algs bag renewal)
+      (λ alg has. are.manifests alg (passes (is_new_alg bag renewal) alg has))
+
+  same_info : info_files left renewal ≡ info_files bag renewal
+  same_info = by_test (writes_info left renewal) refl
+    where
+      files_so : (b : Bag) → Bool → List File
+      files_so b writes =
+          cond writes ((bag_info_txt, text_on_lines (new_elements b renewal)) ∷ []) (file_at b bag_info_txt)
+
+      by_test : (w : Bool) → writes_info left renewal ≡ w → info_files left renewal ≡ info_files bag renewal
+      by_test true writes =
+          ap (files_so left) writes
+          ∙ ap (λ es. (bag_info_txt, text_on_lines es) ∷ []) (are.written writes)
+          ∙ sym (ap (files_so bag) (are.writes writes))
+      by_test false keeps_it = ap (files_so left) keeps_it ∙ are.kept_info keeps_it
+
+  same_named : named_tag_files left renewal ≡ named_tag_files bag renewal
+  same_named =
+      λ i. in_path_order (same_kept i ++ (are.declaration i ∷ (same_info i ++ same_manifests i)))
+
+  same_tags : tag_manifests left renewal ≡ tag_manifests bag renewal
+  same_tags =
+      λ i. map {B = File} (λ alg. (tag_path (Manifest Tag alg), manifest alg (same_named i))) (same_algs i)
+
+  same_written : new_tag_files left renewal ≡ new_tag_files bag renewal
+  same_written = λ i. are.declaration i ∷ (same_info i ++ (same_manifests i ++ same_tags i))
+
+  pub same_renewed : renewed left renewal ≡ renewed bag renewal
+  unfolding renewed
+  same_renewed = λ i. record {
+    files = fin.from_entries {R = text_cmp} (same_payload i ++ (same_kept i ++ same_written i));
+    folders = are.folders i;
+  }
+
+-- ---- the files of the renewed bag
+
+module _ (b : Bag) (path text : List ℕ) where
+  -- those that are kept
+  kept_is : keeps b ≡ true → kept_or b path text ≡ unwrap_or (file b path) text
+  kept_is keeps_b = ap (λ k. cond k (unwrap_or (file b path) text) text) keeps_b
+
+  -- and those that aren't
+  written_is : keeps b ≡ false → kept_or b path text ≡ text
+  written_is none = ap (λ k. cond k (unwrap_or (file b path) text) text) none
+
+not_true : (b : Bool) → not b ≡ true → b ≡ false
+not_true false is = refl
+not_true true is = cc
+
+module _ (bag : Bag) (renewal : Renewal) where
   abbrev new : Bag
   new = renewed bag renewal
 
-  same_rules : rules_in left ≡ rules_in bag
-  same_rules = on.between.as_old.rules
+  abbrev text : List ℕ
+  text = text_on_lines (new_elements bag renewal)
 
-  same_keeps : keeps left ≡ keeps bag
-  same_keeps = ap is_v10 same_rules
+  abbrev info_so : Bool → Option (List ℕ)
+  info_so writes = cond writes (Some text) (file bag bag_info_txt)
 
-  keeps_left : keeps left ≡ true
-  keeps_left = same_keeps ∙ ap is_v10 v10
-
-  pub same_payload : payload left ≡ payload bag
-  same_payload = payload_alike left bag on.between.as_old.payload_file
-
-  same_kept : kept_tag_files left ≡ kept_tag_files bag
-  same_kept = files_alike stays left bag on.same
-
-  -- ---- what is kept
-
-  module _ (b : Bag) (keeps_b : keeps b ≡ true) (path text : List ℕ) where
-    kept_is : kept_or b path text ≡ unwrap_or (file b path) text
-    kept_is = ap (λ k. cond k (unwrap_or (file b path) text) text) keeps_b
-
-  same_declaration : declaration_file left ≡ declaration_file bag
-  same_declaration = λ i. (bagit_txt, text i)
-    where
-      text : kept_or left bagit_txt declaration_text ≡ kept_or bag bagit_txt declaration_text
-      text =
-          kept_is left keeps_left bagit_txt declaration_text
-          ∙ ap (λ o. unwrap_or o declaration_text) on.between.declaration
-          ∙ sym (kept_is bag (ap is_v10 v10) bagit_txt declaration_text)
-
-  -- ---- the algorithms, and their payload manifests
-
-  not_true : (b : Bool) → not b ≡ true → b ≡ false
-  not_true false is = refl
-  not_true true is = cc
+  new_info : file new bag_info_txt ≡ info_so (writes_info bag renewal)
+  new_info =
+      same_option (file new bag_info_txt) (info_so (writes_info bag renewal))
+      (λ c at. new_text bag renewal Info c tt at)
+      (λ c at. (these_files bag renewal bag_info_txt c).1 (inr (Info, refl, at)))
 
   module _ (alg : Alg) where
     abbrev path : List ℕ
@@ -127,12 +181,19 @@ module _ (left bag : Bag) (renewal : Renewal) (v10 : IsByV10 bag) (on : IsOnTheW
         let text = new_text bag renewal (Manifest Payload alg) c tt at in
         (passes (is_new_alg bag renewal) alg text.0, text.1)
 
-    from_left : is_new_alg left renewal alg ≡ true → is_new_alg bag renewal alg ≡ true
-    from_left is =
+    manifest_there : is_new_alg bag renewal alg ≡ true → file new path ≡ Some (kept_or bag path written)
+    manifest_there is =
+        (these_files bag renewal path (kept_or bag path written)).1
+        (inr (Manifest Payload alg, refl, (alg_in (is_new_alg bag renewal) alg is, refl)))
+
+    -- an algorithm of a bag all of whose manifests are of the bag or of the renewed one
+    from_left : (left : Bag) → ((c : List ℕ) → file left path ≡ Some c → (file bag path ≡ Some c) ⊎ (file new path ≡ Some c))
+        → is_new_alg left renewal alg ≡ true → is_new_alg bag renewal alg ≡ true
+    from_left left either is =
         let two = has_or_added left is in
         elim (or_cases (has_payload_manifest left alg) (has_member renewal.added alg) two.0) [
           | inl has ↦ (let c = content_of (file left path) has in
-              elim (on.between.either path c.0 (no_manifest_begun Payload (name alg)) c.1) [
+              elim (either c.0 c.1) [
                 | inl old ↦ so_new bag
                     (or_left (has_payload_manifest bag alg) (has_member renewal.added alg) (ap is_some old)) two.1
                 | inr made ↦ (new_manifest c.0 made).0
@@ -141,166 +202,377 @@ module _ (left bag : Bag) (renewal : Renewal) (v10 : IsByV10 bag) (on : IsOnTheW
               so_new bag (or_right (has_payload_manifest bag alg) (has_member renewal.added alg) added) two.1
         ]
 
-    to_left : is_new_alg bag renewal alg ≡ true → is_new_alg left renewal alg ≡ true
-    to_left is =
+    -- and of one that has those of the bag that aren't dropped
+    to_left : (left : Bag) → (has_member renewal.dropped alg ≡ false → HasFile bag path → HasFile left path)
+        → is_new_alg bag renewal alg ≡ true → is_new_alg left renewal alg ≡ true
+    to_left left still is =
         let two = has_or_added bag is in
         elim (or_cases (has_payload_manifest bag alg) (has_member renewal.added alg) two.0) [
           | inl has ↦ so_new left
-              (or_left (has_payload_manifest left alg) (has_member renewal.added alg)
-              (on.manifests alg two.1 has)) two.1
+              (or_left (has_payload_manifest left alg) (has_member renewal.added alg) (still two.1 has)) two.1
           | inr added ↦
               so_new left (or_right (has_payload_manifest left alg) (has_member renewal.added alg) added) two.1
         ]
 
-    same_alg : is_new_alg left renewal alg ≡ is_new_alg bag renewal alg
-    same_alg = same_bool (is_new_alg left renewal alg) (is_new_alg bag renewal alg) from_left to_left
+-- ---- the elements are read again
 
-    -- the manifest is the old one, or the one that is written
-    kept_same : is_new_alg bag renewal alg ≡ true → kept_or left path written ≡ kept_or bag path written
-    kept_same is = by_file (file left path) (file bag path) refl refl
-      where
-        by_file : (now was : Option (List ℕ)) → file left path ≡ now → file bag path ≡ was
-            → kept_or left path written ≡ kept_or bag path written
-        by_file (Some c) was at there =
-            kept_is left keeps_left path written ∙ ap (λ o. unwrap_or o written) at
-            ∙ elim (on.between.either path c (no_manifest_begun Payload (name alg)) at) [
-              | inl old ↦ sym (kept_is bag (ap is_v10 v10) path written ∙ ap (λ o. unwrap_or o written) old)
-              | inr made ↦ (new_manifest c made).1
-            ]
-        by_file None None at there =
-            kept_is left keeps_left path written ∙ ap (λ o. unwrap_or o written) (at ∙ sym there)
-            ∙ sym (kept_is bag (ap is_v10 v10) path written)
-        by_file None (Some c) at there =
-            absurd (false≢true (sym (ap is_some at)
-            ∙ on.manifests alg (has_or_added bag is).1 (ap is_some there)))
+abbrev read_of : Rules → List (List ℕ) → List NewElement
+read_of rules lines = map {B = NewElement} (λ e. (e.label, e.value)) (elements rules (enumerate_from 1 lines))
 
-    same_manifest : is_new_alg bag renewal alg ≡ true
-        → payload_manifest left renewal alg ≡ payload_manifest bag renewal alg
-    same_manifest is =
-        λ i. (path, (ap (λ es. kept_or left path (manifest alg es)) same_payload ∙ kept_same is) i)
+read_so : (b : Bag) → rules_in b ≡ V10 → (o : Option (List ℕ)) → file b bag_info_txt ≡ o
+    → elements_of b ≡ read_of V10 (lines_or_none o)
+read_so b ruled o at =
+    ap (λ rules. read_of rules (lines_in b bag_info_txt)) ruled ∙ ap (λ o. read_of V10 (lines_or_none o)) at
 
-  pub same_algs : new_algs left renewal ≡ new_algs bag renewal
-  same_algs = ap algs_where (λ i alg. same_alg alg i)
+read_alike : (one other : Bag) → AreAlike one other → file one bag_info_txt ≡ file other bag_info_txt
+    → elements_of one ≡ elements_of other
+read_alike one other alike same =
+    ap (λ o. read_of (rules_in one) (lines_or_none o)) same
+    ∙ ap (map {B = NewElement} (λ e. (e.label, e.value)))
+    (elements_alike (rules_in one) (rules_in other) (lines_in other bag_info_txt) 1 alike.metadata)
 
-  same_manifests : payload_manifests left renewal ≡ payload_manifests bag renewal
-  same_manifests =
-      ap (map {B = File} (payload_manifest left renewal)) same_algs
-      ∙ map_same {B = File} (payload_manifest left renewal) (payload_manifest bag renewal) (new_algs bag renewal)
-      (λ alg has. same_manifest alg (passes (is_new_alg bag renewal) alg has))
+-- the bag-info.txt is that of the bag, and is read alike
+abbrev pub HasInfoOf : Bag → Bag → Type 0
+HasInfoOf left base = AreAlike left base × (file left bag_info_txt ≡ file base bag_info_txt)
 
-  -- ---- the metadata
-
-  pub same_writes : writes_info left renewal ≡ writes_info bag renewal
-  same_writes = ap (λ k. not (k && asks_nothing renewal.elements)) same_keeps
-
-  abbrev text : List ℕ
-  text = text_on_lines (new_elements bag renewal)
-
-  abbrev info_so : Bool → Option (List ℕ)
-  info_so writes = cond writes (Some text) (file bag bag_info_txt)
-
-  new_info : file new bag_info_txt ≡ info_so (writes_info bag renewal)
-  new_info =
-      same_option (file new bag_info_txt) (info_so (writes_info bag renewal))
-      (λ c at. new_text bag renewal Info c tt at)
-      (λ c at. (these_files bag renewal bag_info_txt c).1 (inr (Info, refl, at)))
-
-  kept_info : writes_info bag renewal ≡ false → file left bag_info_txt ≡ file bag bag_info_txt
-  kept_info keeps_it = elim on.between.info [
-    | inl old ↦ old
-    | inr made ↦ made ∙ new_info ∙ ap info_so keeps_it
-  ]
-
-  abbrev read_of : List (List ℕ) → List NewElement
-  read_of lines = map {B = NewElement} (λ e. (e.label, e.value)) (elements V10 (enumerate_from 1 lines))
-
-  read_so : (b : Bag) → rules_in b ≡ V10 → (o : Option (List ℕ)) → file b bag_info_txt ≡ o
-      → elements_of b ≡ read_of (lines_or_none o)
-  read_so b ruled o at =
-      ap (λ rules. map {B = NewElement} (λ e. (e.label, e.value))
-      (elements rules (enumerate_from 1 (lines_in b bag_info_txt)))) ruled ∙ ap (λ o. read_of (lines_or_none o)) at
-
+module _ (left bag : Bag) (renewal : Renewal) (asked : is_bad_request renewal.elements ≡ false)
+    (good : writes_info bag renewal ≡ true → HasGoodElements bag renewal)
+    (same_file : (q : List ℕ) → is_payload_path q ≡ true → file left q ≡ file bag q)
+    (info : HasInfoOf left bag ⊎ HasInfoOf left (renewed bag renewal)) where
   -- what is written is read again, and asked again it is the same
-  pub written_again : writes_info bag renewal ≡ true → new_elements left renewal ≡ new_elements bag renewal
+  written_again : writes_info bag renewal ≡ true → new_elements left renewal ≡ new_elements bag renewal
   written_again writes =
       ap (λ size. renewed_elements renewal.elements size (elements_of left)) size
-      ∙ elim on.between.info [
-        | inl old ↦ ap (renewed_elements renewal.elements (oxum_text (oxum bag)))
-            (read_so left on.between.rules (file bag bag_info_txt) old
-            ∙ sym (read_so bag v10 (file bag bag_info_txt) refl))
+      ∙ elim info [
+        | inl old ↦ ap (renewed_elements renewal.elements (oxum_text (oxum bag))) (read_alike left bag old.0 old.1)
         | inr made ↦ ap (renewed_elements renewal.elements (oxum_text (oxum bag)))
-            (read_so left on.between.rules (Some text) (made ∙ new_info ∙ ap info_so writes)
+            (read_alike left (renewed bag renewal) made.0 made.1
+            ∙ read_so (renewed bag renewal) (by_v10 bag renewal) (Some (text bag renewal))
+            (new_info bag renewal ∙ ap (info_so bag renewal) writes)
             ∙ (long_info_again (new_elements bag renewal) (good writes).texts (good writes).good).1)
             ∙ renewed_once_only renewal.elements (oxum_text (oxum bag)) (elements_of bag) asked
       ]
     where
       size : oxum_text (oxum left) ≡ oxum_text (oxum bag)
-      size = ap (λ es. oxum_text (oxum_of_files es)) same_payload
+      size = ap (λ es. oxum_text (oxum_of_files es)) (payload_alike left bag same_file)
 
-  same_info : info_files left renewal ≡ info_files bag renewal
-  same_info = by_test (writes_info bag renewal) refl
-    where
-      files_so : (b : Bag) → Bool → List File
-      files_so b writes =
-          cond writes ((bag_info_txt, text_on_lines (new_elements b renewal)) ∷ []) (file_at b bag_info_txt)
+-- ---- a bag on the way: its files are those of the bag or of the renewed one, and none of those that
+-- a renewal reads is lost
 
-      by_test : (w : Bool) → writes_info bag renewal ≡ w → info_files left renewal ≡ info_files bag renewal
-      by_test true writes =
-          ap (files_so left) (same_writes ∙ writes)
-          ∙ ap (λ es. (bag_info_txt, text_on_lines es) ∷ []) (written_again writes) ∙ sym (ap (files_so bag) writes)
-      by_test false keeps_it =
-          ap (files_so left) (same_writes ∙ keeps_it) ∙ ap (with_path bag_info_txt) (kept_info keeps_it)
-          ∙ sym (ap (files_so bag) keeps_it)
+pub record IsOnTheWay (left bag : Bag) (renewal : Renewal) : Type 0 where
+  pub between : IsBetween left bag (renewed bag renewal)
+  pub same : (q : List ℕ) → stays q ≡ true → file left q ≡ file bag q
+  pub manifests : (alg : Alg) → has_member renewal.dropped alg ≡ false → HasFile bag (manifest_of Payload alg)
+      → HasFile left (manifest_of Payload alg)
 
-  -- ---- all of them
+module _ (left bag : Bag) (renewal : Renewal) (on : IsOnTheWay left bag renewal)
+    (asked : is_bad_request renewal.elements ≡ false)
+    (good : writes_info bag renewal ≡ true → HasGoodElements bag renewal) where
+  same_keeps : keeps left ≡ keeps bag
+  same_keeps = ap is_v10 (same_rules left bag on.between.declaration)
 
-  same_named : named_tag_files left renewal ≡ named_tag_files bag renewal
-  same_named =
-      λ i. in_path_order (same_kept i ++ (same_declaration i ∷ (same_info i ++ same_manifests i)))
+  payload_is : payload left ≡ payload bag
+  payload_is = payload_alike left bag on.between.as_old.payload_file
 
-  same_tags : tag_manifests left renewal ≡ tag_manifests bag renewal
-  same_tags =
-      λ i. map {B = File} (λ alg. (tag_path (Manifest Tag alg), manifest alg (same_named i))) (same_algs i)
+  same_alg : (alg : Alg) → is_new_alg left renewal alg ≡ is_new_alg bag renewal alg
+  same_alg alg =
+      same_bool (is_new_alg left renewal alg) (is_new_alg bag renewal alg)
+      (from_left bag renewal alg left
+      (λ c at. on.between.either (manifest_of Payload alg) c (no_manifest_begun Payload (name alg)) at))
+      (to_left bag renewal alg left (on.manifests alg))
 
-  same_written : new_tag_files left renewal ≡ new_tag_files bag renewal
-  same_written = λ i. same_declaration i ∷ (same_info i ++ (same_manifests i ++ same_tags i))
+  same_writes : writes_info left renewal ≡ writes_info bag renewal
+  same_writes = ap (λ k. not (k && asks_nothing renewal.elements)) same_keeps
 
-  pub same_renewed : renewed left renewal ≡ renewed bag renewal
+  info_of : HasInfoOf left bag ⊎ HasInfoOf left (renewed bag renewal)
+  info_of = elim on.between.info [
+    | inl old ↦ inl (on.between.as_old, old)
+    | inr made ↦ inr (on.between.as_new, made)
+  ]
+
+  -- where all is kept, and where nothing is
+  module _ (declaration : declaration_file left ≡ declaration_file bag)
+      (manifests : (alg : Alg) → is_new_alg bag renewal alg ≡ true
+      → payload_manifest left renewal alg ≡ payload_manifest bag renewal alg) where
+    kept_info : writes_info bag renewal ≡ false → file left bag_info_txt ≡ file bag bag_info_txt
+    kept_info keeps_it = elim on.between.info [
+      | inl old ↦ old
+      | inr made ↦ made ∙ new_info bag renewal ∙ ap (info_so bag renewal) keeps_it
+    ]
+
+    abbrev files_so : Bool → List File
+    files_so writes = cond writes ((bag_info_txt, text bag renewal) ∷ []) (file_at bag bag_info_txt)
+
+    alike_so : AreRenewedAlike left bag renewal
+    alike_so = record {
+      payload_file = on.between.as_old.payload_file;
+      kept = on.same;
+      folders = on.between.folders;
+      declaration = declaration;
+      algs = same_alg;
+      manifests = manifests;
+      writes = λ is. sym same_writes ∙ is;
+      written = λ is.
+          written_again left bag renewal asked good on.between.as_old.payload_file info_of (sym same_writes ∙ is);
+      kept_info = λ keeps_it.
+          let too = sym same_writes ∙ keeps_it in
+          ap (with_path bag_info_txt) (kept_info too) ∙ sym (ap files_so too);
+    }
+
+  module _ (v10 : IsByV10 bag) where
+    keeps_bag : keeps bag ≡ true
+    keeps_bag = ap is_v10 v10
+
+    keeps_left : keeps left ≡ true
+    keeps_left = same_keeps ∙ keeps_bag
+
+    kept_declaration : kept_or left bagit_txt declaration_text ≡ kept_or bag bagit_txt declaration_text
+    kept_declaration =
+        kept_is left bagit_txt declaration_text keeps_left
+        ∙ ap (λ o. unwrap_or o declaration_text) on.between.declaration
+        ∙ sym (kept_is bag bagit_txt declaration_text keeps_bag)
+
+    -- the manifest is the old one, or the one that is written
+    module _ (alg : Alg) (is : is_new_alg bag renewal alg ≡ true) where
+      abbrev at_path : List ℕ
+      at_path = manifest_of Payload alg
+
+      abbrev anew : List ℕ
+      anew = manifest alg (payload bag)
+
+      by_file : (now was : Option (List ℕ)) → file left at_path ≡ now → file bag at_path ≡ was
+          → kept_or left at_path anew ≡ kept_or bag at_path anew
+      by_file (Some c) was at there =
+          kept_is left at_path anew keeps_left ∙ ap (λ o. unwrap_or o anew) at
+          ∙ elim (on.between.either at_path c (no_manifest_begun Payload (name alg)) at) [
+            | inl old ↦ sym (kept_is bag at_path anew keeps_bag ∙ ap (λ o. unwrap_or o anew) old)
+            | inr made ↦ (new_manifest bag renewal alg c made).1
+          ]
+      by_file None None at there =
+          kept_is left at_path anew keeps_left ∙ ap (λ o. unwrap_or o anew) (at ∙ sym there)
+          ∙ sym (kept_is bag at_path anew keeps_bag)
+      by_file None (Some c) at there =
+          absurd (false≢true (sym (ap is_some at)
+          ∙ on.manifests alg (has_or_added bag renewal alg bag is).1 (ap is_some there)))
+
+      kept_manifest : payload_manifest left renewal alg ≡ payload_manifest bag renewal alg
+      kept_manifest =
+          λ i. (
+            at_path,
+            (ap (λ es. kept_or left at_path (manifest alg es)) payload_is
+                ∙ by_file (file left at_path) (file bag at_path) refl refl) i,
+          )
+
+    pub alike_v10 : AreRenewedAlike left bag renewal
+    alike_v10 = alike_so (λ i. (bagit_txt, kept_declaration i)) kept_manifest
+
+  module _ (v097 : IsByV097 bag) where
+    keeps_none : keeps bag ≡ false
+    keeps_none = ap is_v10 v097
+
+    left_none : keeps left ≡ false
+    left_none = same_keeps ∙ keeps_none
+
+    new_declaration : kept_or left bagit_txt declaration_text ≡ kept_or bag bagit_txt declaration_text
+    new_declaration =
+        written_is left bagit_txt declaration_text left_none ∙ sym (written_is bag bagit_txt declaration_text keeps_none)
+
+    written_manifest : (alg : Alg) → is_new_alg bag renewal alg ≡ true
+        → payload_manifest left renewal alg ≡ payload_manifest bag renewal alg
+    written_manifest alg is =
+        let path = manifest_of Payload alg in
+        λ i. (
+          path,
+          (written_is left path (manifest alg (payload left)) left_none ∙ ap (manifest alg) payload_is
+              ∙ sym (written_is bag path (manifest alg (payload bag)) keeps_none)) i,
+        )
+
+    pub alike_v097 : AreRenewedAlike left bag renewal
+    alike_v097 = alike_so (λ i. (bagit_txt, new_declaration i)) written_manifest
+
+-- ---- or all is that of the renewed bag, but for tag manifests and a file that is begun
+
+pub record IsPutAll (left bag : Bag) (renewal : Renewal) : Type 0 where
+  pub between : IsBetween left (renewed bag renewal) (renewed bag renewal)
+  pub same : (q : List ℕ) → stays q ≡ true → file left q ≡ file bag q
+  pub put : (q : List ℕ) → is_manifest_name Tag q ≡ false → q ≢ begun_file → file left q ≡ file (renewed bag renewal) q
+
+module _ (left bag : Bag) (renewal : Renewal) (v097 : IsByV097 bag) (on : IsPutAll left bag renewal)
+    (asked : is_bad_request renewal.elements ≡ false)
+    (good : writes_info bag renewal ≡ true → HasGoodElements bag renewal) where
+  none_kept : keeps bag ≡ false
+  none_kept = ap is_v10 v097
+
+  all_kept : keeps left ≡ true
+  all_kept = ap is_v10 (same_rules left (renewed bag renewal) on.between.declaration ∙ by_v10 bag renewal)
+
+  -- so bag-info.txt was written
+  writes : writes_info bag renewal ≡ true
+  writes = ap (λ k. not (k && asks_nothing renewal.elements)) none_kept
+
+  as_payload : (q : List ℕ) → is_payload_path q ≡ true → file left q ≡ file bag q
+  as_payload q of_it = on.between.as_old.payload_file q of_it ∙ same_file bag renewal q of_it
+
+  folders_are : left.folders ≡ bag.folders
   unfolding renewed
-  same_renewed = λ i. record {
-    files = fin.from_entries {R = text_cmp} (same_payload i ++ (same_kept i ++ same_written i));
-    folders = on.between.folders i;
+  folders_are = on.between.folders
+
+  put_info : file left bag_info_txt ≡ file (renewed bag renewal) bag_info_txt
+  put_info = on.put bag_info_txt (not_tag_manifest Info tt) (λ same. no_begun Info (sym same))
+
+  module _ (path anew : List ℕ) where
+    -- what was written is kept
+    was_written : (c : List ℕ) → file left path ≡ Some c → kept_or left path anew ≡ c
+    was_written c at = kept_is left path anew all_kept ∙ ap (λ o. unwrap_or o anew) at
+
+  declaration_is : kept_or left bagit_txt declaration_text ≡ kept_or bag bagit_txt declaration_text
+  declaration_is =
+      was_written bagit_txt declaration_text (kept_or bag bagit_txt declaration_text)
+      (on.between.declaration ∙ declared bag renewal)
+
+  module _ (alg : Alg) where
+    put_manifest : file left (manifest_of Payload alg) ≡ file (renewed bag renewal) (manifest_of Payload alg)
+    put_manifest =
+        on.put (manifest_of Payload alg) (other_kind (name alg)) (no_manifest_begun Payload (name alg))
+
+    alg_is : is_new_alg left renewal alg ≡ is_new_alg bag renewal alg
+    alg_is =
+        same_bool (is_new_alg left renewal alg) (is_new_alg bag renewal alg)
+        (from_left bag renewal alg left (λ c at. inr (sym put_manifest ∙ at)))
+        (λ is. to_left bag renewal alg left
+        (λ stays_in has. ap is_some (put_manifest ∙ manifest_there bag renewal alg is)) is)
+
+    manifest_is : is_new_alg bag renewal alg ≡ true
+        → payload_manifest left renewal alg ≡ payload_manifest bag renewal alg
+    manifest_is is =
+        let path = manifest_of Payload alg in
+        let text = kept_or bag path (manifest alg (payload bag)) in
+        λ i. (
+          path,
+          was_written path (manifest alg (payload left)) text (put_manifest ∙ manifest_there bag renewal alg is) i,
+        )
+
+  abbrev files_of_info : Bool → List File
+  files_of_info is = cond is ((bag_info_txt, text bag renewal) ∷ []) (file_at bag bag_info_txt)
+
+  pub alike_put : AreRenewedAlike left bag renewal
+  alike_put = record {
+    payload_file = as_payload;
+    kept = on.same;
+    folders = folders_are;
+    declaration = λ i. (bagit_txt, declaration_is i);
+    algs = alg_is;
+    manifests = manifest_is;
+    writes = λ is. writes;
+    written = λ is. written_again left bag renewal asked good as_payload (inr (on.between.as_old, put_info)) writes;
+    kept_info = λ keeps_it.
+        ap (with_path bag_info_txt) (put_info ∙ new_info bag renewal ∙ ap (info_so bag renewal) writes)
+        ∙ sym (ap files_of_info writes);
   }
 
-module _ (bag : Bag) (renewal : Renewal) (can : CanRenewInPlace bag renewal) where
-  on_the_way : (k : ℕ) → IsOnTheWay (after bag renewal k) bag renewal
-  on_the_way k = record {
-    between = between bag renewal k can;
+-- ---- each cut leaves such a bag
+
+module _ (bag : Bag) (renewal : Renewal) (can : CanRenewInPlace bag renewal) (k : ℕ) where
+  abbrev mid : Bag
+  mid = after bag renewal k
+
+  on_the_way : IsBetween mid bag (renewed bag renewal) → IsOnTheWay mid bag renewal
+  on_the_way between = record {
+    between = between;
     same = stays_as_it_was bag renewal k can;
     manifests = manifest_stays bag renewal k can;
   }
 
   -- also with a file that is begun beside the others
-  with_a_begun : (k : ℕ) (found : List ℕ) → IsOnTheWay (create begun_file found (after bag renewal k)) bag renewal
-  with_a_begun k found =
-      let mid = after bag renewal k in
-      let new = renewed bag renewal in
-      let here = between bag renewal k can in record {
-        between = with_begun mid bag new found here;
-        same = λ q is.
-            stays_elsewhere mid bag new found here q is ∙ stays_as_it_was bag renewal k can q is;
-        manifests = λ alg keeps_it there.
-            ap is_some (at_manifest mid bag new found here Payload alg)
-            ∙ manifest_stays bag renewal k can alg keeps_it there;
+  module _ (found : List ℕ) where
+    with_a_begun : IsBetween mid bag (renewed bag renewal) → IsOnTheWay (create begun_file found mid) bag renewal
+    with_a_begun here =
+        let new = renewed bag renewal in record {
+          between = with_begun mid bag new found here;
+          same = λ q is.
+              stays_elsewhere mid bag new found here q is ∙ stays_as_it_was bag renewal k can q is;
+          manifests = λ alg keeps_it there.
+              ap is_some (at_manifest mid bag new found here Payload alg)
+              ∙ manifest_stays bag renewal k can alg keeps_it there;
+        }
+
+  module _ (v097 : IsByV097 bag) (none : HasNoPercent bag) (late : AllIn (yet_to_make bag renewal k) (tags_put bag renewal))
+    where
+      abbrev here : IsBetween mid (renewed bag renewal) (renewed bag renewal)
+      here = late_between bag renewal k can v097 none late
+
+      put_so : IsPutAll mid bag renewal
+      put_so = record {
+        between = here;
+        same = stays_as_it_was bag renewal k can;
+        put = λ q other unbegun. put_all bag renewal k can v097 none late q other;
       }
 
-  pub cut_on_the_way : (left : Bag) → IsAfterFirst begun_file (changes bag renewal) bag left
-      → IsOnTheWay left bag renewal
-  cut_on_the_way left cut = elim cut.is [
-    | inl whole ↦ subst (λ b. IsOnTheWay b bag renewal) (sym whole) (on_the_way cut.k)
-    | inr begun ↦ subst (λ b. IsOnTheWay b bag renewal) (sym begun.1) (with_a_begun cut.k begun.0)
+      put_with_begun : (found : List ℕ) → IsPutAll (create begun_file found mid) bag renewal
+      put_with_begun found =
+          let new = renewed bag renewal in record {
+            between = with_begun mid new new found here;
+            same = λ q is.
+                stays_elsewhere mid new new found here q is ∙ stays_as_it_was bag renewal k can q is;
+            put = λ q other unbegun.
+                elsewhere mid new new found here q unbegun ∙ put_all bag renewal k can v097 none late q other;
+          }
+
+module _ (bag : Bag) (renewal : Renewal) (can : CanRenewInPlace bag renewal)
+    (asked : is_bad_request renewal.elements ≡ false)
+    (good : writes_info bag renewal ≡ true → HasGoodElements bag renewal) where
+  abbrev IsAlike : Bag → Type 0
+  IsAlike left = AreRenewedAlike left bag renewal
+
+  of_v10 : IsByV10 bag → (left : Bag) → IsOnTheWay left bag renewal → IsAlike left
+  of_v10 v10 left on = alike_v10 left bag renewal on asked good v10
+
+  of_v097 : IsByV097 bag → (left : Bag) → IsOnTheWay left bag renewal → IsAlike left
+  of_v097 v097 left on = alike_v097 left bag renewal on asked good v097
+
+  of_put : IsByV097 bag → (left : Bag) → IsPutAll left bag renewal → IsAlike left
+  of_put v097 left on = alike_put left bag renewal v097 on asked good
+
+  -- the bag after the first changes, and with a file that is begun
+  abbrev BothAlike : ℕ → Type 0
+  BothAlike k =
+      IsAlike (after bag renewal k) × ((found : List ℕ) → IsAlike (create begun_file found (after bag renewal k)))
+
+  both_v10 : (k : ℕ) → IsByV10 bag → BothAlike k
+  both_v10 k v10 =
+      let is = between bag renewal k can v10 in (
+        of_v10 v10 (after bag renewal k) (on_the_way bag renewal can k is),
+        λ found. of_v10 v10 (create begun_file found (after bag renewal k)) (with_a_begun bag renewal can k found is),
+      )
+
+  both_v097 : (k : ℕ) → IsByV097 bag → HasNoPercent bag → BothAlike k
+  both_v097 k v097 none = elim (early_or_late bag renewal k can v097 none) [
+    | inl early ↦ (
+        let is = early_between bag renewal k can v097 none early in (
+          of_v097 v097 (after bag renewal k) (on_the_way bag renewal can k is),
+          λ found. of_v097 v097 (create begun_file found (after bag renewal k)) (with_a_begun bag renewal can k found is),
+        ))
+    | inr late ↦ (
+      of_put v097 (after bag renewal k) (put_so bag renewal can k v097 none late),
+      λ found. of_put v097 (create begun_file found (after bag renewal k))
+          (put_with_begun bag renewal can k v097 none late found),
+    )
   ]
+
+  by_rules : (k : ℕ) → IsByV10 bag ⊎ IsByV097 bag → IsByV10 bag ⊎ HasNoPercent bag → BothAlike k
+  by_rules k (inl v10) spelled = both_v10 k v10
+  by_rules k (inr v097) (inl v10) = absurd (not_both (rules_in bag) v10 v097)
+  by_rules k (inr v097) (inr none) = both_v097 k v097 none
+
+  pub cut_alike : (left : Bag) → IsAfterFirst begun_file (changes bag renewal) bag left
+      → AreRenewedAlike left bag renewal
+  cut_alike left cut =
+      let both = by_rules cut.k (by_v10_or_v097 (rules_in bag)) can.spelled in
+      elim cut.is [
+        | inl whole ↦ subst IsAlike (sym whole) both.0
+        | inr begun ↦ subst IsAlike (sym begun.1) (both.1 begun.0)
+      ]
 
 pub renewing_again : RenewingAgainMakesTheSame
 renewing_again bag renewal left can asked good cut =
-    same_renewed left bag renewal can.rules (cut_on_the_way bag renewal can left cut) asked good
+    same_renewed left bag renewal (cut_alike bag renewal can asked good left cut)

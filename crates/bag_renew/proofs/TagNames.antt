@@ -34,7 +34,7 @@ abbrev pub IsNamed : TagName → Type 0
 IsNamed (Manifest Tag alg) = ⊥
 IsNamed tag = Unit {0}
 
-not_tag_manifest : (tag : TagName) → IsNamed tag → is_manifest_name Tag (tag_path tag) ≡ false
+pub not_tag_manifest : (tag : TagName) → IsNamed tag → is_manifest_name Tag (tag_path tag) ≡ false
 not_tag_manifest tag named = false_from_ne_true _ (λ is.
     let n = is_named Tag (tag_path tag) is in by_tag tag named n.0 n.2)
   where

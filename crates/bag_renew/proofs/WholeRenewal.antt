@@ -1,10 +1,11 @@
 -- What renewing a bag promises follows from what reading it and changing its files promise.
-use Rattle.bag_renew.proofs.Common.{arith, ◌≡◌, ◌≤◌, ◌++◌, ◌∷◌, ◌∙◌, inl, inr, ℕ, true, false, IsTrue, List, [], refl, sym}
-use Rattle.bag_renew.proofs.Common.{ap, subst, append-nil, false≢true, Bag, FileChange, Put, Remove, Renewal, begun_file}
+use Rattle.bag_renew.proofs.Common.{arith, ◌≡◌, ◌≤◌, ◌++◌, ◌∷◌, ◌⊎◌, ◌∙◌, inl, inr, ℕ, true, false, IsTrue, List, [], refl}
+use Rattle.bag_renew.proofs.Common.{ap, sym, subst, append-nil, false≢true, Bag, FileChange, Put, Remove, Renewal, begun_file}
 use Rattle.bag_renew.proofs.Common.{after_changes, changes, renewed, IsOutOfTheWay}
 use Rattle.bag_renew.proofs.CanChange.{changes_can_be_made}
 use Rattle.bag_renew.proofs.ChangesRenew.{changes_renew}
 use Rattle.bag_renew.proofs.GoodInfo.{good_elements_are_good_info}
+use Rattle.bag_renew.proofs.KeptOr.{keeps_v10}
 use Rattle.bag_renew.proofs.OldBag.{known}
 use Rattle.bag_renew.proofs.Valid.{renewed_has_old_faults}
 use Rattle.std.specs.Prelude.{Result, Ok, Err, IfErr, OnOk}
@@ -18,7 +19,7 @@ use Rattle.bag_tree.specs.declared.event.DeviceEvent.{DeviceEvent}
 use Rattle.bag_renew.proofs.Openings.{for_renewal_still}
 use Rattle.bag_renew.specs.Openings.{OpensBefore, OpensForRenewal}
 use Rattle.bag_renew.specs.Reading.{HasKnownSize, MayRefuseReading}
-use Rattle.bag_renew.specs.OnTheWay.{CanRenewInPlace}
+use Rattle.bag_renew.specs.OnTheWay.{CanRenewInPlace, HasNoPercent}
 use Rattle.bag_renew.specs.Renew.{HasNoNewFault, HasPlanned, HasStoppedAt, IsRenewal, MayRefuseRenewing, told_as}
 use Rattle.bag_renew.specs.Request.{is_bad_request}
 use Rattle.bag_renew.specs.Valid.{HasGoodInfo, IsFaultOf, IsOldDamage}
@@ -99,7 +100,7 @@ module _ (renewal : Renewal) (old new : TreeState) where
     any_moment = λ honest noted way.
         nothing_asked (IsAfterFirst begun_file (changes old.bag renewal) old.bag) old.bag old.trail new.trail
         (none_made (changes old.bag renewal) old.bag) keeps.trail;
-    no_new_fault = λ honest noted way rules size.
+    no_new_fault = λ honest noted way size.
         nothing_asked (HasNoNewFault old.bag) old.bag old.trail new.trail (λ f is. is) keeps.trail;
     lasting = tt;
   }
@@ -136,13 +137,18 @@ module _ (renewal : Renewal) (old read new : TreeState) (planned : List FileChan
         good_elements_are_good_info old.bag renewal (plan.read.bag.can honest)
         (λ writes. plan.read.elements honest writes size)
 
-    pub no_new_one : IsTrue old.noted → IsByV10 old.bag → HasKnownSize old.bag
-        → OutlastsChanges begun_file planned read new
+    spelled : IsByV10 old.bag ⊎ HasNoPercent old.bag
+    spelled = elim (plan.read.bag.no_obstacle honest).spelled [
+      | inl keeps_it ↦ inl (keeps_v10 old.bag keeps_it)
+      | inr none ↦ inr none
+    ]
+
+    pub no_new_one : IsTrue old.noted → HasKnownSize old.bag → OutlastsChanges begun_file planned read new
         → EachCut old.trail new.trail old.bag (HasNoNewFault old.bag)
-    no_new_one noted rules size outlasts =
+    no_new_one noted size outlasts =
         let in_place : CanRenewInPlace old.bag renewal = record {
-          rules = rules;
           can = plan.read.bag.can honest;
+          spelled = spelled;
           info = good_info size;
           way = way;
           begun = λ alg named. (plan.read.bag.no_obstacle honest).own (alg, named);
@@ -187,7 +193,7 @@ module _ (renewal : Renewal) (old read new : TreeState) (planned : List FileChan
     opens = for_renewal_still renewal old read new opens changed.openings;
     opens_before = tt;
     any_moment = λ honest noted way. at_any_moment honest way noted outlasts;
-    no_new_fault = λ honest noted way rules size. no_new_one honest way noted rules size outlasts;
+    no_new_fault = λ honest noted way size. no_new_one honest way noted size outlasts;
     lasting = λ honest noted way. lasts honest way noted lasting;
   }
 
@@ -223,7 +229,7 @@ module _ (renewal : Renewal) (old read new : TreeState) (planned : List FileChan
         opens = for_renewal_still renewal old read new opens (left.3 ∙ so_far.openings);
         opens_before = none_before_it fault h;
         any_moment = λ honest noted way. at_any_moment honest way noted outlasts;
-        no_new_fault = λ honest noted way rules size. no_new_one honest way noted rules size outlasts;
+        no_new_fault = λ honest noted way size. no_new_one honest way noted size outlasts;
         lasting = tt;
       }
 

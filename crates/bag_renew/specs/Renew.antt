@@ -1,5 +1,5 @@
 -- What renewing a bag promises.
-use Rattle.std.specs.Prelude.{ℕ, ◌≡◌, ◌≤◌, ◌-◌, false, true, All, IsTrue, List, Some, slice_get}
+use Rattle.std.specs.Prelude.{◌≡◌, ◌≤◌, ◌-◌, false, true, All, IsTrue, List, Some, slice_get}
 use Rattle.std.specs.Prelude.{Result, IfErr, OnOk}
 use Rattle.bag_tree.specs.Bag.{Bag}
 use Rattle.bag_tree.specs.ChangeFiles.{HasChanged, HasStopped, IsOfFile}
@@ -10,7 +10,6 @@ use Rattle.bag_tree.specs.declared.changing_files.RefusedChange.{RefusedChange}
 use Rattle.bag_tree.specs.declared.file_change.FileChange.{FileChange}
 use Rattle.bag_tree.specs.declared.file_change.FileChange.TheVariants.{Put, Remove}
 use Rattle.bag_tree.specs.declared.tree_fault.TreeFault.{TreeFault}
-use Rattle.bag_facts.specs.Facts.{IsByV10}
 use Rattle.bag_facts.specs.declared.fault.Fault.{Fault}
 use Rattle.bag_renew.specs.Changes.{changes}
 use Rattle.bag_renew.specs.Laws.{IsOutOfTheWay}
@@ -96,10 +95,9 @@ pub record IsRenewal (renewal : Renewal) (old new : TreeState)
   pub any_moment : IsTrue old.honest → IsTrue old.noted → IsOutOfTheWay old.bag
       → EachCut old.trail new.trail old.bag
       (IsAfterFirst begun_file (changes old.bag renewal) old.bag)
-  -- where the bag is of version 1.0, that has no fault that the bag hadn't
+  -- and that has no fault that the bag hadn't
   pub no_new_fault : IsTrue old.honest → IsTrue old.noted → IsOutOfTheWay old.bag
-      → IsByV10 old.bag → HasKnownSize old.bag
-      → EachCut old.trail new.trail old.bag (HasNoNewFault old.bag)
+      → HasKnownSize old.bag → EachCut old.trail new.trail old.bag (HasNoNewFault old.bag)
   -- and after Ok a power cut leaves the renewed bag, and nothing else
   pub lasting : OnOk result (IsTrue old.honest → IsTrue old.noted → IsOutOfTheWay old.bag
       → LeavesOnly old.trail new.trail old.bag (renewed old.bag renewal))

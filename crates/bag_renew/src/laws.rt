@@ -74,10 +74,10 @@ pub fn good_elements_are_good_info()
     ensures { GoodElementsAreGoodInfo }
 {}
 
-/// A renewal of a bag of version 1.0 makes no fault on its way: after any number of the changes each
-/// fault is damage of a payload file that the bag had. So it is where no folder has the name of a tag
-/// file or of `.bagit-begun`, and no tag manifest names `.bagit-begun`. Of bags of 0.97 it isn't
-/// proved.
+/// A renewal makes no fault on its way: after any number of the changes each fault is damage of a
+/// payload file that the bag had. So it is where no folder has the name of a tag file or of
+/// `.bagit-begun`, and no tag manifest names `.bagit-begun`; and, of a bag of 0.97, no path has a `%`,
+/// which 1.0 spells otherwise. Until `bagit.txt` is put, that is judged by the rules of 0.97.
 pub fn each_bag_on_the_way_has_old_faults()
     ensures { EachBagOnTheWayHasOldFaults }
 {}
@@ -103,8 +103,8 @@ pub fn elements_are_renewed_once()
     ensures { ElementsAreRenewedOnce }
 {}
 
-/// What a power cut leaves of a bag of version 1.0 can be renewed by the same request, where the
-/// elements that are written can be.
+/// What a power cut leaves of such a bag can be renewed by the same request, where the elements that
+/// are written can be.
 pub fn cut_bags_can_be_renewed()
     ensures { CutBagsCanBeRenewed }
 {}
