@@ -12,8 +12,8 @@ this is a loss:
   falsely valid  the program says that a bag is valid which lacks a file of the folder
   no way back    before `made`, what docs/NOT_MADE.md says doesn't bring the folder back
 
-With --work renewing a bag is renewed by bagit-renew, and these are losses, and the first and the third of those above
-(after the line `renewed`):
+With --work renewing a bag is renewed by bagit-renew, in each of the ways that --renewals names, and these are losses,
+and the first and the third of those above (after the line `renewed`):
 
   files lost     a payload file isn't what it was
   no valid bag   it isn't one by bagit, or by tests/renew.py
@@ -35,6 +35,7 @@ from pathlib import Path
 
 from file_systems import FILE_SYSTEMS
 from machine import answer_to, missing_packages, starts, stop
+from renewing import RENEWALS
 
 FAILED, SKIPPED = 2, 77
 PROGRAM = Path(__file__).resolve().parents[2] / "crates/bagit/out/bagit"
@@ -45,14 +46,19 @@ LOSSES = {
     "making": ("not mounted", "files lost", "bag lost", "falsely valid", "no way back"),
     "renewing": ("not mounted", "files lost", "bag lost", "no valid bag", "not renewed"),
 }
-COUNTS = ("writes", "flushes", "states", "folders")
+COUNTS = ("writes", "forced", "flushes", "states", "folders")
 
 
-def file_systems(text):
-    names = text.split(",")
-    if not set(names) <= set(FILE_SYSTEMS):
-        raise argparse.ArgumentTypeError(f"these are known: {' '.join(FILE_SYSTEMS)}")
-    return names
+def names_of(known):
+    """What reads a list of names, each a known one."""
+
+    def read(text):
+        names = text.split(",")
+        if not set(names) <= set(known):
+            raise argparse.ArgumentTypeError(f"these are known: {' '.join(known)}")
+        return names
+
+    return read
 
 
 def options():
@@ -62,10 +68,11 @@ def options():
     add("program", metavar="PROGRAM", nargs="?", default=str(PROGRAM), help="by default crates/bagit/out/bagit")
     add("--work", choices=LOSSES, default="making", help="what is done: a folder is made a bag, or a bag is renewed")
     add("--renewing", metavar="FILE", default=str(RENEWING), help="by default crates/bagit_renew/out/bagit_renew")
+    add("--renewals", type=names_of(RENEWALS), metavar="NAME,..", help=f"of these: {' '.join(RENEWALS)}")
     add("--quick", action="store_true", help=f"{', '.join(QUICK)} in 200 states each: some minutes")
-    add("--file-systems", type=file_systems, metavar="NAME,..", help=f"of these: {' '.join(FILE_SYSTEMS)}")
+    add("--file-systems", type=names_of(FILE_SYSTEMS), metavar="NAME,..", help=f"of these: {' '.join(FILE_SYSTEMS)}")
     add("--variant", choices=VARIANTS, help="no-syncs: no sync does anything; lying-disk: no flush keeps anything")
-    add("--states", type=int, metavar="N", help="how many are tried of each file system (1500)")
+    add("--states", type=int, metavar="N", help="how many are tried in each trial (1500)")
     add("--jobs", type=int, default=2, metavar="N", help="how many machines run at once (2)")
     add("--seed", type=int, default=1, metavar="N", help="for the choice of the states (1)")
     return parser.parse_args()
@@ -77,7 +84,8 @@ def jobs_of(chosen):
     job = {"program": str(Path(chosen.program).resolve()), "seed": chosen.seed, "settle": 1 if chosen.quick else 7}
     job.update(work=chosen.work, renewing=str(Path(chosen.renewing).resolve()))
     job.update(variant=chosen.variant, states=chosen.states or (200 if chosen.quick else 1500), must_lose=False)
-    jobs = [{**job, "file system": name} for name in names]
+    renewals = (chosen.renewals or list(RENEWALS)) if chosen.work == "renewing" else [""]
+    jobs = [{**job, "file system": name, "renewal": renewal} for name in names for renewal in renewals]
     if not chosen.variant:
         jobs.append({**jobs[0], "variant": "no-syncs", "states": 60, "must_lose": True})
     return jobs
@@ -98,7 +106,7 @@ def answers_to(jobs, at_once):
 
 def name_of(job):
     star = "" if FILE_SYSTEMS[job["file system"]].is_promised else "*"
-    return f"{job['file system']}{star} {VARIANTS.get(job['variant'], '')}".strip()
+    return " ".join(filter(None, (job["file system"] + star, job["renewal"], VARIANTS.get(job["variant"]))))
 
 
 def print_table(jobs, answers):
@@ -133,7 +141,8 @@ def status_of(jobs, answers):
 def main():
     chosen = options()
     jobs = jobs_of(chosen)
-    for program in [chosen.program, *[chosen.renewing] * (chosen.work == "renewing")]:
+    programs = [chosen.program, *[chosen.renewing] * (chosen.work == "renewing")]
+    for program in programs:
         if not access(program, X_OK):
             print(f"there is no program {program}", file=sys.stderr)
             return FAILED
@@ -146,7 +155,7 @@ def main():
         return SKIPPED
     answers = answers_to(jobs, chosen.jobs)
     kernels = {answer["kernel"] for answer in answers if "kernel" in answer}
-    print(f"Linux {' '.join(kernels)}, {date.today()}, {chosen.program}")
+    print(f"Linux {' '.join(kernels)}, {date.today()}, {' '.join(programs)}")
     print_table(jobs, answers)
     print_details(jobs, answers)
     return status_of(jobs, answers)

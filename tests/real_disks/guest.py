@@ -134,7 +134,9 @@ class Trial:
                 losses[what] += 1
                 if losses[what] <= EXAMPLES:
                     examples.append(f"{what} at {cut.moment} of {self.moments[-1]}, {cut.kind}: {text[:80]}")
-        counts = {"writes": len(self.disk.writes), "flushes": self.disk.flushes, "states": states}
+        writes = self.disk.writes
+        forced = sum(write.is_forced for write in writes)
+        counts = {"writes": len(writes), "forced": forced, "flushes": self.disk.flushes, "states": states}
         counts.update(folders=len(self.known), losses=losses, examples=examples, seconds=round(time.time() - began))
         return {**counts, "kernel": os.uname().release}
 
