@@ -1,24 +1,29 @@
 -- The first of the listed files that are to be read were opened, and no other.
 use Rattle.bag_renew.proofs.Common.{◌≡◌, ◌<◌, ◌+◌, ◌++◌, ◌∷◌, ◌∙◌, inl, inr, ℕ, Bool, List, [], length, take, get_or}
-use Rattle.bag_renew.proofs.Common.{Alg, ap, append-nil, arith, map-append, sym, true}
+use Rattle.bag_renew.proofs.Common.{Alg, All, All-cons, All-contains, All-nil, IsTrue, ap, append-nil, append_assoc}
+use Rattle.bag_renew.proofs.Common.{arith, map-append, refl, subst, sym, true}
 use Rattle.std.proofs.Math.Seq.{take-append_seam, take-length}
 use Rattle.std.proofs.lemmas.List.{take-append-drop}
 use Rattle.std.proofs.lemmas.List.Elements.{filter-append}
 use Rattle.std.specs.Prelude.{drop}
 use Rattle.bag_text.specs.Code.{stage}
 use Rattle.bag_read.specs.declared.kind.Kind.{Kind}
+use Rattle.bag_facts.proofs.Mapped.{passed}
+use Rattle.bag_facts.proofs.Reading.{later_refusal}
 use Rattle.bag_facts.specs.Wanted.{paths_of}
 use Rattle.bag_facts.specs.declared.facts.Facts.{Facts}
 use Rattle.bag_facts.specs.declared.fault.Fault.{Fault}
 use Rattle.bag_stages.specs.Given.{kind_of}
 use Rattle.bag_stages.specs.SumFaults.{differing_code, faults_of_bytes}
 use Rattle.bag_stages.specs.Expected.{Expected}
-use Rattle.bag_tree.specs.FileReads.{OpensAtMost}
-use Rattle.bag_tree.specs.Tree.{TreeState}
+use Rattle.bag_tree.proofs.Calm.{memory_then}
+use Rattle.bag_tree.specs.FileReads.{IsEntryOf, OpensAtMost}
+use Rattle.bag_tree.specs.Tree.{IsRefusedAt, TreeState}
 use Rattle.bag_tree.specs.declared.listing.FileEntry.{FileEntry}
-use Rattle.bag_renew.proofs.Summing.{ChecksFirst, opened_more}
+use Rattle.bag_renew.proofs.Summing.{ChecksFirst, next, opened_more}
 use Rattle.bag_renew.specs.Checked.{IsUnchecked}
 use Rattle.bag_renew.specs.Openings.{IsOfSeventh, OpensFirstToRead}
+use Rattle.bag_renew.specs.Stops.{IsRefusedAmong, StopsChecking}
 use Rattle.bag_renew.specs.Summed.{IsNoMemory, is_to_read, to_read}
 use Rattle.bag_renew.specs.declared.checked.Unchecked.{Unchecked}
 use Rattle.bag_renew.specs.declared.checked.Unchecked.TheVariants.{Faulty, Stopped}
@@ -56,6 +61,12 @@ module _ (with_payload : Bool) (files : List FileEntry) (old new : TreeState) wh
   pub opens_none : new.openings ≡ old.openings → OpensFirstToRead with_payload files old new
   opens_none same = (0, same ∙ sym (append-nil old.openings))
 
+-- the one place in a list of one
+alone : (x y : List ℕ) (before after : List (List ℕ)) → x ∷ [] ≡ before ++ y ∷ after → (before ≡ []) × (x ≡ y)
+alone x y [] after e = (refl, cc)
+alone x y (z ∷ []) after e = cc
+alone x y (z ∷ w ∷ before) after e = cc
+
 -- it stopped at a file, which was opened or not
 module _ (facts : Facts) (files : List FileEntry) (i : ℕ) (entry : FileEntry) (with_payload : Bool) (algs : List Alg)
     (old mid new : TreeState) (summed : List SummedFile) (info : List ℕ)
@@ -67,6 +78,51 @@ module _ (facts : Facts) (files : List FileEntry) (i : ℕ) (entry : FileEntry) 
   opens_at (inr once) =
       opens_so_far with_payload files old new (i + 1)
       (opened_more facts files i entry with_payload algs old mid new summed info lt is before read once)
+
+  -- where it stands among those that are read
+  abbrev before_it : List (List ℕ)
+  before_it = paths_of (to_read with_payload (take i files))
+
+  abbrev after_it : List (List ℕ)
+  after_it = paths_of (to_read with_payload (drop (i + 1) files))
+
+  its_place : paths_of (to_read with_payload files) ≡ before_it ++ entry.path ∷ after_it
+  its_place =
+      joined with_payload files old new (i + 1)
+      ∙ ap (λ xs. xs ++ after_it)
+      (ap paths_of (next facts files i entry with_payload algs old mid new summed info lt is before read)
+      ∙ map-append (λ (e : FileEntry). e.path) (to_read with_payload (take i files)) (entry ∷ []))
+      ∙ append_assoc before_it (entry.path ∷ []) after_it
+
+  at_it : (path : List ℕ) → IsRefusedAmong (entry.path ∷ []) path mid new
+      → IsRefusedAmong (paths_of (to_read with_payload files)) path old new
+  at_it path (first, after, same, refused) = let only = alone entry.path path first after same in (
+    before_it,
+    after_it,
+    its_place ∙ ap (λ p. before_it ++ p ∷ after_it) only.1,
+    subst (λ all. IsRefusedAt all path new)
+        (ap (λ xs. mid.openings ++ xs) only.0 ∙ append-nil mid.openings ∙ before.opened) refused,
+  )
+
+  its_entry : (IsTrue old.honest → All (IsEntryOf old.bag) (to_read with_payload files))
+      → IsTrue mid.honest → All (IsEntryOf mid.bag) (entry ∷ [])
+  its_entry are honest =
+      All-cons (IsEntryOf mid.bag) entry []
+      (subst (λ bag. IsEntryOf bag entry) (sym before.keeps.bag)
+      (All-contains (IsEntryOf old.bag) (to_read with_payload files) entry (are (sym before.keeps.honest ∙ honest))
+      (passed (λ (e : FileEntry). is_to_read with_payload e.path) files entry read (i, lt, sym is))))
+      (All-nil (IsEntryOf mid.bag))
+
+  -- a stop at it is one of the whole
+  pub stops_at : (e : Unchecked) → StopsChecking (entry ∷ []) mid new e
+      → StopsChecking (to_read with_payload files) old new e
+  stops_at (Faulty fault) h = tt
+  stops_at (Stopped stop) h = record {
+    cause = λ are. later_refusal old mid new stop.cause before.keeps (h.cause (its_entry are));
+    answered = h.answered;
+    path = elim h.path [ inl memory ↦ inl memory | inr at ↦ inr (at_it stop.path at) ];
+    out_of_memory = λ m. memory_then old mid new before.no_failure (h.out_of_memory m);
+  }
 
 -- ---- a digest that differs is a fault of the seventh stage
 

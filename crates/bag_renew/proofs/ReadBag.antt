@@ -1,24 +1,25 @@
 -- What a bag is that was read for a renewal, and why it is refused.
-use Rattle.bag_renew.proofs.Common.{◌≡◌, ◌≢◌, ◌∙◌, ◌⊎◌, inl, inr, ℕ, List, [], Bool, true, IsTrue, sym, ap, subst}
+use Rattle.bag_renew.proofs.Common.{◌≡◌, ◌≢◌, ◌∙◌, ◌⊎◌, ◌++◌, ◌∷◌, inl, inr, ℕ, List, [], Bool, true, IsTrue, refl, sym}
+use Rattle.bag_renew.proofs.Common.{ap, subst, append_assoc, contains_back, contains_first, mapped_contains}
 use Rattle.bag_renew.proofs.Common.{Contains, All, All-contains, and_parts, is_path, in_base, Alg}
 use Rattle.bag_renew.proofs.Common.{Bag, IsBag, HasFile, files_of, Renewal}
 use Rattle.std.proofs.lemmas.List.Elements.{All-from_recursion}
 use Rattle.bag_text.proofs.ListOf.{each_from_members}
 use Rattle.bag_facts.proofs.ListedFiles.{own_size}
-use Rattle.bag_facts.proofs.Mapped.{contains_mapped}
+use Rattle.bag_facts.proofs.Mapped.{contains_mapped, kept}
 use Rattle.bag_facts.proofs.Reading.{later_refusal}
-use Rattle.bag_facts.proofs.Refusing.{has_entry, path_some}
+use Rattle.bag_facts.proofs.Refusing.{has_entry, path_some, wanted_some}
 use Rattle.bag_facts.specs.FactsOfBag.{IfBagRead, IsFactsOf}
 use Rattle.bag_tree.specs.Stop.{IsOutOfMemory}
 use Rattle.bag_facts.specs.Stops.{IsOfListing}
-use Rattle.bag_facts.specs.TagReader.{MayStopReading}
-use Rattle.bag_facts.specs.Wanted.{IsRefusedFile, paths_of}
+use Rattle.bag_facts.specs.TagReader.{MayStopReading, OpensAll}
+use Rattle.bag_facts.specs.Wanted.{ForListing, IsRefusedFile, IsWanted, OpensUpTo, paths_of}
 use Rattle.bag_facts.specs.declared.facts.Facts.{Facts}
 use Rattle.bag_facts.specs.declared.options.Depth.TheVariants.{Declaration}
 use Rattle.bag_facts.specs.declared.options.Options.{Options}
 use Rattle.bag_tree.proofs.Calm.{memory_then, nothing_then}
 use Rattle.bag_tree.specs.FileReads.{IsEntryOf}
-use Rattle.bag_tree.specs.Tree.{Keeps, NothingFailed, TreeState}
+use Rattle.bag_tree.specs.Tree.{IsRefusedAt, Keeps, NothingFailed, TreeState}
 use Rattle.bag_tree.specs.declared.listing.FileEntry.{FileEntry}
 use Rattle.bag_tree.specs.declared.tree_fault.Stop.{Stop}
 use Rattle.bag_renew.proofs.CheckedBag.{compared, damaged, files_refuse, has_checked, info_lines, none_at_all}
@@ -35,8 +36,9 @@ use Rattle.bag_renew.specs.Reading.{AllowsRenewal, HasNoEarlyFault, HasReadBag, 
 use Rattle.bag_renew.specs.Reading.{IsRefusedByFacts}
 use Rattle.bag_renew.specs.Reading.{MayRefuseReading, MayStopReadingBag}
 use Rattle.bag_renew.specs.Renewed.{reads_payload}
-use Rattle.bag_renew.specs.Stops.{IsOfFile, MayStop, MayStopUnchecked, StopsAtFile, StopsChecking}
-use Rattle.bag_renew.specs.Summed.{AreSummed, IsFaultyFile, IsNoMemory, files_to_read}
+use Rattle.bag_renew.specs.Stops.{AreOpened, IsOfFile, IsRefusedAmong, MayStop, MayStopUnchecked, StopsAtFile}
+use Rattle.bag_renew.specs.Stops.{StopsChecking}
+use Rattle.bag_renew.specs.Summed.{AreSummed, IsFaultyFile, IsNoMemory, files_to_read, is_to_read, to_read}
 use Rattle.bag_renew.specs.Valid.{full}
 use Rattle.bag_renew.specs.declared.checked.Unchecked.{Unchecked}
 use Rattle.bag_renew.specs.declared.checked.Unchecked.TheVariants as checked
@@ -46,28 +48,48 @@ use Rattle.bag_tags.specs.declared.summed.SummedFile.{SummedFile}
 
 -- ---- a stop
 
-of_wanted : (old new : TreeState) (stop : Stop)
-    → IsOutOfMemory stop ⊎ IsOfListing old new stop ⊎ IsRefusedFile full old stop
-    → IsOutOfMemory stop ⊎ IsOfListing old new stop ⊎ IsOfFile old stop
-of_wanted old new stop (inl memory) = inl memory
-of_wanted old new stop (inr (inl listing)) = inr (inl listing)
-of_wanted old new stop (inr (inr ((name, at, wants), has))) =
-    inr (inr (subst (λ p. is_path p ≡ true) at (and_parts _ _ (in_base name)).0, has))
+module _ (with_payload : Bag → Bool) (old new : TreeState) (stop : Stop) where
+  of_tag_file : IsWanted full stop.path → (IsTrue old.honest → HasFile old.bag stop.path)
+      → ForListing old (λ files. OpensUpTo full files stop.path old new) → IsOfFile with_payload old new stop
+  of_tag_file (name, at, wants) has (listing, ordered, own, (before, after, are, refused)) =
+      let read = paths_of (to_read (with_payload old.bag) listing.files) in record {
+        named = subst (λ p. is_path p ≡ true) at (and_parts _ _ (in_base name)).0;
+        there = has;
+        reads = with_payload old.bag;
+        reads_is = λ honest. refl;
+        in_turn = (
+          listing,
+          ordered,
+          own,
+          (
+            (before ++ stop.path ∷ after) ++ read,
+            (before ++ stop.path ∷ after, are, refl),
+            (before, after ++ read, append_assoc before (stop.path ∷ after) read, refused),
+          ),
+        );
+      }
 
--- the listing or a tag file was refused
-pub stop_of_facts : (old new : TreeState) (stop : Stop) → MayStopReading full old new stop → MayStop old new stop
-stop_of_facts old new stop h =
-    record {
+  module _ (up_to : stop.path ≢ [] → ForListing old (λ files. OpensUpTo full files stop.path old new)) where
+    of_wanted : IsOutOfMemory stop ⊎ IsOfListing old new stop ⊎ IsRefusedFile full old stop
+        → IsOutOfMemory stop ⊎ IsOfListing old new stop ⊎ IsOfFile with_payload old new stop
+    of_wanted (inl memory) = inl memory
+    of_wanted (inr (inl listing)) = inr (inl listing)
+    of_wanted (inr (inr (wanted, has))) =
+        inr (inr (of_tag_file wanted has (up_to (wanted_some full stop.path wanted))))
+
+    -- the listing or a tag file was refused
+    pub stop_of_facts : MayStopReading full old new stop → MayStop with_payload old new stop
+    stop_of_facts h = record {
       cause = h.cause;
       answered = h.answered;
-      path = of_wanted old new stop h.path;
+      path = of_wanted h.path;
       out_of_memory = h.out_of_memory;
     }
 
 -- memory ran out
-pub stop_for_memory : (old new : TreeState) (stop : Stop) → IsOutOfMemory stop → NothingFailed old new
-    → MayStop old new stop
-stop_for_memory old new stop memory calm =
+pub stop_for_memory : (with_payload : Bag → Bool) (old new : TreeState) (stop : Stop) → IsOutOfMemory stop
+    → NothingFailed old new → MayStop with_payload old new stop
+stop_for_memory with_payload old new stop memory calm =
     record {
       cause = rw memory.0 tt;
       answered = inl memory;
@@ -77,24 +99,26 @@ stop_for_memory old new stop memory calm =
 
 pub unchecked_for_memory : (old new : TreeState) (e : Unchecked) → IsNoMemory e → NothingFailed old new
     → MayStopUnchecked old new e
-unchecked_for_memory old new (checked.Stopped stop) memory calm = stop_for_memory old new stop memory calm
+unchecked_for_memory old new (checked.Stopped stop) memory calm =
+    stop_for_memory (λ bag. true) old new stop memory calm
 unchecked_for_memory old new (checked.Faulty fault) memory calm = absurd memory
 
-refused_path : (old new : TreeState) (stop : Stop) → (IsOutOfMemory stop → ⊥)
-    → IsOutOfMemory stop ⊎ IsOfListing old new stop ⊎ IsOfFile old stop
-    → IsOfListing old new stop ⊎ IsOfFile old stop
-refused_path old new stop not (inl memory) = absurd (not memory)
-refused_path old new stop not (inr other) = other
+refused_path : (with_payload : Bag → Bool) (old new : TreeState) (stop : Stop) → (IsOutOfMemory stop → ⊥)
+    → IsOutOfMemory stop ⊎ IsOfListing old new stop ⊎ IsOfFile with_payload old new stop
+    → IsOfListing old new stop ⊎ IsOfFile with_payload old new stop
+refused_path with_payload old new stop not (inl memory) = absurd (not memory)
+refused_path with_payload old new stop not (inr other) = other
 
 pub refused_stop : (renewal : Renewal) (old new : TreeState) (stop : Stop) (fault : RenewFault)
-    → MayStop old new stop → IsRefusalOfStop stop fault → MayRefuseReading renewal old new fault
+    → MayStop (λ bag. reads_payload bag renewal) old new stop → IsRefusalOfStop stop fault
+    → MayRefuseReading renewal old new fault
 refused_stop renewal old new stop why.Memory h is = h.out_of_memory is
 refused_stop renewal old new stop (why.ReadStopped other) h is =
-    subst (MayStopReadingBag old new) (sym is.0) (record {
+    subst (MayStopReadingBag renewal old new) (sym is.0) (record {
       cause = h.cause;
       not_memory = is.1;
       answered = h.answered;
-      path = refused_path old new stop (λ memory. is.1 memory.0) h.path;
+      path = refused_path (λ bag. reads_payload bag renewal) old new stop (λ memory. is.1 memory.0) h.path;
     })
 refused_stop renewal old new stop (why.Faulty f) h is = absurd is
 refused_stop renewal old new stop why.BadValue h is = absurd is
@@ -172,12 +196,6 @@ module _ (facts : Facts) (old mid new : TreeState) (seen : (bag : Bag) × IsBag 
       sym ((of honest).listing.files entry.path)
       ∙ own_size facts.listing.files entry (of honest).ordered.ascending c
 
-  entries : IsTrue mid.honest → All (IsEntryOf mid.bag) facts.listing.files
-  entries honest =
-      All-from_recursion (IsEntryOf mid.bag) facts.listing.files
-      (each_from_members (IsEntryOf mid.bag) facts.listing.files
-      (λ entry c. subst (λ bag. IsEntryOf bag entry) (sym keeps.bag) (is_entry (was_honest honest) entry c)))
-
   its_file : (path : List ℕ) → Contains (paths_of facts.listing.files) path
       → (is_path path ≡ true) × (IsTrue old.honest → HasFile old.bag path)
   its_file path has =
@@ -189,34 +207,87 @@ module _ (facts : Facts) (old mid new : TreeState) (seen : (bag : Bag) × IsBag 
             (has_entry old m.0 (λ h. is_entry h m.0 m.1) honest),
       )
 
-  at_file : (stop : Stop) → StopsAtFile facts.listing.files mid new stop
-      → IsOutOfMemory stop ⊎ Contains (paths_of facts.listing.files) stop.path → MayStop old new stop
-  at_file stop h (inl memory) =
-      record {
-        cause = rw memory.0 tt;
-        answered = inl memory;
-        path = inl memory;
-        out_of_memory = λ m. memory_then old mid new calm (h.out_of_memory m);
-      }
-  at_file stop h (inr has) = let its = its_file stop.path has in record {
-    cause = later_refusal old mid new stop.cause keeps (h.cause entries);
-    answered = inr (inr (path_some stop.path its.0, h.answered));
-    path = inr (inr its);
-    out_of_memory = λ m. memory_then old mid new calm (h.out_of_memory m);
-  }
+  module _ (tags : OpensAll full facts.listing.files old mid) (with_payload : Bag → Bool) (b : Bool)
+      (reads : (bag : Bag) → IsFactsOf bag facts → b ≡ with_payload bag) where
+    abbrev files_read : List FileEntry
+    files_read = to_read b facts.listing.files
 
-  -- a file was refused
-  pub stop_at_file : (stop : Stop) → StopsAtFile facts.listing.files mid new stop → MayStop old new stop
-  stop_at_file stop h = at_file stop h h.path
+    among : (entry : FileEntry) → Contains files_read entry → Contains facts.listing.files entry
+    among entry c = (kept (λ (e : FileEntry). is_to_read b e.path) facts.listing.files entry c).1
 
-  pub stop_of_check : (e : Unchecked) → StopsChecking facts.listing.files mid new e → MayStopUnchecked old new e
-  stop_of_check (checked.Stopped stop) h = stop_at_file stop h
-  stop_of_check (checked.Faulty fault) h = tt
+    entries : IsTrue mid.honest → All (IsEntryOf mid.bag) files_read
+    entries honest =
+        All-from_recursion (IsEntryOf mid.bag) files_read
+        (each_from_members (IsEntryOf mid.bag) files_read (λ entry c.
+        subst (λ bag. IsEntryOf bag entry) (sym keeps.bag) (is_entry (was_honest honest) entry (among entry c))))
+
+    listed_path : (path : List ℕ) → IsRefusedAmong (paths_of files_read) path mid new
+        → Contains (paths_of facts.listing.files) path
+    listed_path path (before, after, same, refused) =
+        let m =
+        contains_mapped (λ (e : FileEntry). e.path) files_read path
+        (subst (λ (xs : List (List ℕ)). Contains xs path) (sym same)
+        (contains_back before (path ∷ after) path (contains_first path after))) in
+        subst (Contains (paths_of facts.listing.files)) m.2
+        (mapped_contains (λ (e : FileEntry). e.path) facts.listing.files m.0 (among m.0 m.1))
+
+    in_turn : (path : List ℕ) → IsRefusedAmong (paths_of files_read) path mid new
+        → ForListing old (λ files. (paths : List (List ℕ)) × AreOpened b files paths
+        × IsRefusedAmong paths path old new)
+    in_turn path (before, after, same, refused) = (
+      facts.listing,
+      seen.2.ordered,
+      (λ honest. (of honest).listing),
+      (
+        tags.0 ++ paths_of files_read,
+        (tags.0, tags.1, refl),
+        (
+          tags.0 ++ before,
+          after,
+          ap (λ xs. tags.0 ++ xs) same ∙ sym (append_assoc tags.0 before (path ∷ after)),
+          subst (λ all. IsRefusedAt all path new)
+              (ap (λ xs. xs ++ before) tags.2 ∙ append_assoc old.openings tags.0 before) refused,
+        ),
+      ),
+    )
+
+    at_file : (stop : Stop) → StopsAtFile files_read mid new stop
+        → IsOutOfMemory stop ⊎ IsRefusedAmong (paths_of files_read) stop.path mid new
+        → MayStop with_payload old new stop
+    at_file stop h (inl memory) =
+        record {
+          cause = rw memory.0 tt;
+          answered = inl memory;
+          path = inl memory;
+          out_of_memory = λ m. memory_then old mid new calm (h.out_of_memory m);
+        }
+    at_file stop h (inr at) = let its = its_file stop.path (listed_path stop.path at) in record {
+      cause = later_refusal old mid new stop.cause keeps (h.cause entries);
+      answered = inr (inr (path_some stop.path its.0, h.answered));
+      path =
+          inr (inr (record {
+            named = its.0;
+            there = its.1;
+            reads = b;
+            reads_is = λ honest. reads old.bag (of honest);
+            in_turn = in_turn stop.path at;
+          }));
+      out_of_memory = λ m. memory_then old mid new calm (h.out_of_memory m);
+    }
+
+    -- a file was refused
+    pub stop_at_file : (stop : Stop) → StopsAtFile files_read mid new stop → MayStop with_payload old new stop
+    stop_at_file stop h = at_file stop h h.path
+
+  pub stop_of_check : OpensAll full facts.listing.files old mid → (e : Unchecked)
+      → StopsChecking (to_read true facts.listing.files) mid new e → MayStopUnchecked old new e
+  stop_of_check tags (checked.Stopped stop) h = stop_at_file tags (λ bag. true) true (λ bag is. refl) stop h
+  stop_of_check tags (checked.Faulty fault) h = tt
 
 -- a stage has a fault, or memory ran out
 pub stop_of_stages : (facts : Facts) (old mid : TreeState) (e : Unchecked) → IsFoundFirst facts e
     → NothingFailed old mid → MayStopUnchecked old mid e
-stop_of_stages facts old mid (checked.Stopped stop) h calm = stop_for_memory old mid stop h calm
+stop_of_stages facts old mid (checked.Stopped stop) h calm = stop_for_memory (λ bag. true) old mid stop h calm
 stop_of_stages facts old mid (checked.Faulty fault) h calm = tt
 
 module _ (renewal : Renewal) (facts : Facts) (old mid new : TreeState) (options : facts.options ≡ full)
@@ -226,12 +297,17 @@ module _ (renewal : Renewal) (facts : Facts) (old mid new : TreeState) (options 
   deep e = let at : full.depth ≡ Declaration = sym (ap (λ (o : Options). o.depth) options) ∙ e in cc
 
   -- a file was refused, or has another digest
-  pub refused_by_check : (algs : List Alg) → AllowsRenewal facts renewal algs → (e : Unchecked) (fault : RenewFault)
-      → StopsChecking facts.listing.files mid new e → IsFaultyFile facts mid e → IsRefusalOf e fault
-      → MayRefuseReading renewal old new fault
-  refused_by_check algs allows (checked.Stopped stop) fault stops faulty is =
-      refused_stop renewal old new stop fault (stop_at_file facts old mid new seen of keeps calm stop stops) is
-  refused_by_check algs allows (checked.Faulty found) fault stops faulty is =
+  pub refused_by_check : OpensAll full facts.listing.files old mid → (algs : List Alg)
+      → AllowsRenewal facts renewal algs → (with_payload : Bool)
+      → ((bag : Bag) → IsFactsOf bag facts → with_payload ≡ reads_payload bag renewal)
+      → (e : Unchecked) (fault : RenewFault) → StopsChecking (to_read with_payload facts.listing.files) mid new e
+      → IsFaultyFile facts mid e → IsRefusalOf e fault → MayRefuseReading renewal old new fault
+  refused_by_check tags algs allows with_payload reads (checked.Stopped stop) fault stops faulty is =
+      refused_stop renewal old new stop fault
+      (stop_at_file facts old mid new seen of keeps calm tags (λ bag. reads_payload bag renewal) with_payload reads stop
+      stops)
+      is
+  refused_by_check tags algs allows with_payload reads (checked.Faulty found) fault stops faulty is =
       subst (MayRefuseReading renewal old new) (sym is)
       (λ honest. files_refuse facts algs old mid new options of keeps allows.none (checked.Faulty found) faulty honest)
 

@@ -1,15 +1,12 @@
 -- Checking files stopped at one of them, or when out of memory.
-use Rattle.bag_renew.proofs.Common.{◌≡◌, ◌≢◌, ◌<◌, ◌∷◌, inl, inr, ℕ, List, [], Option, length, get_or, All, Contains, sym}
-use Rattle.bag_renew.proofs.Common.{subst, ◌∙◌, All-contains, All-cons, All-nil, contains_first, mapped_contains}
-use Rattle.bag_facts.proofs.Reading.{later_refusal}
+use Rattle.bag_renew.proofs.Common.{◌≡◌, ◌≢◌, ◌∷◌, inl, inr, ℕ, List, [], Option, All, ap, append-nil, sym}
+use Rattle.bag_renew.proofs.Common.{subst, ◌∙◌, All-contains, contains_first}
 use Rattle.bag_facts.proofs.Refusing.{came_from, refused_file, told_memory}
 use Rattle.bag_facts.specs.Stops.{MayRefuseFacts}
 use Rattle.bag_tree.specs.Stop.{IsRefusalOf}
-use Rattle.bag_facts.specs.Wanted.{paths_of}
-use Rattle.bag_text.proofs.ListOf.{contains_cases, contains_nothing}
-use Rattle.bag_tree.proofs.Calm.{memory_then, nothing_asked}
+use Rattle.bag_tree.proofs.Calm.{nothing_asked}
 use Rattle.bag_tree.specs.FileReads.{IsEntryOf}
-use Rattle.bag_tree.specs.Tree.{CameFromFile, Keeps, MayReportMemory, NothingFailed, TreeState}
+use Rattle.bag_tree.specs.Tree.{CameFromFile, IsRefusedAt, MayReportMemory, NothingFailed, TreeState}
 use Rattle.bag_tree.specs.Whole.{MayRefuseWhole}
 use Rattle.bag_tree.specs.declared.answer.Answer.TheVariants.{Refused}
 use Rattle.bag_tree.specs.declared.listing.FileEntry.{FileEntry}
@@ -22,7 +19,6 @@ use Rattle.bag_renew.specs.Stops.{StopsAtFile, StopsChecking}
 use Rattle.bag_renew.specs.Summed.{IsNoMemory}
 use Rattle.bag_renew.specs.declared.checked.Unchecked.{Unchecked}
 use Rattle.bag_renew.specs.declared.checked.Unchecked.TheVariants.{Faulty, Stopped}
-use Rattle.std.specs.Prelude.{IsTrue}
 
 -- out of memory stops it
 pub stop_of_memory : (files : List FileEntry) (old new : TreeState) (stop : Stop) → stop.cause ≡ Memory
@@ -54,16 +50,24 @@ stop_of_difference files old new path expected sums (Faulty fault) h no_failure 
 -- and so does the refusal of a file
 pub stop_of_whole : (entry : FileEntry) (old new : TreeState) (cause : TreeFault) (stop : Stop)
     → MayRefuseWhole old new entry cause → (cause ≡ Memory → MayReportMemory old new)
+    → (cause ≢ Memory → IsRefusedAt old.openings entry.path new)
     → IsRefusalOf cause entry.path stop → StopsAtFile (entry ∷ []) old new stop
-stop_of_whole entry old new cause stop refused told (inl (not, same, at)) = record {
+stop_of_whole entry old new cause stop refused told opened (inl (not, same, at)) = record {
   cause =
       λ are. subst (MayRefuseFacts old new) (sym same)
       (refused_file old new entry cause (λ honest. one_is (IsEntryOf old.bag) entry (are honest)) refused);
   answered = subst (CameFromFile new) (sym same) (came_from old new entry cause refused);
-  path = inr (subst (Contains (entry.path ∷ [])) (sym at) (contains_first entry.path []));
+  path =
+      inr (
+        [],
+        [],
+        ap (λ path. path ∷ []) (sym at),
+        subst (λ all. IsRefusedAt all stop.path new) (sym (append-nil old.openings))
+            (subst (λ path. IsRefusedAt old.openings path new) (sym at) (opened not)),
+      );
   out_of_memory = λ m. absurd (not (sym same ∙ m));
 }
-stop_of_whole entry old new cause stop refused told (inr (is, m)) =
+stop_of_whole entry old new cause stop refused told opened (inr (is, m)) =
     record {
       cause = λ are. rw m.0 tt;
       answered = rw m.0 tt;
@@ -73,40 +77,10 @@ stop_of_whole entry old new cause stop refused told (inr (is, m)) =
 
 pub stop_of_refusal : (entry : FileEntry) (old new : TreeState) (cause : TreeFault) (stop : Stop)
     → MayRefuseWhole old new entry cause → (cause ≢ Changed → new.last ≡ Refused cause)
-    → IsRefusalOf cause entry.path stop → StopsAtFile (entry ∷ []) old new stop
-stop_of_refusal entry old new cause stop refused answered is =
-    stop_of_whole entry old new cause stop refused (told_memory old new cause answered) is
-
--- a stop at one of the files is one of the whole
-module _ (files : List FileEntry) (i : ℕ) (entry : FileEntry) (old mid new : TreeState) (lt : i < length files)
-    (is : entry ≡ get_or files i entry) (keeps : Keeps old mid) (no_failure : NothingFailed old mid) where
-  listed : Contains files entry
-  listed = (i, lt, sym is)
-
-  one_of : (IsTrue old.honest → All (IsEntryOf old.bag) files)
-      → IsTrue mid.honest → All (IsEntryOf mid.bag) (entry ∷ [])
-  one_of are honest =
-      All-cons (IsEntryOf mid.bag) entry []
-      (subst (λ bag. IsEntryOf bag entry) (sym keeps.bag)
-      (All-contains (IsEntryOf old.bag) files entry (are (sym keeps.honest ∙ honest)) listed))
-      (All-nil (IsEntryOf mid.bag))
-
-  its_path : (path : List ℕ) → Contains (paths_of (entry ∷ [])) path → Contains (paths_of files) path
-  its_path path has =
-      elim (contains_cases entry.path [] path has) [
-        | inl same ↦ subst (Contains (paths_of files)) same
-            (mapped_contains (λ (e : FileEntry). e.path) files entry listed)
-        | inr none ↦ absurd (contains_nothing path none)
-      ]
-
-  pub stops_at : (e : Unchecked) → StopsChecking (entry ∷ []) mid new e → StopsChecking files old new e
-  stops_at (Faulty fault) h = tt
-  stops_at (Stopped stop) h = record {
-    cause = λ are. later_refusal old mid new stop.cause keeps (h.cause (one_of are));
-    answered = h.answered;
-    path = elim h.path [ inl memory ↦ inl memory | inr has ↦ inr (its_path stop.path has) ];
-    out_of_memory = λ m. memory_then old mid new no_failure (h.out_of_memory m);
-  }
+    → IsRefusedAt old.openings entry.path new → IsRefusalOf cause entry.path stop
+    → StopsAtFile (entry ∷ []) old new stop
+stop_of_refusal entry old new cause stop refused answered opened is =
+    stop_of_whole entry old new cause stop refused (told_memory old new cause answered) (λ _. opened) is
 
 -- for the checking of one file
 pub ruleset stopping = (stop_of_memory, stop_of_refusal, stop_of_whole, stop_of_difference, nothing_asked)

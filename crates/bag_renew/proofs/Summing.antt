@@ -27,7 +27,7 @@ use Rattle.bag_renew.specs.Summed.{AreChecked, AreSummed, HasItsSums, IsCheckedF
 use Rattle.bag_renew.specs.Summed.{IsInfoAmong, IsRight, is_to_read, to_read}
 use Rattle.bag_tree.specs.Listing.{entry_of_file}
 use Rattle.bag_tags.specs.declared.summed.SummedFile.{SummedFile}
-use Rattle.bag_renew.proofs.Stopping.{stops_at, stops_for_memory}
+use Rattle.bag_renew.proofs.Stopping.{stops_for_memory}
 
 summed_more : (algs : List Alg) (files : List File) (summed : List SummedFile) (e : File) (one : SummedFile)
     → AreSummed algs files summed → HasItsSums algs e one
@@ -106,7 +106,7 @@ module _ (facts : Facts) (files : List FileEntry) (i : ℕ) (entry : FileEntry) 
     (lt : i < length files) (is : entry ≡ get_or files i entry)
     (before : ChecksFirst facts files i with_payload algs old mid summed info)
     (read : is_to_read with_payload entry.path ≡ true) where
-  next : to_read with_payload (take (i + 1) files) ≡ to_read with_payload (take i files) ++ entry ∷ []
+  pub next : to_read with_payload (take (i + 1) files) ≡ to_read with_payload (take i files) ++ entry ∷ []
   next = listed_next facts files i entry with_payload algs old mid new summed info lt is before true read
 
   added : (one : SummedFile) (kept : Option (List ℕ)) → IsCheckedFile mid facts entry algs one kept
@@ -170,7 +170,6 @@ module _ (facts : Facts) (files : List FileEntry) (count : ℕ) (with_payload : 
 -- for the checking of files, and of one of them
 pub ruleset summing = (
   stops_for_memory,
-  stops_at,
   nothing_then,
   checks_none,
   checks_one_more,

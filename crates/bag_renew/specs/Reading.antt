@@ -75,11 +75,11 @@ pub record IsReadForRenewal (renewal : Renewal) (old new : TreeState) : Type 0 w
 
 -- A stop names the cause, which is the tree's own answer, and the file that was refused; none where
 -- it was the listing.
-pub record MayStopReadingBag (old new : TreeState) (stop : Stop) : Type 0 where
+pub record MayStopReadingBag (renewal : Renewal) (old new : TreeState) (stop : Stop) : Type 0 where
   pub cause : MayRefuseFacts old new stop.cause
   pub not_memory : stop.cause ≢ cause_of.Memory
   pub answered : ReportsAnswer new stop
-  pub path : IsOfListing old new stop ⊎ IsOfFile old stop
+  pub path : IsOfListing old new stop ⊎ IsOfFile (λ bag. reads_payload bag renewal) old new stop
 
 -- the bag has no fault of the stages that open no payload file
 abbrev pub HasNoEarlyFault : Bag → Type 0
@@ -96,7 +96,7 @@ MayRefuseReading renewal old new why.BadValue =
     ⊎ (IsTrue old.honest → HasNoEarlyFault old.bag × HasNoObstacle old.bag renewal
     × (writes_info old.bag renewal ≡ true)
     × (list_any is_bad_long_element (new_elements old.bag renewal) ≡ true))
-MayRefuseReading renewal old new (why.ReadStopped stop) = MayStopReadingBag old new stop
+MayRefuseReading renewal old new (why.ReadStopped stop) = MayStopReadingBag renewal old new stop
 MayRefuseReading renewal old new why.Memory = MayReportMemory old new
 MayRefuseReading renewal old new (why.PutRefused name cause) = ⊥
 MayRefuseReading renewal old new (why.RemoveRefused name cause) = ⊥

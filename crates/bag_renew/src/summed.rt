@@ -59,8 +59,8 @@ pub(crate) fn check_files<T: Tree>(
         checked.summed.items checked.info) }
     ensures faulty { IfErr result (IsFaultyFile facts.now (T.state tree.old)) }
     ensures seventh { IfErr result IsOfSeventh }
-    ensures stopped { IfErr result
-        (StopsChecking facts.now.listing.files (T.state tree.old) (T.state tree.new)) }
+    ensures stopped { IfErr result (StopsChecking (to_read with_payload facts.now.listing.files)
+        (T.state tree.old) (T.state tree.new)) }
 {
     let Ok(mut buffer) = Vec::from_elem(alloc, 0, BUFFER_BYTES) else {
         return Err(no_memory(alloc));
@@ -100,8 +100,8 @@ fn check_each<T: Tree>(
         checked.summed.items checked.info) }
     ensures faulty { IfErr result (IsFaultyFile facts.now (T.state tree.old)) }
     ensures seventh { IfErr result IsOfSeventh }
-    ensures stopped { IfErr result
-        (StopsChecking files.now (T.state tree.old) (T.state tree.new)) }
+    ensures stopped { IfErr result (StopsChecking (to_read with_payload files.now)
+        (T.state tree.old) (T.state tree.new)) }
 {
     let mut places = Places::new();
     let mut summed = Vec::new(alloc);

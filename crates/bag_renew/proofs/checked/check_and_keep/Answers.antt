@@ -1,6 +1,8 @@
 use Rattle.bag_renew.proofs.Common.{◌∙◌, subst, sym}
 use Rattle.bag_tree.specs.DigestsOf.{AreSumsOf}
+use Rattle.bag_tree.specs.Stop.{IsRefusalOf}
 use Rattle.bag_renew.proofs.Comparing.{is_checked, is_unchecked}
+use Rattle.bag_renew.proofs.Stopping.{stop_of_whole}
 use Rattle.bag_renew.proofs.checked.check_and_keep.Goals as goal
 
 pub returns-in-Ok-compare-clause-checked : goal.returns-in-Ok-compare-clause-checked
@@ -23,3 +25,9 @@ returns-clause-unchecked g c =
     (record { size = sym bytes.ok.0 ∙ c.in-Ok-read_whole.ensures.size; honest = c.in-Ok-read_whole.ensures.whole })
     (subst (λ some. AreSumsOf asked some c.sums_of-found.result) c.deref.ensures.value c.sums_of-found.ensures)
     c.with_given.ensures.given c.with_given.ensures.kept c.in-Err-compare.unchecked c.in-Err-compare.ensures.differs
+
+pub returns-in-Err-clause-stopped : goal.returns-in-Err-clause-stopped
+returns-in-Err-clause-stopped g c =
+    stop_of_whole c.args.file.now (g.T.Tree.state c.args.tree.now) (g.T.Tree.state c.read_whole.new.tree)
+    c.in-Err.cause c.of_file.result c.in-Err.ensures.refused c.in-Err.ensures.out_of_memory c.in-Err.ensures.refused_at
+    (subst (λ path. IsRefusalOf c.in-Err.cause path c.of_file.result) c.in-Ok.ensures c.of_file.ensures)

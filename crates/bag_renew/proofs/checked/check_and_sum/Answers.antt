@@ -1,4 +1,7 @@
+use Rattle.bag_renew.proofs.Common.{subst}
+use Rattle.bag_tree.specs.Stop.{IsRefusalOf}
 use Rattle.bag_renew.proofs.Comparing.{all_checked, all_unchecked}
+use Rattle.bag_renew.proofs.Stopping.{stop_of_refusal}
 use Rattle.bag_renew.proofs.checked.check_and_sum.Goals as goal
 
 pub returns-clause-checked : goal.returns-clause-checked
@@ -16,3 +19,9 @@ returns-clause-unchecked g c =
     c.with_given-asked.result read.content c.in-Ok-digest_file.sums (record { size = read.size; honest = read.honest })
     read.sums_of c.with_given-asked.ensures.given c.with_given-asked.ensures.kept c.compare.result
     c.compare.ensures.differs
+
+pub returns-in-Err-clause-stopped : goal.returns-in-Err-clause-stopped
+returns-in-Err-clause-stopped g c =
+    stop_of_refusal c.args.file.now (g.T.Tree.state c.args.tree.now) (g.T.Tree.state c.digest_file.new.tree)
+    c.in-Err.cause c.of_file.result c.in-Err.ensures.refused c.in-Err.ensures.answered c.in-Err.ensures.refused_at
+    (subst (λ path. IsRefusalOf c.in-Err.cause path c.of_file.result) c.in-Ok.ensures c.of_file.ensures)

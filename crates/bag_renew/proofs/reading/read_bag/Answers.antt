@@ -3,6 +3,7 @@ use Rattle.bag_tree.proofs.Calm.{nothing_then}
 use Rattle.bag_renew.proofs.CheckedBag.{has_checked}
 use Rattle.bag_renew.proofs.Openings.{before_by_check, for_renewal_of_files, for_renewal_of_tags}
 use Rattle.bag_renew.proofs.ReadBag.{has_read_bag, refused_by_check, refused_by_facts, refused_stop, stop_of_facts}
+use Rattle.bag_renew.specs.Renewed.{reads_payload}
 use Rattle.bag_renew.proofs.reading.read_bag.Goals as goal
 
 pub returns-in-Err-clause-refused : goal.returns-in-Err-clause-refused
@@ -10,7 +11,9 @@ returns-in-Err-clause-refused g c =
     let old = g.T.Tree.state c.args.tree.now in
     let new = g.T.Tree.state c.read.new.tree in
     refused_stop c.args.renewal.now old new c.in-Err.stop c.stopped.result
-    (stop_of_facts old new c.in-Err.stop c.in-Err.ensures.stop) c.stopped.ensures
+    (stop_of_facts (λ bag. reads_payload bag c.args.renewal.now) old new c.in-Err.stop c.in-Err.ensures.refused
+    c.in-Err.ensures.stop)
+    c.stopped.ensures
 
 pub returns-in-Err-check_facts-clause-refused : goal.returns-in-Err-check_facts-clause-refused
 returns-in-Err-check_facts-clause-refused g c =
@@ -22,7 +25,8 @@ pub returns-in-Err-check_files-clause-refused : goal.returns-in-Err-check_files-
 returns-in-Err-check_files-clause-refused g c =
     refused_by_check c.args.renewal.now c.in-Ok.facts (g.T.Tree.state c.args.tree.now) (g.T.Tree.state c.read.new.tree)
     (g.T.Tree.state c.check_files.new.tree) c.in-Ok.ensures.options c.in-Ok.ensures.seen c.in-Ok.ensures.facts
-    c.read.ensures.keeps c.in-Ok.ensures.no_failure c.in-Ok-check_facts.algs c.in-Ok-check_facts.ensures.algs
+    c.read.ensures.keeps c.in-Ok.ensures.no_failure c.in-Ok.ensures.opened c.in-Ok-check_facts.algs
+    c.in-Ok-check_facts.ensures.algs c.reads_payload-with_payload.result c.reads_payload-with_payload.ensures
     c.in-Err-check_files.unchecked c.refusal.result c.in-Err-check_files.ensures.stopped
     c.in-Err-check_files.ensures.faulty c.refusal.ensures
 

@@ -1,6 +1,5 @@
 use Rattle.bag_renew.proofs.Common.{◌∙◌, ◌+◌, inr, subst, sym}
-use Rattle.bag_renew.proofs.FirstOpened.{opens_at, opens_each}
-use Rattle.bag_renew.proofs.Stopping.{stops_at}
+use Rattle.bag_renew.proofs.FirstOpened.{opens_at, opens_each, stops_at}
 use Rattle.bag_renew.proofs.Summing.{ChecksFirst, checks_none, checks_one_more, opens_all}
 use Rattle.bag_renew.proofs.summed.check_each.Goals as goal
 
@@ -22,9 +21,8 @@ loop-entry-preserved g c =
 
 pub returns-in-Err-clause-stopped : goal.returns-in-Err-clause-stopped
 returns-in-Err-clause-stopped g c =
-    stops_at c.args.files.now c.loop-entry.entry-index c.entry-item.result (g.T.Tree.state c.args.tree.now)
-    (g.T.Tree.state c.loop-entry.tree) (g.T.Tree.state c.check_file.new.tree) c.loop-entry-test.true c.entry-item.is
-    c.loop-entry.invariant.keeps c.loop-entry.invariant.no_failure c.in-Err.unchecked c.in-Err.ensures.stopped
+    stops_at _ _ _ _ _ _ _ _ (g.T.Tree.state c.check_file.new.tree) _ _ c.loop-entry-test.true c.entry-item.is
+    c.loop-entry.invariant (sym c.is_read.ensures ∙ c.if-not-is_read.false) c.in-Err.unchecked c.in-Err.ensures.stopped
 
 pub returns-in-Err-clause-opens : goal.returns-in-Err-clause-opens
 returns-in-Err-clause-opens g c =

@@ -14,8 +14,8 @@ returns-clause-checked g c =
 
 pub returns-clause-stopped : goal.returns-clause-stopped
 returns-clause-stopped g c =
-    subst (λ files. IfErr c.check_each.result (StopsChecking files (g.T.Tree.state c.args.tree.now)
-    (g.T.Tree.state c.check_each.new.tree)))
+    subst (λ files. IfErr c.check_each.result (StopsChecking (to_read c.args.with_payload files)
+    (g.T.Tree.state c.args.tree.now) (g.T.Tree.state c.check_each.new.tree)))
     c.files.ensures c.check_each.ensures.stopped
 
 pub returns-clause-opens : goal.returns-clause-opens
