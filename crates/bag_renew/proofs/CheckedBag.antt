@@ -1,11 +1,13 @@
 -- What a bag that was checked is, and what the manifests say that are made of it.
 use Rattle.bag_renew.proofs.Common.{Bool, ◌≡◌, ◌≢◌, ◌<◌, ◌∷◌, ◌++◌, ℕ, List, [], true, false, IsTrue, Option, None, Some}
 use Rattle.bag_renew.proofs.Common.{map, filter}
-use Rattle.bag_renew.proofs.Common.{Contains, arith, refl, sym, ap, subst, ◌∙◌, inl, inr, All-contains}
+use Rattle.bag_renew.proofs.Common.{Contains, contains_mapped, mapped_contains, text_cmp, arith, refl, sym, ap, subst, ◌∙◌, inl, inr, All-contains}
 use Rattle.bag_renew.proofs.Common.{contains_nothing, contains_first, contains_behind, Alg, Bag, file, files_of, payload}
 use Rattle.bag_renew.proofs.Common.{is_payload_path, Payload, Tag, Kind, tag_path, Manifest, File}
 use Rattle.std.proofs.lemmas.List.Elements.{All-from_recursion}
+use Rattle.std.proofs.lemmas.List.Kept.{IsStrictlySortedBy-filter}
 use Rattle.std.proofs.lemmas.Simd.{map-map}
+use Rattle.std.specs.List.Sorted.{IsStrictlySortedBy}
 use Rattle.std.specs.Prelude.{All}
 use Rattle.std.specs.Str.{chars, is_utf8}
 use Rattle.bag_text.specs.Code.{stage}
@@ -48,12 +50,12 @@ use Rattle.bag_tree.specs.declared.listing.FileEntry.{FileEntry}
 use Rattle.bag_facts.proofs.Found.{held_at, listed, same_files}
 use Rattle.bag_renew.proofs.GivenDigests.{are_compared, read_are}
 use Rattle.bag_renew.specs.Compared.{AreCompared}
-use Rattle.bag_renew.specs.FirstFaults.{HasNoneBefore, IsFoundFirst}
+use Rattle.bag_renew.specs.FirstFaults.{HasNoneBefore, IsFaultBy, IsFirst, IsFoundFirst, IsLookedFor}
 use Rattle.bag_renew.specs.NewManifests.{AreOfSameBytes, HasChecked, HasCheckedAll, HasFault, IsRefusedFor}
 use Rattle.bag_renew.specs.NewManifests.{OpensRead, OpensTwice}
 use Rattle.bag_renew.specs.NewManifests.{manifests_for}
 use Rattle.bag_renew.specs.Renewed.{entries_of}
-use Rattle.bag_renew.specs.Summed.{AreChecked, AreSummed, IsFaultyFile, IsRight, files_to_read}
+use Rattle.bag_renew.specs.Summed.{AreChecked, AreSummed, IsDifferenceIn, IsFaultyFile, IsRight, files_to_read}
 use Rattle.bag_tree.specs.Listing.{entry_of_file}
 use Rattle.bag_renew.specs.Summed.{is_to_read, payload_of, to_read}
 use Rattle.bag_renew.specs.Valid.{HasNoFault, IsDamage, full}
@@ -70,40 +72,148 @@ tag_by false false same = refl
 tag_is_read : (with_payload : Bool) (path : List ℕ) → kind_of path ≡ Tag → is_to_read with_payload path ≡ true
 tag_is_read with_payload path same = tag_by (is_payload_path path) with_payload same
 
+-- the paths of the listed files that are read are those that are to be read
+pub paths_to_read : (with_payload : Bool) (files : List FileEntry)
+    → filter (is_to_read with_payload) (paths_of files) ≡ paths_of (to_read with_payload files)
+paths_to_read with_payload [] = refl
+paths_to_read with_payload (e ∷ files) = one (is_to_read with_payload e.path) (paths_to_read with_payload files)
+  where
+    one : (b : Bool) → filter (is_to_read with_payload) (paths_of files) ≡ paths_of (to_read with_payload files)
+        → cond b (e.path ∷ filter (is_to_read with_payload) (paths_of files)) (filter (is_to_read with_payload) (paths_of files))
+        ≡ paths_of (cond b (e ∷ to_read with_payload files) (to_read with_payload files))
+    one true rest = ap (λ xs. e.path ∷ xs) rest
+    one false rest = rest
+
+-- a file of the payload is read only with the payload
+with_its_payload : (b with_payload : Bool) → ◌≡◌ {A = Kind} Payload (cond b Payload Tag)
+    → (with_payload || not b) ≡ true → with_payload ≡ true
+with_its_payload true true same read = refl
+with_its_payload true false same read = read
+with_its_payload false with_payload same read = let clash : ◌≡◌ {A = Kind} Payload Tag = same in cc
+
 module _ (facts : Facts) (bag : Bag) (of : IsFactsOf bag facts) (options : facts.options ≡ full) where
-  -- so the first fault that is found is one of the bag
+  has_it : (f : Fault) → IsFaultBy facts bag f → HasFault bag f
+  has_it f = subst (λ (o : Options). IsReported (record { bag = bag; profile = None; options = o }) f) options
+
+  found_it : (f : Fault) → HasFault bag f → IsFaultBy facts bag f
+  found_it f = subst (λ (o : Options). IsReported (record { bag = bag; profile = None; options = o }) f) (sym options)
+
+  -- so the first fault that is found is the bag's
   pub refused_first : (e : Unchecked) → IsFoundFirst facts e → IsRefusedFor bag e
   refused_first (Stopped stop) h = tt
-  refused_first (Faulty fault) (k, h, none) =
-      let this = h bag of in (
-        subst (λ (o : Options). IsReported (record { bag = bag; profile = None; options = o }) fault) options this.0,
-        λ f has before. none bag of f
-            (subst (λ (o : Options). IsReported (record { bag = bag; profile = None; options = o }) f) (sym options) has)
-            (subst (λ n. stage f.code < n) this.1 before),
-      )
+  refused_first (Faulty fault) h = let first = (h bag of).1 in record {
+    member = has_it fault first.member;
+    none_less = λ f is less. first.none_less f (found_it f is) less;
+  }
+
+  -- and the first that is looked for
+  pub first_early : (with_payload : Bool) (fault : Fault) → stage fault.code < 7 → IsFirst (IsFaultBy facts bag) fault
+      → IsFirst (IsLookedFor bag with_payload) fault
+  first_early with_payload fault early first = record {
+    member = (
+      has_it fault first.member,
+      λ damage. let seventh : stage fault.code ≡ 7 = ap stage damage in absurd (omega (arith, seventh, early)),
+    );
+    none_less = λ f is less. first.none_less f (found_it f is.0) less;
+  }
 
   pub deep : facts.options.depth ≢ Declaration
   deep e = let at : full.depth ≡ Declaration = sym (ap (λ (o : Options). o.depth) options) ∙ e in cc
 
+  tag_read : (with_payload : Bool) (f : Fault) → Differs bag f Tag → is_to_read with_payload f.path ≡ true
+  tag_read with_payload f d =
+      tag_is_read with_payload f.path
+      (ap kind_of d.3.path_is ∙ sym (entry_kind bag Tag d.0 (lines_in bag (manifest_of Tag d.0)) d.1 d.4))
+
   module _ (none : HasNoneBefore facts 7) where
     pub none_early : (f : Fault) → HasFault bag f → stage f.code < 7 → ⊥
-    none_early f has before =
-        none bag of f
-        (subst (λ (o : Options). IsReported (record { bag = bag; profile = None; options = o }) f) (sym options) has)
-        before
+    none_early f has before = none bag of f (found_it f has) before
 
-    -- and so is a digest that differs
-    pub refused_file : (state : TreeState) → IsTrue state.honest → state.bag ≡ bag → (e : Unchecked)
-        → IsFaultyFile facts state e → IsRefusedFor bag e
-    refused_file state honest same (Stopped stop) h = tt
-    refused_file state honest same (Faulty fault) h =
-        let differs : IsOfValidity bag fault =
-        subst (λ b. IsOfValidity b fault) same
-        (h honest (subst (λ b. IsFactsOf b facts) (sym same) of) deep) in
-        let seventh = validity_of_stage_seven bag fault differs in (
-          (is_of_validity bag None fault differs, asked_at_full full fault.code refl seventh),
-          λ f has before. none_early f has (subst (λ n. stage f.code < n) seventh before),
-        )
+    -- so each fault is of a digest that differs
+    module _ (f : Fault) where
+      below : (k : ℕ) → stage f.code ≡ k → k < 7 → HasFault bag f → ⊥
+      below k at lt has = none_early f has (subst (λ n. n < 7) (sym at) lt)
+
+      of_validity : Is bag None f → HasFault bag f → IsOfValidity bag f
+      unfolding Is
+      of_validity (inl h) has = absurd (below 1 (declaration_of_stage_one bag f h) (omega arith) has)
+      of_validity (inr (inl h)) has = absurd (below 2 (parts_of_stage_two bag f h) (omega arith) has)
+      of_validity (inr (inr (inl h))) has = absurd (below 3 (metadata_of_stage_three bag f h) (omega arith) has)
+      of_validity (inr (inr (inr (inl h)))) has = absurd (below 4 (fetch_of_stage_four bag f h) (omega arith) has)
+      of_validity (inr (inr (inr (inr (inl h))))) has =
+          absurd (below 5 (manifests_of_stage_five bag f h) (omega arith) has)
+      of_validity (inr (inr (inr (inr (inr (inl h)))))) has =
+          absurd (below 6 (completeness_of_stage_six bag f h) (omega arith) has)
+      of_validity (inr (inr (inr (inr (inr (inr (inl h))))))) has = h
+      of_validity (inr (inr (inr (inr (inr (inr (inr h))))))) has = absurd h
+
+    -- the first digest that differs is the first fault that is looked for
+    module _ (with_payload : Bool) where
+      abbrev files_read : List FileEntry
+      files_read = to_read with_payload facts.listing.files
+
+      ascend : IsStrictlySortedBy text_cmp (paths_of files_read)
+      ascend =
+          subst (IsStrictlySortedBy text_cmp) (paths_to_read with_payload facts.listing.files)
+          (IsStrictlySortedBy-filter text_cmp (is_to_read with_payload) (paths_of facts.listing.files)
+          of.ordered.ascending)
+
+      its_payload : (f : Fault) → IsOfValidity bag f → is_to_read with_payload f.path ≡ true → IsDamage f
+          → with_payload ≡ true
+      unfolding IsOfValidity ValidityHolds
+      its_payload f differs read damage =
+          let d : Differs bag f Payload = subst (ValidityHolds bag f) damage differs in
+          with_its_payload (is_payload_path f.path) with_payload
+          (entry_kind bag Payload d.0 (lines_in bag (manifest_of Payload d.0)) d.1 d.4 ∙ ap kind_of (sym d.3.path_is))
+          read
+
+      is_read : (path : List ℕ) → Contains (paths_of files_read) path → is_to_read with_payload path ≡ true
+      is_read path c = let m = contains_mapped (λ (e : FileEntry). e.path) files_read path c in
+          subst (λ p. is_to_read with_payload p ≡ true) m.2
+          (kept (λ (e : FileEntry). is_to_read with_payload e.path) facts.listing.files m.0 m.1).0
+
+      one_of : (e : File) → file bag e.0 ≡ Some e.1 → is_to_read with_payload e.0 ≡ true
+          → Contains (paths_of files_read) e.0
+      one_of e there read =
+          let own = files_to_read with_payload (files_of bag) in
+          subst (λ (xs : List FileEntry). Contains (paths_of xs) e.0) (sym (read_are facts bag of with_payload))
+          (mapped_contains (λ (x : FileEntry). x.path) (map entry_of_file own) (entry_of_file e)
+          (mapped_contains entry_of_file own e
+          (passed (λ (x : File). is_to_read with_payload x.0) (files_of bag) e read (listed bag.files e.0 e.1 there))))
+
+      at_file : (f : Fault) (kind : Kind) → Differs bag f kind → is_to_read with_payload f.path ≡ true
+          → Contains (paths_of files_read) f.path
+      at_file f kind (alg, entry, content, at, given, there, other) read =
+          subst (Contains (paths_of files_read)) (sym at.path_is)
+          (one_of (entry.path, content) there (ap (is_to_read with_payload) (sym at.path_is) ∙ read))
+
+      where_it_is : (f : Fault) (code : Code) → f.code ≡ code → ValidityHolds bag f code
+          → (IsDamage f → with_payload ≡ true) → Contains (paths_of files_read) f.path
+      unfolding ValidityHolds
+      where_it_is f PayloadSumDiffers is d looked = at_file f Payload d (ap (λ b. is_to_read b f.path) (looked is))
+      where_it_is f TagSumDiffers is d looked = at_file f Tag d (tag_read with_payload f d)
+      where_it_is f _ is d looked = absurd d
+
+      difference : (f : Fault) → IsLookedFor bag with_payload f → IsDifferenceIn bag files_read f
+      unfolding IsOfValidity
+      difference f is = let h = of_validity f is.0.0 is.0 in (h, where_it_is f f.code refl h is.1)
+
+      pub first_file : (state : TreeState) → IsTrue state.honest → state.bag ≡ bag → (fault : Fault)
+          → IsFaultyFile facts files_read state (Faulty fault) → IsFirst (IsLookedFor bag with_payload) fault
+      first_file state honest same fault h =
+          let first : IsFirst (IsDifferenceIn bag files_read) fault =
+          subst (λ b. IsFirst (IsDifferenceIn b files_read) fault) same
+          (h honest (subst (λ b. IsFactsOf b facts) (sym same) of) deep ascend) in
+          let differs = first.member.0 in record {
+            member = (
+              (
+                is_of_validity bag None fault differs,
+                asked_at_full full fault.code refl (validity_of_stage_seven bag fault differs),
+              ),
+              its_payload fault differs (is_read fault.path first.member.1),
+            );
+            none_less = λ f is less. first.none_less f (difference f is) less;
+          }
 
     -- the files that were read have the digests that manifests give
     module _ (with_payload : Bool)
@@ -118,23 +228,6 @@ module _ (facts : Facts) (bag : Bag) (of : IsFactsOf bag facts) (options : facts
           let list = r.given.faults bag of deep content there in
           contains_nothing f (subst (λ (xs : List Fault). Contains xs f) r.right ((list.members f).1 (h, at.path_is)))
 
-      below : (k : ℕ) → stage f.code ≡ k → k < 7 → HasFault bag f → ⊥
-      below k at lt has = none_early f has (subst (λ n. n < 7) (sym at) lt)
-
-      -- so each fault is of one of them
-      of_validity : Is bag None f → HasFault bag f → IsOfValidity bag f
-      unfolding Is
-      of_validity (inl h) has = absurd (below 1 (declaration_of_stage_one bag f h) (omega arith) has)
-      of_validity (inr (inl h)) has = absurd (below 2 (parts_of_stage_two bag f h) (omega arith) has)
-      of_validity (inr (inr (inl h))) has = absurd (below 3 (metadata_of_stage_three bag f h) (omega arith) has)
-      of_validity (inr (inr (inr (inl h)))) has = absurd (below 4 (fetch_of_stage_four bag f h) (omega arith) has)
-      of_validity (inr (inr (inr (inr (inl h))))) has =
-          absurd (below 5 (manifests_of_stage_five bag f h) (omega arith) has)
-      of_validity (inr (inr (inr (inr (inr (inl h)))))) has =
-          absurd (below 6 (completeness_of_stage_six bag f h) (omega arith) has)
-      of_validity (inr (inr (inr (inr (inr (inr (inl h))))))) has = h
-      of_validity (inr (inr (inr (inr (inr (inr (inr h))))))) has = absurd h
-
       differing : (code : Code) → ValidityHolds bag f code → IsOfValidity bag f
           → is_to_read with_payload f.path ≡ true → ⊥
       unfolding ValidityHolds
@@ -144,15 +237,11 @@ module _ (facts : Facts) (bag : Bag) (of : IsFactsOf bag facts) (options : facts
 
       no_fault : HasFault bag f → is_to_read with_payload f.path ≡ true → ⊥
       unfolding IsOfValidity
-      no_fault has read = let h = of_validity has.0 has in differing f.code h h read
+      no_fault has read = let h = of_validity f has.0 has in differing f.code h h read
 
       -- a tag manifest names no payload, and all other files were read
       tag_differs : Differs bag f Tag → IsOfValidity bag f → ⊥
-      tag_differs d h =
-          one_file Tag d h
-          (tag_is_read with_payload f.path
-          (ap kind_of d.3.path_is
-          ∙ sym (entry_kind bag Tag d.0 (lines_in bag (manifest_of Tag d.0)) d.1 d.4)))
+      tag_differs d h = one_file Tag d h (tag_read with_payload f d)
 
       damage_by : (code : Code) → f.code ≡ code → ValidityHolds bag f code → IsOfValidity bag f → IsDamage f
       unfolding ValidityHolds
@@ -162,7 +251,7 @@ module _ (facts : Facts) (bag : Bag) (of : IsFactsOf bag facts) (options : facts
 
       is_damage : HasFault bag f → IsDamage f
       unfolding IsOfValidity
-      is_damage has = let h = of_validity has.0 has in damage_by f.code refl h h
+      is_damage has = let h = of_validity f has.0 has in damage_by f.code refl h h
 
 -- a bag was read and checked
 module _ (facts : Facts) (algs : List Alg) (old mid new : TreeState) (options : facts.options ≡ full)
@@ -171,9 +260,19 @@ module _ (facts : Facts) (algs : List Alg) (old mid new : TreeState) (options : 
   stages_refuse e h honest = refused_first facts old.bag (of honest) options e h
 
   module _ (none : HasNoneBefore facts 7) where
-    pub files_refuse : (e : Unchecked) → IsFaultyFile facts mid e → IsTrue old.honest → IsRefusedFor old.bag e
-    files_refuse e h honest =
-        refused_file facts old.bag (of honest) options none mid (keeps.honest ∙ honest) keeps.bag e h
+    pub first_looked_for : (with_payload : Bool) (fault : Fault)
+        → IsFaultyFile facts (to_read with_payload facts.listing.files) mid (Faulty fault) → IsTrue old.honest
+        → IsFirst (IsLookedFor old.bag with_payload) fault
+    first_looked_for with_payload fault h honest =
+        first_file facts old.bag (of honest) options none with_payload mid (keeps.honest ∙ honest) keeps.bag fault h
+
+    pub files_refuse : (e : Unchecked) → IsFaultyFile facts (to_read true facts.listing.files) mid e
+        → IsTrue old.honest → IsRefusedFor old.bag e
+    files_refuse (Stopped stop) h honest = tt
+    files_refuse (Faulty fault) h honest = let first = first_looked_for true fault h honest in record {
+      member = first.member.0;
+      none_less = λ f is less. first.none_less f (is, λ damage. refl) less;
+    }
 
     pub has_checked : (with_payload : Bool) (summed : List SummedFile) (info : List ℕ)
         → ((bag : Bag) × IsBag bag × IsFactsOf bag facts) → OpensAll full facts.listing.files old mid

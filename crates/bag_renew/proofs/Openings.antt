@@ -1,7 +1,7 @@
 -- Which files a renewal opens, also where it is refused.
-use Rattle.bag_renew.proofs.Common.{◌≡◌, ◌≢◌, ◌∙◌, ◌++◌, ◌∷◌, ◌&&◌, ◌||◌, inl, inr, ℕ, Bool, true, false, not, IsTrue}
+use Rattle.bag_renew.proofs.Common.{◌≡◌, ◌∙◌, ◌++◌, ◌∷◌, ◌&&◌, ◌||◌, inl, inr, ℕ, Bool, true, false, not, IsTrue}
 use Rattle.bag_renew.proofs.Common.{List, [], All, All-append, All-contains, All-map, All-nil, Alg, Contains, ap}
-use Rattle.bag_renew.proofs.Common.{append-nil, append_assoc, arith, cond, false≢true, false_from_ne_true, filter, is_payload_path}
+use Rattle.bag_renew.proofs.Common.{append-nil, append_assoc, arith, false≢true, false_from_ne_true, is_payload_path}
 use Rattle.bag_renew.proofs.Common.{keeps, map, new_algs, refl, subst, sym, take, has_member}
 use Rattle.bag_renew.proofs.Common.{has_payload_manifest, is_new_alg, text_cmp, Bag, File, IsBag, Renewal, files_of}
 use Rattle.std.proofs.lemmas.List.{take-append-drop}
@@ -24,7 +24,7 @@ use Rattle.bag_tree.specs.declared.listing.FileEntry.{FileEntry}
 use Rattle.bag_tree.specs.declared.tree_fault.Stop.{Stop}
 use Rattle.bag_renew.proofs.AlgsMade.{kept_is}
 use Rattle.bag_renew.proofs.AlgsWhere.{passes}
-use Rattle.bag_renew.proofs.CheckedBag.{deep, none_early}
+use Rattle.bag_renew.proofs.CheckedBag.{deep, none_early, paths_to_read}
 use Rattle.bag_renew.proofs.GivenDigests.{read_are}
 use Rattle.bag_renew.proofs.NoPayload.{no_payload_tag}
 use Rattle.bag_renew.specs.Obstacles.{HasNoObstacle}
@@ -72,22 +72,11 @@ module _ (with_payload : Bag → Bool) (IsReady : Bag → Type 0) (old mid new :
     abbrev paths_read : List (List ℕ)
     paths_read = paths_of (to_read b facts.listing.files)
 
-    paths_filtered : (files : List FileEntry)
-        → filter (is_to_read b) (paths_of files) ≡ paths_of (to_read b files)
-    paths_filtered [] = refl
-    paths_filtered (e ∷ files) = one (is_to_read b e.path) (paths_filtered files)
-      where
-        one : (c : Bool) → filter (is_to_read b) (paths_of files) ≡ paths_of (to_read b files)
-            → cond c (e.path ∷ filter (is_to_read b) (paths_of files)) (filter (is_to_read b) (paths_of files))
-            ≡ paths_of (cond c (e ∷ to_read b files) (to_read b files))
-        one true rest = ap (λ xs. e.path ∷ xs) rest
-        one false rest = rest
-
     ascend : (bag : Bag) → IsFactsOf bag facts → (count : ℕ) → IsStrictlySortedBy text_cmp (take count paths_read)
     ascend bag is count =
         front_ascends (take count paths_read) (drop count paths_read)
         (subst (IsStrictlySortedBy text_cmp)
-        (paths_filtered facts.listing.files ∙ sym (take-append-drop count paths_read))
+        (paths_to_read b facts.listing.files ∙ sym (take-append-drop count paths_read))
         (IsStrictlySortedBy-filter text_cmp (is_to_read b) (paths_of facts.listing.files) is.ordered.ascending))
 
     paths_are : (bag : Bag) → IsFactsOf bag facts

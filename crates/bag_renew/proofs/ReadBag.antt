@@ -1,6 +1,6 @@
 -- What a bag is that was read for a renewal, and why it is refused.
 use Rattle.bag_renew.proofs.Common.{◌≡◌, ◌≢◌, ◌∙◌, ◌⊎◌, ◌++◌, ◌∷◌, inl, inr, ℕ, List, [], Bool, true, IsTrue, refl, sym}
-use Rattle.bag_renew.proofs.Common.{ap, subst, append_assoc, contains_back, contains_first, mapped_contains}
+use Rattle.bag_renew.proofs.Common.{ap, arith, subst, append_assoc, contains_back, contains_first, mapped_contains}
 use Rattle.bag_renew.proofs.Common.{Contains, All, All-contains, and_parts, is_path, in_base, Alg}
 use Rattle.bag_renew.proofs.Common.{Bag, IsBag, HasFile, files_of, Renewal}
 use Rattle.std.proofs.lemmas.List.Elements.{All-from_recursion}
@@ -22,13 +22,12 @@ use Rattle.bag_tree.specs.FileReads.{IsEntryOf}
 use Rattle.bag_tree.specs.Tree.{IsRefusedAt, Keeps, NothingFailed, TreeState}
 use Rattle.bag_tree.specs.declared.listing.FileEntry.{FileEntry}
 use Rattle.bag_tree.specs.declared.tree_fault.Stop.{Stop}
-use Rattle.bag_renew.proofs.CheckedBag.{compared, damaged, files_refuse, has_checked, info_lines, none_at_all}
-use Rattle.bag_renew.proofs.CheckedBag.{none_early, opens_read, stages_refuse, sums_are}
-use Rattle.bag_renew.proofs.FirstFaults.{before_first}
+use Rattle.bag_renew.proofs.CheckedBag.{compared, damaged, files_refuse, first_early, first_looked_for, has_checked}
+use Rattle.bag_renew.proofs.CheckedBag.{info_lines, none_at_all, none_early, opens_read, stages_refuse, sums_are}
 use Rattle.bag_stages.specs.MetadataStage.{bag_info_txt}
 use Rattle.bag_stages.specs.TagFiles.{lines_in}
 use Rattle.bag_renew.specs.Compared.{AreCompared}
-use Rattle.bag_renew.specs.FirstFaults.{HasNoneBefore, IsFoundFirst}
+use Rattle.bag_renew.specs.FirstFaults.{HasNoneBefore, IsFirst, IsFoundFirst, IsLookedFor}
 use Rattle.bag_renew.specs.NewInfo.{IsInfoRefusal}
 use Rattle.bag_renew.specs.NewManifests.{HasChecked, OpensRead}
 use Rattle.bag_renew.specs.Obstacles.{HasNoObstacle, IsObstacle}
@@ -135,7 +134,7 @@ refused_stop renewal old new stop (why.RemoveRefused n q) h is = absurd is
 module _ (renewal : Renewal) (facts : Facts) where
   pub refused_by_obstacle : (fault : RenewFault) → HasNoneBefore facts 7
       → IfBagRead facts (λ bag. IsObstacle bag renewal fault) → IsRefusedByFacts facts renewal fault
-  refused_by_obstacle (why.Faulty f) none h = λ deep. (1, λ bag of. absurd (h bag of deep), before_first facts)
+  refused_by_obstacle (why.Faulty f) none h = λ deep bag of. absurd (h bag of deep)
   refused_by_obstacle why.BadValue none h = (none, λ bag of deep. absurd (h bag of deep))
   refused_by_obstacle why.NoAlgorithm none h = (none, h)
   refused_by_obstacle (why.InTheWay n) none h = (none, h)
@@ -154,7 +153,7 @@ module _ (renewal : Renewal) (facts : Facts) where
       → IsRefusedByFacts facts renewal fault
   refused_by_info why.BadValue none free h = (none, λ bag of deep. (free bag of deep, h bag of deep))
   refused_by_info why.Memory none free h = tt
-  refused_by_info (why.Faulty f) none free h = λ deep. (1, λ bag of. absurd (h bag of deep).1, before_first facts)
+  refused_by_info (why.Faulty f) none free h = λ deep bag of. absurd (h bag of deep).1
   refused_by_info why.NoAlgorithm none free h = (none, λ bag of deep. absurd (h bag of deep).1)
   refused_by_info (why.InTheWay n) none free h = (none, λ bag of deep. absurd (h bag of deep).1)
   refused_by_info (why.Unnameable p) none free h = (none, λ bag of deep. absurd (h bag of deep).1)
@@ -301,7 +300,8 @@ module _ (renewal : Renewal) (facts : Facts) (old mid new : TreeState) (options 
       → AllowsRenewal facts renewal algs → (with_payload : Bool)
       → ((bag : Bag) → IsFactsOf bag facts → with_payload ≡ reads_payload bag renewal)
       → (e : Unchecked) (fault : RenewFault) → StopsChecking (to_read with_payload facts.listing.files) mid new e
-      → IsFaultyFile facts mid e → IsRefusalOf e fault → MayRefuseReading renewal old new fault
+      → IsFaultyFile facts (to_read with_payload facts.listing.files) mid e → IsRefusalOf e fault
+      → MayRefuseReading renewal old new fault
   refused_by_check tags algs allows with_payload reads (checked.Stopped stop) fault stops faulty is =
       refused_stop renewal old new stop fault
       (stop_at_file facts old mid new seen of keeps calm tags (λ bag. reads_payload bag renewal) with_payload reads stop
@@ -309,7 +309,11 @@ module _ (renewal : Renewal) (facts : Facts) (old mid new : TreeState) (options 
       is
   refused_by_check tags algs allows with_payload reads (checked.Faulty found) fault stops faulty is =
       subst (MayRefuseReading renewal old new) (sym is)
-      (λ honest. files_refuse facts algs old mid new options of keeps allows.none (checked.Faulty found) faulty honest)
+      (λ honest. (
+        subst (λ b. IsFirst (IsLookedFor old.bag b) found) (reads old.bag (of honest))
+            (first_looked_for facts algs old mid new options of keeps allows.none with_payload found faulty honest),
+        λ seventh. allows.no_obstacle old.bag (of honest) deep,
+      ))
 
   its_obstacle : (fault : RenewFault)
       → HasNoneBefore facts 7 × IfBagRead facts (λ bag. IsObstacle bag renewal fault)
@@ -320,8 +324,10 @@ module _ (renewal : Renewal) (facts : Facts) (old mid new : TreeState) (options 
   -- what is known allows no renewal
   pub refused_by_facts : (fault : RenewFault) → IsRefusedByFacts facts renewal fault
       → MayRefuseReading renewal old mid fault
-  refused_by_facts (why.Faulty f) h = λ honest.
-      stages_refuse facts [] old mid mid options of keeps (checked.Faulty f) (h deep) honest
+  refused_by_facts (why.Faulty f) h = λ honest. let found = h deep old.bag (of honest) in (
+    first_early facts old.bag (of honest) options (reads_payload old.bag renewal) f found.0 found.1,
+    λ seventh. absurd (omega (arith, seventh, found.0)),
+  )
   refused_by_facts why.Memory h = inr calm
   refused_by_facts why.BadValue h = inr (λ honest. let is = h.1 old.bag (of honest) deep in
       (none_early facts old.bag (of honest) options h.0, is.0, is.1.0, is.1.1))

@@ -14,19 +14,18 @@ use Rattle.bag_facts.specs.declared.facts.Facts.{Facts}
 use Rattle.bag_tree.specs.Tree.{Keeps, NothingFailed, TreeState}
 use Rattle.bag_tree.specs.declared.listing.FileEntry.{FileEntry}
 use Rattle.bag_tree.proofs.Calm.{nothing_asked, nothing_then}
-use Rattle.bag_facts.specs.FactsOfBag.{IsFactsOf}
-use Rattle.bag_facts.specs.declared.fault.Fault.{Fault}
 use Rattle.bag_stages.specs.Expected.{Expected}
 use Rattle.bag_stages.specs.MetadataStage.{bag_info_txt}
-use Rattle.bag_stages.specs.ValidityStage.{IsOfValidity}
+use Rattle.bag_stages.specs.SumFaults.{IsFaultOfFile, faults_of_bytes}
 use Rattle.bag_renew.specs.Checked.{IsKeptOf, IsUnchecked}
 use Rattle.bag_renew.specs.declared.checked.Unchecked.{Unchecked}
 use Rattle.bag_renew.specs.declared.checked.Unchecked.TheVariants.{Faulty, Stopped}
 use Rattle.bag_renew.specs.Renewed.{File}
 use Rattle.bag_renew.specs.Summed.{AreChecked, AreSummed, HasItsSums, IsCheckedFile, IsFaultyFile, IsGivenFor}
-use Rattle.bag_renew.specs.Summed.{IsInfoAmong, IsRight, is_to_read, to_read}
+use Rattle.bag_renew.specs.Summed.{IsInfoAmong, IsNoMemory, IsRight, is_to_read, to_read}
 use Rattle.bag_tree.specs.Listing.{entry_of_file}
 use Rattle.bag_tags.specs.declared.summed.SummedFile.{SummedFile}
+use Rattle.bag_renew.proofs.FirstFaults.{first_listed}
 use Rattle.bag_renew.proofs.Stopping.{stops_for_memory}
 
 summed_more : (algs : List Alg) (files : List File) (summed : List SummedFile) (e : File) (one : SummedFile)
@@ -139,22 +138,32 @@ module _ (facts : Facts) (files : List FileEntry) (i : ℕ) (entry : FileEntry) 
       → ChecksFirst facts files (i + 1) with_payload algs old new after (unwrap_or kept info)
   checks_one_more after one kept e k no_failure once s = grind (arith, keeps_on, nothing_then, opened_more, added)
 
+-- a path in a list of one
+pub only_path : (path other : List ℕ) → Contains (path ∷ []) other → other ≡ path
+only_path path other c =
+    elim (contains_cases path [] other c) [ inl same ↦ sym same | inr none ↦ absurd (contains_nothing other none) ]
+
 -- a file was found to have another digest, or was refused
 module _ (facts : Facts) (state : TreeState) where
   pub faulty_file : (entry : FileEntry) (expected : List Expected) (e : Unchecked)
-      → IsGivenFor facts entry.path expected → IsUnchecked state entry expected e → IsFaultyFile facts state e
+      → IsGivenFor facts entry.path expected → IsUnchecked state entry expected e
+      → IsFaultyFile facts (entry ∷ []) state e
   faulty_file entry expected (Stopped stop) given h = tt
-  faulty_file entry expected (Faulty fault) given (content, rest, read, same) = λ honest of deep.
-      let list = given.faults state.bag of deep content (read.honest honest) in
-      ((list.members fault).0 (subst (λ (xs : List Fault). Contains xs fault) (sym same) (contains_first fault rest))).0
+  faulty_file entry expected (Faulty fault) given (content, rest, read, same) = λ honest of deep up.
+      let first =
+      first_listed (IsFaultOfFile state.bag entry.path) (faults_of_bytes entry.path content expected) rest fault
+      (given.faults state.bag of deep content (read.honest honest)) same in record {
+        member = (
+          first.member.0,
+          subst (Contains (entry.path ∷ [])) (sym first.member.1) (contains_first entry.path []),
+        );
+        none_less = λ f is less. first.none_less f (is.0, only_path entry.path f.path is.1) less;
+      }
 
-  -- so it is before
-  pub faulty_before : (old : TreeState) → Keeps old state → (e : Unchecked) → IsFaultyFile facts state e
-      → IsFaultyFile facts old e
-  faulty_before old keeps (Stopped stop) h = tt
-  faulty_before old keeps (Faulty fault) h = λ honest of deep.
-      subst (λ bag. IsOfValidity bag fault) keeps.bag
-      (h (keeps.honest ∙ honest) (subst (λ bag. IsFactsOf bag facts) (sym keeps.bag) of) deep)
+  -- or memory ran out
+  pub faulty_for_memory : (files : List FileEntry) (e : Unchecked) → IsNoMemory e → IsFaultyFile facts files state e
+  faulty_for_memory files (Stopped stop) h = tt
+  faulty_for_memory files (Faulty fault) h = absurd h
 
 -- all were gone through
 module _ (facts : Facts) (files : List FileEntry) (count : ℕ) (with_payload : Bool) (algs : List Alg)
@@ -175,7 +184,7 @@ pub ruleset summing = (
   checks_one_more,
   opens_all,
   checks_all,
-  faulty_before,
+  faulty_for_memory,
 )
 
-pub ruleset summing_one = (stops_for_memory, nothing_asked, faulty_file)
+pub ruleset summing_one = (stops_for_memory, nothing_asked, faulty_file, faulty_for_memory)

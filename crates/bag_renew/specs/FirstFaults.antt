@@ -1,15 +1,27 @@
--- The first fault of a bag, stage by stage.
-use Rattle.std.specs.Prelude.{ℕ, ◌≡◌, ◌<◌, None}
+-- The first fault of a bag.
+use Rattle.std.specs.Prelude.{ℕ, ◌≡◌, ◌≢◌, ◌<◌, Bool, None, true}
+use Rattle.std.specs.declared.cmp.Ordering.TheVariants.{Less}
 use Rattle.bag_text.specs.Code.{stage}
 use Rattle.bag_tree.specs.Bag.{Bag}
 use Rattle.bag_facts.specs.FactsOfBag.{IsFactsOf}
+use Rattle.bag_facts.specs.FaultOrder.{fault_cmp}
 use Rattle.bag_tree.specs.Stop.{IsOutOfMemory}
 use Rattle.bag_facts.specs.declared.facts.Facts.{Facts}
 use Rattle.bag_facts.specs.declared.fault.Fault.{Fault}
 use Rattle.bag_report.specs.Report.{IsReported}
 use Rattle.bag_report.specs.Stages.{check_of_facts}
+use Rattle.bag_renew.specs.Valid.{IsDamage, IsFaultOf}
 use Rattle.bag_renew.specs.declared.checked.Unchecked.{Unchecked}
 use Rattle.bag_renew.specs.declared.checked.Unchecked.TheVariants.{Faulty, Stopped}
+
+-- it is one of these faults, and the first in the order of a report: none of them is less
+pub record IsFirst (Member : Fault → Type 0) (fault : Fault) : Type 0 where
+  pub member : Member fault
+  pub none_less : (f : Fault) → Member f → fault_cmp f fault ≢ Less
+
+-- a fault of the bag that is looked for: damage of the payload only where the payload is read
+abbrev pub IsLookedFor : Bag → Bool → Fault → Type 0
+IsLookedFor bag with_payload f = IsFaultOf bag f × (IsDamage f → with_payload ≡ true)
 
 -- a fault of the bag, by no profile
 abbrev pub IsFaultBy : Facts → Bag → Fault → Type 0
@@ -25,18 +37,21 @@ abbrev pub HasNoneBefore : Facts → ℕ → Type 0
 HasNoneBefore facts k =
     (bag : Bag) → IsFactsOf bag facts → (f : Fault) → IsFaultBy facts bag f → stage f.code < k → ⊥
 
--- the fault is one of the bag, of this stage
-abbrev pub IsOfStage : Facts → ℕ → Fault → Type 0
-IsOfStage facts k fault =
-    (bag : Bag) → IsFactsOf bag facts → IsFaultBy facts bag fault × (stage fault.code ≡ k)
+-- the fault is the first of this stage
+abbrev pub IsFirstOfStage : Facts → ℕ → Fault → Type 0
+IsFirstOfStage facts k fault =
+    (bag : Bag) → IsFactsOf bag facts
+    → IsFirst (λ f. IsFaultBy facts bag f × (stage f.code ≡ k)) fault
 
--- a fault of this stage was found, or memory ran out
+-- the first fault of this stage was found, or memory ran out
 abbrev pub IsFoundAt : Facts → ℕ → Unchecked → Type 0
 IsFoundAt facts k (Stopped stop) = IsOutOfMemory stop
-IsFoundAt facts k (Faulty fault) = IsOfStage facts k fault
+IsFoundAt facts k (Faulty fault) = IsFirstOfStage facts k fault
 
--- a fault was found of the first stage that has some, or memory ran out
+-- the first fault of all was found, which is of a stage that opens no payload file; or memory ran
+-- out
 abbrev pub IsFoundFirst : Facts → Unchecked → Type 0
 IsFoundFirst facts (Stopped stop) = IsOutOfMemory stop
 IsFoundFirst facts (Faulty fault) =
-    (k : ℕ) × IsOfStage facts k fault × HasNoneBefore facts k
+    (bag : Bag) → IsFactsOf bag facts
+    → (stage fault.code < 7) × IsFirst (IsFaultBy facts bag) fault

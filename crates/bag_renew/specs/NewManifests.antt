@@ -1,9 +1,8 @@
 -- The payload manifests of further algorithms.
-use Rattle.std.specs.Prelude.{ℕ, ◌≡◌, ◌<◌, ◌++◌, All, Bool, IsTrue, List, None, map}
+use Rattle.std.specs.Prelude.{ℕ, ◌≡◌, ◌++◌, All, Bool, IsTrue, List, None, map}
 use Rattle.std.specs.Prelude.{true}
 use Rattle.std.specs.List.Sorted.{IsStrictlySortedBy}
 use Rattle.bag_text.specs.Bytes.{Path}
-use Rattle.bag_text.specs.Code.{stage}
 use Rattle.bag_text.specs.Text.{text_cmp}
 use Rattle.bag_text.specs.declared.alg.Alg.{Alg}
 use Rattle.bag_read.specs.ManifestName.{tag_path}
@@ -17,10 +16,9 @@ use Rattle.bag_report.specs.Report.{IsReported}
 use Rattle.bag_tree.specs.Bag.{Bag, IsBag, files_of}
 use Rattle.bag_tree.specs.Tree.{TreeState}
 use Rattle.bag_renew.specs.Compared.{AreCompared}
-use Rattle.bag_renew.specs.FirstFaults.{HasNoneBefore}
+use Rattle.bag_renew.specs.FirstFaults.{HasNoneBefore, IsFirst}
 use Rattle.bag_renew.specs.Renewed.{File, manifest}
 use Rattle.bag_renew.specs.Summed.{AreChecked, files_to_read, payload_of, to_read}
-use Rattle.bag_tree.specs.Listing.{entry_of_file}
 use Rattle.bag_renew.specs.Valid.{full}
 use Rattle.bag_renew.specs.declared.checked.Unchecked.{Unchecked}
 use Rattle.bag_renew.specs.declared.checked.Unchecked.TheVariants.{Faulty, Stopped}
@@ -79,9 +77,8 @@ HasCheckedAll algs old new summed =
 abbrev pub HasFault : Bag → Fault → Type 0
 HasFault bag f = IsReported (record { bag = bag; profile = None; options = full }) f
 
--- The bag has this fault, and none of an earlier stage; or the tree refused to list its files or to
--- read one, or memory ran out.
+-- This is the bag's first fault; or the tree refused to list its files or to read one, or memory ran
+-- out.
 abbrev pub IsRefusedFor : Bag → Unchecked → Type 0
 IsRefusedFor bag (Stopped stop) = Unit {0}
-IsRefusedFor bag (Faulty fault) =
-    HasFault bag fault × ((f : Fault) → HasFault bag f → stage f.code < stage fault.code → ⊥)
+IsRefusedFor bag (Faulty fault) = IsFirst (HasFault bag) fault

@@ -18,9 +18,9 @@ use Rattle.bag_tree.specs.Tree.{Keeps, MayReportMemory, NothingFailed, TreeState
 use Rattle.bag_tree.specs.declared.tree_fault.Stop.{Stop}
 use Rattle.bag_tree.specs.declared.tree_fault.TreeFault.TheVariants as cause_of
 use Rattle.bag_renew.specs.Compared.{AreCompared}
-use Rattle.bag_renew.specs.FirstFaults.{HasNoneBefore, IsFoundFirst}
+use Rattle.bag_renew.specs.FirstFaults.{HasNoneBefore, IsFirst, IsFoundFirst, IsLookedFor}
 use Rattle.bag_renew.specs.NewInfo.{IsInfoRefusal}
-use Rattle.bag_renew.specs.NewManifests.{IsRefusedFor, OpensRead}
+use Rattle.bag_renew.specs.NewManifests.{OpensRead}
 use Rattle.bag_renew.specs.Obstacles.{HasNoObstacle, IsObstacle}
 use Rattle.bag_renew.specs.Renewed.{File, new_algs, new_elements, reads_payload, writes_info}
 use Rattle.bag_renew.specs.Request.{is_bad_request}
@@ -85,12 +85,16 @@ pub record MayStopReadingBag (renewal : Renewal) (old new : TreeState) (stop : S
 abbrev pub HasNoEarlyFault : Bag → Type 0
 HasNoEarlyFault bag = (f : Fault) → IsFaultOf bag f → stage f.code < 7 → ⊥
 
--- Why a bag isn't renewed before a file of it was changed: of an honest tree for what its bag is, a
--- fault of stages 1 to 6 first, then an obstacle, and then an element that can't be written. Out of
--- memory is reported only where the tree reported it or refused nothing.
+-- Why a bag isn't renewed before a file of it was changed: of an honest tree for what its bag is. A
+-- fault is the first that is looked for, in the order of a report; but a digest that differs is told
+-- only if there is no obstacle. An obstacle is told if there is no fault of stages 1 to 6, and so is
+-- an element that can't be written, if there is no obstacle either. Out of memory is reported only
+-- where the tree reported it or refused nothing.
 abbrev pub MayRefuseReading : Renewal → TreeState → TreeState → RenewFault → Type 0
 MayRefuseReading renewal old new (why.Faulty fault) =
-    IsTrue old.honest → IsRefusedFor old.bag (checked.Faulty fault)
+    IsTrue old.honest
+    → IsFirst (IsLookedFor old.bag (reads_payload old.bag renewal)) fault
+    × (stage fault.code ≡ 7 → HasNoObstacle old.bag renewal)
 MayRefuseReading renewal old new why.BadValue =
     (is_bad_request renewal.elements ≡ true)
     ⊎ (IsTrue old.honest → HasNoEarlyFault old.bag × HasNoObstacle old.bag renewal

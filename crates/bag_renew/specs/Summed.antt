@@ -1,11 +1,13 @@
 -- Files of a bag that were checked, with the digests that manifests are to give.
 use Rattle.std.specs.Prelude.{◌≡◌, ◌≢◌, ◌∷◌, [], ⊤, All, Contains, IsTrue, List, Some, filter, length}
 use Rattle.std.specs.Prelude.{◌||◌, ◌⊎◌, Bool, Option, map, not}
+use Rattle.std.specs.List.Sorted.{IsStrictlySortedBy}
 use Rattle.bag_text.specs.Bytes.{Content, Path}
 use Rattle.bag_text.specs.Order.{IsListOf}
 use Rattle.bag_text.specs.Path.{is_payload_path}
+use Rattle.bag_text.specs.Text.{text_cmp}
 use Rattle.bag_text.specs.declared.alg.Alg.{Alg}
-use Rattle.bag_tree.specs.Bag.{file}
+use Rattle.bag_tree.specs.Bag.{Bag, file}
 use Rattle.bag_tree.specs.Digest.{digest}
 use Rattle.bag_tree.specs.Listing.{entry_of_file}
 use Rattle.bag_tree.specs.DigestsOf.{sum_at}
@@ -13,6 +15,8 @@ use Rattle.bag_tree.specs.Tree.{TreeState}
 use Rattle.bag_tree.specs.declared.listing.FileEntry.{FileEntry}
 use Rattle.bag_facts.specs.FactsOfBag.{IfBagRead, IsFactsOf}
 use Rattle.bag_facts.specs.FaultOrder.{fault_cmp}
+use Rattle.bag_facts.specs.Wanted.{paths_of}
+use Rattle.bag_facts.specs.declared.fault.Fault.{Fault}
 use Rattle.bag_tree.specs.Stop.{IsOutOfMemory}
 use Rattle.bag_facts.specs.declared.facts.Facts.{Facts}
 use Rattle.bag_facts.specs.declared.options.Depth.TheVariants.{Declaration}
@@ -22,6 +26,7 @@ use Rattle.bag_stages.specs.MetadataStage.{bag_info_txt}
 use Rattle.bag_stages.specs.SumFaults.{IsFaultOfFile, faults_of_bytes}
 use Rattle.bag_stages.specs.ValidityStage.{IsOfValidity}
 use Rattle.bag_renew.specs.Checked.{IsKeptOf}
+use Rattle.bag_renew.specs.FirstFaults.{IsFirst}
 use Rattle.bag_renew.specs.Renewed.{File}
 use Rattle.bag_renew.specs.declared.checked.Unchecked.{Unchecked}
 use Rattle.bag_renew.specs.declared.checked.Unchecked.TheVariants.{Faulty, Stopped}
@@ -98,9 +103,15 @@ abbrev pub IsNoMemory : Unchecked → Type 0
 IsNoMemory (Stopped stop) = IsOutOfMemory stop
 IsNoMemory (Faulty fault) = ⊥
 
--- of an honest tree whose bag's facts these are it is a digest that differs
-abbrev pub IsFaultyFile : Facts → TreeState → Unchecked → Type 0
-IsFaultyFile facts state (Stopped stop) = Unit {0}
-IsFaultyFile facts state (Faulty fault) =
+-- a digest of one of these files differs
+abbrev pub IsDifferenceIn : Bag → List FileEntry → Fault → Type 0
+IsDifferenceIn bag files f = IsOfValidity bag f × Contains (paths_of files) f.path
+
+-- of an honest tree whose bag's facts these are it is the first digest that differs in these files,
+-- which are in path order
+abbrev pub IsFaultyFile : Facts → List FileEntry → TreeState → Unchecked → Type 0
+IsFaultyFile facts files state (Stopped stop) = Unit {0}
+IsFaultyFile facts files state (Faulty fault) =
     IsTrue state.honest → IsFactsOf state.bag facts → facts.options.depth ≢ Declaration
-    → IsOfValidity state.bag fault
+    → IsStrictlySortedBy text_cmp (paths_of files)
+    → IsFirst (IsDifferenceIn state.bag files) fault

@@ -57,7 +57,8 @@ pub(crate) fn check_files<T: Tree>(
     ensures checked { IfOk result (λ checked.
         AreChecked (T.state tree.old) facts.now (to_read with_payload facts.now.listing.files) algs
         checked.summed.items checked.info) }
-    ensures faulty { IfErr result (IsFaultyFile facts.now (T.state tree.old)) }
+    ensures faulty { IfErr result (IsFaultyFile facts.now
+        (to_read with_payload facts.now.listing.files) (T.state tree.old)) }
     ensures seventh { IfErr result IsOfSeventh }
     ensures stopped { IfErr result (StopsChecking (to_read with_payload facts.now.listing.files)
         (T.state tree.old) (T.state tree.new)) }
@@ -98,7 +99,8 @@ fn check_each<T: Tree>(
     ensures checked { IfOk result (λ checked.
         AreChecked (T.state tree.old) facts.now (to_read with_payload files.now) algs
         checked.summed.items checked.info) }
-    ensures faulty { IfErr result (IsFaultyFile facts.now (T.state tree.old)) }
+    ensures faulty { IfErr result
+        (IsFaultyFile facts.now (to_read with_payload files.now) (T.state tree.old)) }
     ensures seventh { IfErr result IsOfSeventh }
     ensures stopped { IfErr result (StopsChecking (to_read with_payload files.now)
         (T.state tree.old) (T.state tree.new)) }
@@ -150,7 +152,8 @@ fn check_file<T: Tree>(
         (OpensAtMost (T.state tree.old) (T.state tree.new) entry.now.path) }
     ensures checked { IfOk result (λ checked.
         IsCheckedFile (T.state tree.old) facts.now entry.now algs checked.0 checked.1) }
-    ensures faulty { IfErr result (IsFaultyFile facts.now (T.state tree.old)) }
+    ensures faulty { IfErr result
+        (IsFaultyFile facts.now (entry.now ∷ []) (T.state tree.old)) }
     ensures seventh { IfErr result IsOfSeventh }
     ensures stopped { IfErr result
         (StopsChecking (entry.now ∷ []) (T.state tree.old) (T.state tree.new)) }

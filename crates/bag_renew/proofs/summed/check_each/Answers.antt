@@ -1,5 +1,5 @@
 use Rattle.bag_renew.proofs.Common.{◌∙◌, ◌+◌, inr, subst, sym}
-use Rattle.bag_renew.proofs.FirstOpened.{opens_at, opens_each, stops_at}
+use Rattle.bag_renew.proofs.FirstOpened.{faulty_at, opens_at, opens_each, stops_at}
 use Rattle.bag_renew.proofs.Summing.{ChecksFirst, checks_none, checks_one_more, opens_all}
 use Rattle.bag_renew.proofs.summed.check_each.Goals as goal
 
@@ -23,6 +23,11 @@ pub returns-in-Err-clause-stopped : goal.returns-in-Err-clause-stopped
 returns-in-Err-clause-stopped g c =
     stops_at _ _ _ _ _ _ _ _ (g.T.Tree.state c.check_file.new.tree) _ _ c.loop-entry-test.true c.entry-item.is
     c.loop-entry.invariant (sym c.is_read.ensures ∙ c.if-not-is_read.false) c.in-Err.unchecked c.in-Err.ensures.stopped
+
+pub returns-in-Err-clause-faulty : goal.returns-in-Err-clause-faulty
+returns-in-Err-clause-faulty g c =
+    faulty_at _ _ _ _ _ _ _ _ (g.T.Tree.state c.check_file.new.tree) _ _ c.loop-entry-test.true c.entry-item.is
+    c.loop-entry.invariant (sym c.is_read.ensures ∙ c.if-not-is_read.false) c.in-Err.unchecked c.in-Err.ensures.faulty
 
 pub returns-in-Err-clause-opens : goal.returns-in-Err-clause-opens
 returns-in-Err-clause-opens g c =

@@ -2,7 +2,7 @@ use Rattle.bag_renew.proofs.Common.{subst}
 use Rattle.std.specs.Prelude.{IfErr, IfOk}
 use Rattle.bag_renew.specs.Openings.{OpensFirstToRead}
 use Rattle.bag_renew.specs.Stops.{StopsChecking}
-use Rattle.bag_renew.specs.Summed.{AreChecked, to_read}
+use Rattle.bag_renew.specs.Summed.{AreChecked, IsFaultyFile, to_read}
 use Rattle.bag_renew.proofs.summed.check_files.Goals as goal
 
 pub returns-clause-checked : goal.returns-clause-checked
@@ -11,6 +11,12 @@ returns-clause-checked g c =
     AreChecked (g.T.Tree.state c.args.tree.now) c.args.facts.now (to_read c.args.with_payload files) c.args.algs
     checked.summed.items checked.info))
     c.files.ensures c.check_each.ensures.checked
+
+pub returns-clause-faulty : goal.returns-clause-faulty
+returns-clause-faulty g c =
+    subst (λ files. IfErr c.check_each.result (IsFaultyFile c.args.facts.now (to_read c.args.with_payload files)
+    (g.T.Tree.state c.args.tree.now)))
+    c.files.ensures c.check_each.ensures.faulty
 
 pub returns-clause-stopped : goal.returns-clause-stopped
 returns-clause-stopped g c =
