@@ -30,7 +30,7 @@ use Rattle.bag_renew.proofs.NoPayload.{no_payload_tag}
 use Rattle.bag_renew.specs.Obstacles.{HasNoObstacle}
 use Rattle.bag_renew.specs.FirstFaults.{HasNoneBefore}
 use Rattle.bag_renew.specs.NewInfo.{IsInfoRefusal}
-use Rattle.bag_renew.specs.Openings.{AsksNoReading, IsEarly, IsOfSeventh, OpensAllInTurn, OpensBefore}
+use Rattle.bag_renew.specs.Openings.{AsksNoReading, IsEarly, IsOfSeventh, IsReadyFor, OpensAllInTurn, OpensBefore}
 use Rattle.bag_renew.specs.Openings.{OpensFirstToRead, OpensForRenewal, OpensInTurn, OpensNoPayload}
 use Rattle.bag_renew.specs.Reading.{AllowsRenewal, HasNoEarlyFault, IsRefusalOf, IsRefusalOfStop}
 use Rattle.bag_renew.specs.Renewed.{is_kept_alg, reads_payload}
@@ -173,15 +173,14 @@ tag_path_only path (name, at, wants) =
     (λ is. no_payload_tag name (ap is_payload_path at ∙ is))
 
 module _ (renewal : Renewal) (old new : TreeState)
-    (h : OpensInTurn (λ bag. reads_payload bag renewal)
-    (λ bag. HasNoEarlyFault bag × HasNoObstacle bag renewal) old new) where
+    (h : OpensInTurn (λ bag. reads_payload bag renewal) (IsReadyFor renewal) old new) where
   abbrev NoPayload : List (List ℕ) → Type 0
   NoPayload paths = All (λ path. is_payload_path path ≡ false) paths
 
   read_by : AsksNoReading renewal → (read : List (List ℕ)) → h.read ≡ read → NoPayload read
   read_by asks [] is = All-nil (λ path. is_payload_path path ≡ false)
   read_by asks (x ∷ xs) is =
-      let free = (h.ready (λ none. let clash : [] ≡ x ∷ xs = sym none ∙ is in cc)).1 in
+      let free = (h.ready (λ none. let clash : [] ≡ x ∷ xs = sym none ∙ is in cc)).no_obstacle in
       let none = none_written h.bag renewal asks (by_version h.bag renewal asks free) in
       subst NoPayload
       (sym (h.first.1 ∙ ap (λ b. take h.first.0 (map (λ (e : File). e.0) (files_to_read b (files_of h.bag)))) none) ∙ is)
@@ -207,8 +206,7 @@ module _ (renewal : Renewal) (old mid new : TreeState) (is_bag : IsBag old.bag) 
   pub for_renewal_of_tags : OpensWanted full old new → OpensForRenewal renewal old new
   for_renewal_of_tags tags =
       for_renewal renewal old new
-      (tags_alone (λ bag. reads_payload bag renewal) (λ bag. HasNoEarlyFault bag × HasNoObstacle bag renewal) old new new
-      is_bag tags)
+      (tags_alone (λ bag. reads_payload bag renewal) (IsReadyFor renewal) old new new is_bag tags)
 
   pub for_renewal_of_none : new.openings ≡ old.openings → OpensForRenewal renewal old new
   for_renewal_of_none same = for_renewal_of_tags (opens_none full old new same)
@@ -220,18 +218,20 @@ module _ (renewal : Renewal) (old mid new : TreeState) (is_bag : IsBag old.bag) 
       → OpensFirstToRead b facts.listing.files mid new → OpensForRenewal renewal old new
   for_renewal_of_files facts options seen of tags algs allows b reads first =
       for_renewal renewal old new
-      (then_first (λ bag. reads_payload bag renewal) (λ bag. HasNoEarlyFault bag × HasNoObstacle bag renewal) old mid new
-      is_bag facts seen of tags b (λ bag is. reads bag is (deep facts bag is options))
-      (λ bag is.
-      (none_early facts bag is options allows.none, allows.no_obstacle bag is (deep facts bag is options)))
+      (then_first (λ bag. reads_payload bag renewal) (IsReadyFor renewal) old mid new is_bag facts seen of tags b
+      (λ bag is. reads bag is (deep facts bag is options))
+      (λ bag is. record {
+        none_early = none_early facts bag is options allows.none;
+        no_obstacle = allows.no_obstacle bag is (deep facts bag is options);
+        info = allows.info bag is (deep facts bag is options);
+      })
       first)
 
 pub for_renewal_still : (renewal : Renewal) (old read new : TreeState) → OpensForRenewal renewal old read
     → new.openings ≡ read.openings → OpensForRenewal renewal old new
 for_renewal_still renewal old read new h same =
     for_renewal renewal old new
-    (still_in_turn (λ bag. reads_payload bag renewal) (λ bag. HasNoEarlyFault bag × HasNoObstacle bag renewal) old read new
-    h.in_turn same)
+    (still_in_turn (λ bag. reads_payload bag renewal) (IsReadyFor renewal) old read new h.in_turn same)
 
 -- ---- of further manifests
 

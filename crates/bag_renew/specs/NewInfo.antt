@@ -46,6 +46,12 @@ IsInfoAfter bag renewal lines (Some text) =
     (writes_info bag renewal ≡ true) × CanBeWritten (elements_after bag renewal lines)
     × (text ≡ text_on_lines (elements_after bag renewal lines))
 
+-- bag-info.txt is kept, or the one that is to be written of the bag can be
+abbrev pub CanWriteInfo : Bag → Renewal → Type 0
+CanWriteInfo bag renewal =
+    writes_info bag renewal ≡ true
+    → list_any is_bad_long_element (elements_after bag renewal (lines_in bag bag_info_txt)) ≡ false
+
 -- and what is written of the bag
 abbrev pub IsNewInfo : Bag → Renewal → Option (List ℕ) → Type 0
 IsNewInfo bag renewal info = IsInfoAfter bag renewal (lines_in bag bag_info_txt) info

@@ -12,6 +12,7 @@ use Rattle.bag_facts.specs.declared.fault.Fault.{Fault}
 use Rattle.bag_tree.specs.Bag.{Bag, IsBag, files_of}
 use Rattle.bag_tree.specs.Tree.{TreeState}
 use Rattle.bag_tree.specs.declared.listing.FileEntry.{FileEntry}
+use Rattle.bag_renew.specs.NewInfo.{CanWriteInfo}
 use Rattle.bag_renew.specs.Obstacles.{HasNoObstacle}
 use Rattle.bag_renew.specs.Reading.{HasNoEarlyFault}
 use Rattle.bag_renew.specs.Renewed.{reads_payload}
@@ -67,12 +68,17 @@ OpensNoPayload old new =
     (paths : List (List ℕ)) × (new.openings ≡ old.openings ++ paths)
     × All (λ path. is_payload_path path ≡ false) paths
 
+-- a bag has no fault of an earlier stage, no obstacle, and no element that can't be written
+pub record IsReadyFor (renewal : Renewal) (bag : Bag) : Type 0 where
+  pub none_early : HasNoEarlyFault bag
+  pub no_obstacle : HasNoObstacle bag renewal
+  pub info : CanWriteInfo bag renewal
+
 -- Over any tree, and however a renewal ends: each payload file was opened once at most, and in path
 -- order; none where nothing is asked for which it is read, and none of a bag that has a fault of an
--- earlier stage, or an obstacle.
+-- earlier stage, an obstacle, or an element that can't be written.
 pub record OpensForRenewal (renewal : Renewal) (old new : TreeState) : Type 0 where
-  pub in_turn : OpensInTurn (λ bag. reads_payload bag renewal)
-      (λ bag. HasNoEarlyFault bag × HasNoObstacle bag renewal) old new
+  pub in_turn : OpensInTurn (λ bag. reads_payload bag renewal) (IsReadyFor renewal) old new
   pub no_payload : AsksNoReading renewal → OpensNoPayload old new
 
 -- the refusals that come before any file is opened a second time

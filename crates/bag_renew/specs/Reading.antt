@@ -19,7 +19,7 @@ use Rattle.bag_tree.specs.declared.tree_fault.Stop.{Stop}
 use Rattle.bag_tree.specs.declared.tree_fault.TreeFault.TheVariants as cause_of
 use Rattle.bag_renew.specs.Compared.{AreCompared}
 use Rattle.bag_renew.specs.FirstFaults.{HasNoneBefore, IsFirst, IsFoundFirst, IsLookedFor}
-use Rattle.bag_renew.specs.NewInfo.{IsInfoRefusal}
+use Rattle.bag_renew.specs.NewInfo.{CanWriteInfo, IsInfoRefusal}
 use Rattle.bag_renew.specs.NewManifests.{OpensRead}
 use Rattle.bag_renew.specs.Obstacles.{HasNoObstacle, IsObstacle}
 use Rattle.bag_renew.specs.Renewed.{File, new_algs, new_elements, reads_payload, writes_info}
@@ -108,10 +108,12 @@ MayRefuseReading renewal old new fault =
     IsTrue old.honest → HasNoEarlyFault old.bag × IsObstacle old.bag renewal fault
 
 -- What is known of a bag allows that it is renewed: there is no fault of the stages that open no
--- payload file, and no obstacle; and these are the algorithms of its new manifests.
+-- payload file, no obstacle, and no element that can't be written; and these are the algorithms of
+-- its new manifests.
 pub record AllowsRenewal (facts : Facts) (renewal : Renewal) (algs : List Alg) : Type 0 where
   pub none : HasNoneBefore facts 7
   pub no_obstacle : IfBagRead facts (λ bag. HasNoObstacle bag renewal)
+  pub info : IfBagRead facts (λ bag. CanWriteInfo bag renewal)
   pub new : IfBagRead facts (λ bag. algs ≡ new_algs bag renewal)
 
 -- Or it doesn't: by the first fault; where there is none, by an obstacle; and else by an element

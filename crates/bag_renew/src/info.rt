@@ -1,5 +1,5 @@
 //! The new `bag-info.txt` (RFC 8493, 2.2.2).
-ghost use Rattle.std.specs.Prelude.{◌≡◌, false, All, IfErr, IfOk};
+ghost use Rattle.std.specs.Prelude.{◌≡◌, false, All, IfErr, IfOk, OnOk};
 ghost use Rattle.std.specs.List.{list_any};
 ghost use Rattle.bag_facts.specs.FactsOfBag.{IfBagRead, IsFactsOf};
 ghost use Rattle.bag_read.specs.Oxum.{oxum_text};
@@ -12,7 +12,8 @@ ghost use Rattle.bag_text.specs.Text.{IsText};
 ghost use Rattle.bag_tree.specs.Bag.{Bag};
 ghost use Rattle.bag_renew.specs.Elements.{elements_of, elements_on};
 ghost use Rattle.bag_renew.specs.NewInfo as info;
-ghost use Rattle.bag_renew.specs.NewInfo.{AreTexts, CanBeWritten, IsInfoAfter, IsInfoRefusal};
+ghost use Rattle.bag_renew.specs.NewInfo.{AreTexts, CanBeWritten, CanWriteInfo};
+ghost use Rattle.bag_renew.specs.NewInfo.{IsInfoAfter, IsInfoRefusal};
 ghost use Rattle.bag_renew.specs.Renewed as spec;
 
 use crate::algorithms::keeps;
@@ -27,7 +28,8 @@ use std::alloc::{AllocError, Global};
 
 /// Whether the `bag-info.txt` that is to be written can be, by what is known of the old one.
 pub(crate) fn check_info(alloc: Global, facts: &Facts, renewal: &Renewal) -> Result<(), RenewFault>
-    ensures { IfErr result (λ fault. IfBagRead facts.now (λ bag.
+    ensures good { OnOk result (IfBagRead facts.now (λ bag. CanWriteInfo bag renewal.now)) }
+    ensures refused { IfErr result (λ fault. IfBagRead facts.now (λ bag.
         IsInfoRefusal bag renewal.now (lines_in bag bag_info_txt) fault)) }
 {
     if !writes_info(facts, renewal) {
