@@ -298,19 +298,19 @@ module _ (renewal : Renewal) (facts : Facts) (old mid new : TreeState) (options 
   -- a file was refused, or has another digest
   pub refused_by_check : OpensAll full facts.listing.files old mid → (algs : List Alg)
       → AllowsRenewal facts renewal algs → (with_payload : Bool)
-      → ((bag : Bag) → IsFactsOf bag facts → with_payload ≡ reads_payload bag renewal)
+      → IfBagRead facts (λ bag. with_payload ≡ reads_payload bag renewal)
       → (e : Unchecked) (fault : RenewFault) → StopsChecking (to_read with_payload facts.listing.files) mid new e
       → IsFaultyFile facts (to_read with_payload facts.listing.files) mid e → IsRefusalOf e fault
       → MayRefuseReading renewal old new fault
   refused_by_check tags algs allows with_payload reads (checked.Stopped stop) fault stops faulty is =
       refused_stop renewal old new stop fault
-      (stop_at_file facts old mid new seen of keeps calm tags (λ bag. reads_payload bag renewal) with_payload reads stop
-      stops)
+      (stop_at_file facts old mid new seen of keeps calm tags (λ bag. reads_payload bag renewal) with_payload
+      (λ bag is. reads bag is deep) stop stops)
       is
   refused_by_check tags algs allows with_payload reads (checked.Faulty found) fault stops faulty is =
       subst (MayRefuseReading renewal old new) (sym is)
       (λ honest. (
-        subst (λ b. IsFirst (IsLookedFor old.bag b) found) (reads old.bag (of honest))
+        subst (λ b. IsFirst (IsLookedFor old.bag b) found) (reads old.bag (of honest) deep)
             (first_looked_for facts algs old mid new options of keeps allows.none with_payload found faulty honest),
         λ seventh. allows.no_obstacle old.bag (of honest) deep,
       ))

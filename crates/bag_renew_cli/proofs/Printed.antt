@@ -26,17 +26,15 @@ one_alg Sha512 = refl
 
 module _ (alg : Alg) (algs : List Alg) (is : algs ≡ alg ∷ []) (old new : TreeState) (before after : OutState)
     (reported : Result ℕ Refused) (made : List File) where
-  pub printed : Keeps old new → OpensAllInTurn old new → new.failures ≡ old.failures → AreOfSameBytes algs made
-      → (IsTrue old.honest → HasNoFault old.bag)
+  pub printed : Keeps old new → OpensAllInTurn old new → AreOfSameBytes algs made → (IsTrue old.honest → HasNoFault old.bag)
       → (IsTrue old.honest → made ≡ manifests_for algs (payload old.bag))
       → MatchResult reported (λ n. (n ≡ 0) × Appends before.taken after.taken (flat_map text_of made))
       (λ _. IsCut before.taken after.taken (flat_map text_of made) × (after.has_refused ≡ true))
       → IsPrinting alg old new before after reported
-  printed keeps opens calm same valid manifests reports = record {
+  printed keeps opens same valid manifests reports = record {
     keeps = keeps;
     opens = opens;
     printed = inl (record {
-      no_failure = calm;
       made = made;
       same_bytes = subst (λ some. AreOfSameBytes some made) is same;
       valid = valid;

@@ -34,7 +34,6 @@ is_status_of (Stopped stop) status = status ≡ 3
 -- The bag has no fault, and the output took its manifest of this algorithm, or refused it.
 pub record IsPrinted (alg : Alg) (old new : TreeState) (before after : OutState)
     (reported : Result ℕ Refused) : Type 0 where
-  pub no_failure : new.failures ≡ old.failures
   pub made : List File
   pub same_bytes : AreOfSameBytes (alg ∷ []) made
   pub valid : IsTrue old.honest → HasNoFault old.bag

@@ -9,7 +9,6 @@ use Rattle.bag_tree.specs.declared.out.Refused.{Refused}
 use Rattle.bag_renew.specs.Openings.{OpensBefore, OpensForRenewal}
 use Rattle.bag_renew.specs.Reading.{MayRefuseReading}
 use Rattle.bag_renew.specs.Renew.{HasPlanned, IsRenewal}
-use Rattle.bag_renew.specs.Request.{is_bad_request}
 use Rattle.bag_renew.specs.declared.fault.RenewFault.{RenewFault}
 use Rattle.bag_renew.specs.declared.renewal.Renewal.{Renewal}
 use Rattle.bag_renew_cli.specs.PlannedLines.{plan_status, planned_lines}
@@ -43,7 +42,6 @@ pub record IsDryRun (name : List ℕ) (renewal : Renewal) (quiet : Bool)
     (old new : TreeState) (before after : OutState) (reported : Result ℕ Refused) : Type 0 where
   pub planned : Result (List FileChange) RenewFault
   pub keeps : Keeps old new
-  pub untouched : is_bad_request renewal.elements ≡ true → new ≡ old
   pub is_planned : IfOk planned (HasPlanned renewal old new)
   pub refused : IfErr planned (MayRefuseReading renewal old new)
   pub opens : OpensForRenewal renewal old new

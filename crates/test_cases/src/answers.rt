@@ -1,6 +1,7 @@
 //! What commands answer over the disk, and over disks in memory.
 use crate::commands::Verb;
 use bag_cli::{Disks, Folders, WriterOut, program};
+use bag_renew_cli::renewal_program;
 use bag_store::{FileTree, Tree};
 use std::alloc::Global;
 use std::io::{self, ErrorKind, Write};
@@ -37,18 +38,24 @@ pub(crate) fn answer_to<D: Disks>(alloc: Global, disks: &D, verb: Verb, words: &
             put_files(disks, verb, words, &mut out);
             Answer::of(alloc, out, 0)
         }
-        Verb::RunWithRoom(room) => run(alloc, disks, words, room),
-        _ => run(alloc, disks, words, usize::MAX),
+        _ => run(alloc, disks, verb, words),
     }
 }
 
-/// What the program answers to words, with this room for its output.
-fn run<D: Disks>(alloc: Global, disks: &D, words: &[&str], room: usize) -> Answer {
+/// What a program answers to words.
+fn run<D: Disks>(alloc: Global, disks: &D, verb: Verb, words: &[&str]) -> Answer {
+    let room = match verb {
+        Verb::RunWithRoom(room) => room,
+        _ => usize::MAX,
+    };
     let (folders, mut visits) = Folders::of(disks);
     let taken = Vec::new(alloc);
     let mut out = WriterOut::new(Room { taken, room });
     let mut err = WriterOut::new(Vec::<u8>::new(alloc));
-    let status = program(alloc, &folders, words, &mut visits, &mut out, &mut err);
+    let status = match verb {
+        Verb::Renew => renewal_program(alloc, &folders, words, &mut visits, &mut out, &mut err),
+        _ => program(alloc, &folders, words, &mut visits, &mut out, &mut err),
+    };
     let Room { taken, room: _ } = out.into_inner();
     Answer {
         written: Bytes::of(alloc, taken),

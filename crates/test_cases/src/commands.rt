@@ -14,6 +14,10 @@ pub(crate) enum Verb {
     RefuseTree,
     /// Runs it over disks in memory of which each call is refused in turn, by this fault.
     RefuseDisk(DiskFault),
+    /// Runs the program that renews bags.
+    Renew,
+    /// Runs it over disks in memory of which each call is refused in turn, by this fault.
+    RefuseRenewal(DiskFault),
     /// Lists the files of a folder.
     List,
     /// Writes what a file holds.
@@ -39,6 +43,15 @@ const VERBS: &[(&str, Verb)] = &[
         Verb::RefuseDisk(DiskFault::NotFound),
     ),
     ("REFUSE=disk:name bagit ", Verb::RefuseDisk(DiskFault::Name)),
+    ("bagit-renew ", Verb::Renew),
+    (
+        "REFUSE=disk bagit-renew ",
+        Verb::RefuseRenewal(DiskFault::Device),
+    ),
+    (
+        "REFUSE=disk:memory bagit-renew ",
+        Verb::RefuseRenewal(DiskFault::Memory),
+    ),
     ("on-disk ", Verb::RunOnDisk),
 ];
 

@@ -6,6 +6,7 @@ mod answers;
 mod commands;
 mod files;
 mod on_disk;
+mod renewals;
 mod running;
 mod session;
 mod shelf;

@@ -2,9 +2,9 @@
 use crate::answers::answer_to;
 use crate::commands::{Verb, verb_of};
 use crate::shelf::answer_in_memory;
-use crate::turns::Turns;
+use crate::turns::{Calls, Turns};
 use crate::world::World;
-use crate::{stages, trees, turns};
+use crate::{renewals, stages, trees, turns};
 use bag_cli::{Plan, Usage, plan_of};
 use std::str;
 use test_case_lines::{Mistake, Report, Sight, words_of};
@@ -36,16 +36,21 @@ fn run_verb(
     }
     match verb {
         Verb::RefuseTree | Verb::RefuseDisk(_) => see_planned(sight, verb, words, world, report),
+        Verb::RefuseRenewal(fault) => renewals::see_refused(sight, fault, words, world, report),
         Verb::Stage => stages::see_stage(sight, words, world, report),
         // on the disk no file holds something else than is listed
         Verb::RunOnDisk if world.opened.is_some() => report.text.fail(Mistake::Place),
         Verb::RunOnDisk => see_on_disk(rt, sight, verb, words, world, report),
-        Verb::Run | Verb::RunWithRoom(_) | Verb::List | Verb::Write => {
+        Verb::Run | Verb::RunWithRoom(_) | Verb::Renew | Verb::List | Verb::Write => {
             see_on_disk(rt, sight, verb, words, world, report);
             let found = answer_in_memory(sight.texts.alloc, world, None, verb, words);
             report.see(sight, "on a disk in memory", &found);
-            if matches!(verb, Verb::Run) {
-                see_planned(sight, verb, words, world, report);
+            match verb {
+                Verb::Run => see_planned(sight, verb, words, world, report),
+                Verb::Renew if world.opened.is_none() => {
+                    renewals::renew_in_memory(sight.texts.alloc, words, world, report);
+                }
+                _ => {}
             }
         }
     }
@@ -99,22 +104,22 @@ fn see_plan(
     world: &mut World,
     report: &mut Report,
 ) {
-    let fault = match verb {
-        Verb::Run => return trees::see_in_trees(sight, plan, world, report),
-        Verb::RefuseDisk(fault) => Some(fault),
-        _ => None,
+    if matches!(verb, Verb::Run) {
+        return trees::see_in_trees(sight, plan, world, report);
+    }
+    let calls = match (verb, plan.directories.as_slice()) {
+        (Verb::RefuseDisk(fault), [_]) => Calls::Disk(Verb::Run, words, fault),
+        (_, [folder]) if trees::are_trees(plan, world) => Calls::Tree(plan, folder.as_str()),
+        _ => {
+            report.text.fail(Mistake::Command);
+            return;
+        }
     };
-    let [folder] = plan.directories.as_slice() else {
-        report.text.fail(Mistake::Command);
-        return;
-    };
+    let alloc = sight.texts.alloc;
     let turns = Turns {
-        alloc: sight.texts.alloc,
-        fault,
-        words,
-        plan,
-        folder: folder.as_str(),
+        alloc,
         world,
+        calls,
     };
     turns::see_in_turn(sight, &turns, report);
 }

@@ -2,64 +2,64 @@
 use crate::answers::put_listing;
 use crate::commands::Verb;
 use crate::shelf::answer_in_memory;
-use crate::trees::{are_trees, do_over_tree};
+use crate::trees::do_over_tree;
 use crate::world::World;
 use bag_cli::{Action, Plan};
 use bag_disk::DiskFault;
 use std::alloc::Global;
 use test_case_lines::{Answer, Bytes, Mistake, Part, Report, Sight, is_wanted, see_part};
 
-/// A command over one folder, of which each call is refused in turn: those of a disk by a fault, or
-/// else those of a tree.
+/// Whose calls are refused.
+#[derive(Clone, Copy)]
+pub(crate) enum Calls<'a> {
+    /// Those of a tree of the folder with this name, with which a plan is done.
+    Tree(&'a Plan, &'a str),
+    /// Those of a disk, by a fault, over which a program runs with these words.
+    Disk(Verb, &'a [&'a str], DiskFault),
+}
+
+/// A command over one folder, of which each call is refused in turn.
 #[derive(Clone, Copy)]
 pub(crate) struct Turns<'a> {
     pub(crate) alloc: Global,
-    pub(crate) fault: Option<DiskFault>,
-    pub(crate) words: &'a [&'a str],
-    pub(crate) plan: &'a Plan,
-    pub(crate) folder: &'a str,
     pub(crate) world: &'a World,
+    pub(crate) calls: Calls<'a>,
 }
 
 impl Turns<'_> {
     /// What is answered where no call is refused, and how many calls are made then.
     fn unrefused(&self) -> (Answer, u64) {
-        match self.fault {
-            None => self.over_tree(u64::MAX),
-            Some(_) => (self.over_disk(None), self.world.calls.get()),
+        match self.calls {
+            Calls::Tree(plan, folder) => self.over_tree(plan, folder, u64::MAX),
+            Calls::Disk(verb, words, _) => {
+                let answer = answer_in_memory(self.alloc, self.world, None, verb, words);
+                (answer, self.world.calls.get())
+            }
         }
     }
 
     /// What is answered where the call of a number is refused, from 1.
     fn refused(&self, call: u64) -> Answer {
-        match self.fault {
-            None => self.over_tree(call).0,
-            Some(fault) => self.over_disk(Some((call.saturating_sub(1), fault))),
+        match self.calls {
+            Calls::Tree(plan, folder) => self.over_tree(plan, folder, call).0,
+            Calls::Disk(verb, words, fault) => {
+                let refused = Some((call.saturating_sub(1), fault));
+                answer_in_memory(self.alloc, self.world, refused, verb, words)
+            }
         }
-    }
-
-    fn over_disk(&self, refused: Option<(u64, DiskFault)>) -> Answer {
-        answer_in_memory(self.alloc, self.world, refused, Verb::Run, self.words)
     }
 
     /// What is answered over a tree of which the call of a number is refused; after it the files
     /// that a making leaves, each with its size; and how many calls were made, where they were too
     /// few for that.
-    fn over_tree(&self, call: u64) -> (Answer, u64) {
+    fn over_tree(&self, plan: &Plan, folder: &str, call: u64) -> (Answer, u64) {
         let mut answer = Answer::of(self.alloc, Bytes::new(self.alloc), 0);
         let mut calls = 0;
-        match do_over_tree(
-            self.alloc,
-            self.plan,
-            self.world,
-            self.folder,
-            call,
-            &mut answer,
-        ) {
+        match do_over_tree(self.alloc, plan, self.world, folder, call, &mut answer) {
             Ok(tree) => {
                 let left = tree.calls_left().unwrap_or(0);
                 calls = call.saturating_sub(left).saturating_sub(1);
-                if matches!(self.plan.action, Action::Make) {
+                if matches!(plan.action, Action::Make) {
                     put_listing(&mut tree.into_inner(), true, &mut answer.written);
                 }
             }
@@ -73,10 +73,6 @@ impl Turns<'_> {
 /// no call is refused. Those before it have to come, one after another, each for one call or more,
 /// where the calls of that run are refused, and no others.
 pub(crate) fn see_in_turn(sight: &Sight<'_>, turns: &Turns<'_>, report: &mut Report) {
-    if turns.fault.is_none() && !are_trees(turns.plan, turns.world) {
-        report.text.fail(Mistake::Command);
-        return;
-    }
     let (unrefused, calls) = turns.unrefused();
     let mut next = Part::of(sight.entry.below);
     let mut last = None;

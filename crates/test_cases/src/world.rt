@@ -165,19 +165,18 @@ impl World {
         Ok(FailTree::new(tree, call))
     }
 
-    /// Has a folder hold what a tree does.
-    pub(crate) fn keep(&mut self, name: &str, tree: &mut MemoryTree, report: &mut Report) {
-        self.empty(name, report);
-        match tree.list() {
-            Ok(listing) => self.hold_files(name, tree, &listing, report),
-            Err(_) => report.text.fail(Mistake::Memory),
+    /// Has a folder hold what a tree does, where that can be listed.
+    pub(crate) fn keep<T: Tree>(&mut self, name: &str, tree: &mut T, report: &mut Report) {
+        if let Ok(listing) = tree.list() {
+            self.empty(name, report);
+            self.hold_files(name, tree, &listing, report);
         }
     }
 
-    fn hold_files(
+    fn hold_files<T: Tree>(
         &mut self,
         name: &str,
-        tree: &mut MemoryTree,
+        tree: &mut T,
         listing: &Listing,
         report: &mut Report,
     ) {

@@ -1,12 +1,10 @@
-//! Bags that are renewed on disks in memory: what stands there afterwards, where each call is
-//! refused, and after a power cut at each moment.
+//! Bags that are renewed on disks in memory, with each call refused in turn, and with the power cut
+//! at each moment. What stands there where nothing is refused is in case files.
 #![tactic(auto)]
 
 #[cfg(test)]
-mod power_cuts;
-#[cfg(test)]
-mod refusals;
+mod bags;
 #[cfg(test)]
 mod renewals;
 #[cfg(test)]
-mod rows;
+mod stopped;

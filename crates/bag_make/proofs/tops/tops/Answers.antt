@@ -12,8 +12,8 @@ pub returns : goal.returns
 returns c =
     let listing = c.args.listing.now in
     let names : lent_texts c.if-listing.names.items
-        ≡ map (λ entry. spec.first_component entry.path) listing.files
-        ++ (if listing.has_data then data_folder ∷ [] else []) =
+    ≡ map (λ entry. spec.first_component entry.path) listing.files
+    ++ (if listing.has_data then data_folder ∷ [] else []) =
     elim c.if-listing.branch
     [ then-listing+in_ok-push w ↦ grind (arith, common_steps) | else-listing w ↦ grind (arith, common_steps) ] in
     IfOk-weaker c.in_order.result _ _ (λ sorted is. sym (only_in_order _ _ is) ∙ ap in_order names) c.in_order.ensures

@@ -9,4 +9,4 @@ returns-in-Err-clause-refused c =
 pub returns-in-Err-check_info-clause-refused : goal.returns-in-Err-check_info-clause-refused
 returns-in-Err-check_info-clause-refused c =
     refused_by_info c.args.renewal.now c.args.facts.now c.in-Err-check_info.fault c.in_default.ensures.none
-    c.in_default-check_obstacles.ensures.none c.in-Err-check_info.ensures
+    c.in_default-check_obstacles.ensures.none c.in-Err-check_info.ensures.refused

@@ -9,9 +9,8 @@ returns-in_err-put_texts-in-Ok g c =
     (printed c.args.alg c.with.result
     (c.with.ensures.value ∙ ap (λ set. with_member set c.args.alg) c.empty.ensures ∙ one_alg c.args.alg)
     (g.T.Tree.state c.args.tree.now) (g.T.Tree.state c.new_manifests.new.tree) (g.W.Out.state c.args.out.now)
-    (g.W.Out.state c.put_texts.new.out) _ c.in-Ok.made.items c.in-Ok.ensures.keeps c.in-Ok.ensures.opens c.in-Ok.ensures.no_failure
-    c.in-Ok.ensures.same_bytes
-    c.in-Ok.ensures.valid c.in-Ok.ensures.manifests
+    (g.W.Out.state c.put_texts.new.out) _ c.in-Ok.made.items c.in-Ok.ensures.keeps c.in-Ok.ensures.opens
+    c.in-Ok.ensures.same_bytes c.in-Ok.ensures.valid c.in-Ok.ensures.manifests
     (rw c.as_slice.ensures.value at c.in_err-put_texts-in-Ok.ensures))
 
 pub returns-in_ok-put_texts-in-Ok : goal.returns-in_ok-put_texts-in-Ok
@@ -19,7 +18,6 @@ returns-in_ok-put_texts-in-Ok g c =
     printed c.args.alg c.with.result
     (c.with.ensures.value ∙ ap (λ set. with_member set c.args.alg) c.empty.ensures ∙ one_alg c.args.alg)
     (g.T.Tree.state c.args.tree.now) (g.T.Tree.state c.new_manifests.new.tree) (g.W.Out.state c.args.out.now)
-    (g.W.Out.state c.put_texts.new.out) _ c.in-Ok.made.items c.in-Ok.ensures.keeps c.in-Ok.ensures.opens c.in-Ok.ensures.no_failure
-    c.in-Ok.ensures.same_bytes
-    c.in-Ok.ensures.valid c.in-Ok.ensures.manifests
+    (g.W.Out.state c.put_texts.new.out) _ c.in-Ok.made.items c.in-Ok.ensures.keeps c.in-Ok.ensures.opens
+    c.in-Ok.ensures.same_bytes c.in-Ok.ensures.valid c.in-Ok.ensures.manifests
     (refl, rw c.as_slice.ensures.value at c.in_ok-put_texts-in-Ok.ensures)

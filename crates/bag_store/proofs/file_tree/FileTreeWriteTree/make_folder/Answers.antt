@@ -13,7 +13,7 @@ returns-clause-makes g c =
     done c.to.result c.to.ensures.answer c.to.ensures.failures c.to.ensures.last did.failures
     (on_ok_both done did.made did.closed (λ made closed kept same. (
       folder_changed _ _ _ _ _ _ _ _ name (g.met.D.Disk.is_disk c.args.self.now.disk)
-      (g.met.D.Disk.is_disk c.make_folder-done.new.disk) c.requires kept same closed made,
+          (g.met.D.Disk.is_disk c.make_folder-done.new.disk) c.requires kept same closed made,
       λ honest. (λ never. never, not_taken _ name c.requires (made honest).free),
     )))
     (on_err_weaker done (λ syncs grows. step_same _ _ _ _ _ _ _ _ syncs grows c.to.ensures.given) did.same)
