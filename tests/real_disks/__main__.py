@@ -96,12 +96,20 @@ def answers_to(jobs, at_once):
     with ThreadPoolExecutor(at_once) as pool:
         try:
             for job, answer in zip(jobs, pool.map(answer_to, jobs)):
-                print("done:", name_of(job), file=sys.stderr)
+                print(f"{name_of(job)}: {found(answer)}", file=sys.stderr)
                 answers.append(answer)
         except KeyboardInterrupt:
             stop()
             raise
     return answers
+
+
+def found(answer):
+    return "failed" if "failed" in answer else f"{losing(answer)} of {answer['states']} states lose"
+
+
+def losing(answer):
+    return answer.get("losses", {}).get("states that lose", 0)
 
 
 def name_of(job):
@@ -130,7 +138,7 @@ def print_details(jobs, answers):
 def status_of(jobs, answers):
     status = 0
     for job, answer in zip(jobs, answers):
-        has_lost = answer.get("losses", {}).get("states that lose", 0) > 0
+        has_lost = losing(answer) > 0
         if "failed" in answer or job["must_lose"] and not has_lost:
             return FAILED
         if has_lost and not job["must_lose"] and FILE_SYSTEMS[job["file system"]].is_promised:
