@@ -28,13 +28,13 @@ mod items;
 mod label;
 pub mod laws;
 mod line_cut;
-mod part;
 mod path;
 mod path_order;
 mod pool;
 mod read_text;
 mod rules;
 pub mod said;
+mod shared_text;
 mod sort_key;
 mod text;
 

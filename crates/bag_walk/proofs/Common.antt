@@ -99,7 +99,7 @@ pub use Rattle.bag_walk.specs.Ending.{IsAnswered, IsCutAt, MayEnd, ReachesEnd, W
 pub use Rattle.bag_walk.specs.Ending.{lines_of_run, written, written_line}
 pub use Rattle.bag_walk.specs.Files.{AreToSum, IsNamedAhead, IsToSum, HasItsFaults}
 pub use Rattle.bag_walk.specs.Filled.{awaits_second, is_both}
-pub use Rattle.bag_walk.specs.Lines.{IsLastLine, IsLastOf, cursor_after}
+pub use Rattle.bag_walk.specs.LastLine.{IsLastLine, IsLastOf, cursor_after}
 pub use Rattle.bag_walk.specs.Merge.{fronts, least_of, union}
 pub use Rattle.bag_walk.specs.Openings.{IsBeforeFile, NoFaultBefore, IsToOpen, is_passed}
 pub use Rattle.bag_walk.specs.SourceOpenings.{IsReached, NoFaultBeforeStop, Opens, OpensAgain}

@@ -7,7 +7,7 @@ pub mod FactsOf
 pub mod Files
 pub mod Filled
 pub mod Filling
-pub mod Lines
+pub mod LastLine
 pub mod Lists
 pub mod Merge
 pub mod Openings

@@ -11,7 +11,7 @@ use Rattle.bag_facts.specs.declared.fault.Fault.{Fault}
 use Rattle.bag_facts.specs.declared.options.Depth.TheVariants.{Full}
 use Rattle.bag_facts.specs.declared.options.Options.{Options}
 use Rattle.bag_stages.specs.LeftOut.{IsNamedBySome}
-use Rattle.bag_walk.specs.Lines.{cursor_after}
+use Rattle.bag_walk.specs.LastLine.{cursor_after}
 use Rattle.bag_walk.specs.Openings.{NoFaultBefore, is_passed}
 use Rattle.bag_walk.specs.SegmentEnds.{still_to_come}
 use Rattle.bag_walk.specs.declared.segment.Segment.{Segment}

@@ -18,7 +18,7 @@ use Rattle.bag_report.specs.Report.{IsReport, above, first}
 use Rattle.bag_walk.specs.Ending.{ended, written, TookAll, TookPart}
 use Rattle.bag_walk.specs.declared.outcome.Outcome.{Outcome}
 use Rattle.bag_walk.specs.declared.outcome.Outcome.TheVariants.{Stopped, Unread, Unwritten}
-use Rattle.bag_walk.specs.Lines.{IsLastLine, cursor_after}
+use Rattle.bag_walk.specs.LastLine.{IsLastLine, cursor_after}
 use Rattle.bag_walk.specs.SegmentEnds.{IsSegment}
 use Rattle.bag_walk.specs.SegmentOpenings.{AreCompared, OpensFew}
 use Rattle.bag_walk.specs.Stops.{IfRunUnread, IsOfSummed}

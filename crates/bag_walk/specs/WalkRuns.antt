@@ -6,7 +6,7 @@ use Rattle.bag_tree.specs.declared.tree.Tree as Tree
 use Rattle.bag_facts.specs.declared.fault.Fault.{Fault}
 use Rattle.bag_walk.specs.Closing.{count_of}
 use Rattle.bag_walk.specs.Ending.{limit_of}
-use Rattle.bag_walk.specs.Lines.{IsLastOf}
+use Rattle.bag_walk.specs.LastLine.{IsLastOf}
 use Rattle.bag_walk.specs.Segment.{MayStopRun}
 use Rattle.bag_walk.specs.SegmentEnds.{ClosesSegment, IfUnread, IsRead, IsSegment, StopsAt}
 use Rattle.bag_walk.specs.SegmentEnds.{still_to_come}

@@ -16,7 +16,7 @@ ghost use Rattle.bag_walk.specs.declared.segment.SegmentEnd.TheVariants as end_o
 
 use crate::closing::{put_count, put_unread};
 use crate::part::Listed;
-use crate::segment::{Lines, Segment, SegmentEnd};
+use crate::segment::{LineBuffers, Segment, SegmentEnd};
 use crate::segments::segment_of_walk;
 use crate::walk_run::limit_of;
 use crate::{Request, Walk};
@@ -169,7 +169,7 @@ fn lines_of_part<T: Tree, W: Out>(
     };
     match Walk::start_part(alloc, tree, profile, request.options, after, part) {
         Ok((walk, listed)) => {
-            let mut lines = Lines::new(alloc);
+            let mut lines = LineBuffers::new(alloc);
             let (tree, segment) = segment_of_walk(alloc, walk, &mut lines, limit, out);
             (tree, PartLines { segment, listed })
         }

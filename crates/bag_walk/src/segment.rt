@@ -6,7 +6,7 @@ ghost use Rattle.bag_tree.specs.Out.{OutState};
 ghost use Rattle.bag_facts.specs.declared.fault.Fault.{Fault as FaultValue};
 ghost use Rattle.bag_walk.specs.Closing.{count_of};
 ghost use Rattle.bag_walk.specs.Ending.{limit_of, written_line, ended};
-ghost use Rattle.bag_walk.specs.Lines.{IsLastLine};
+ghost use Rattle.bag_walk.specs.LastLine.{IsLastLine};
 ghost use Rattle.bag_walk.specs.SegmentEnds.{ClosesSegment, IsSegment, StopsAt};
 ghost use Rattle.bag_walk.specs.Stops.{IfRunUnread};
 ghost use Rattle.bag_walk.specs.WalkRuns.{WritesSegment};
@@ -50,7 +50,7 @@ pub(crate) struct Segment {
 pub(crate) fn write_faults<T: Tree, S: InOrder<T>, W: Out>(
     alloc: Global,
     walk: &mut Steps<T, S>,
-    lines: &mut Lines,
+    lines: &mut LineBuffers,
     limit: u64,
     out: &mut W,
 ) -> Segment
@@ -113,17 +113,17 @@ pub(crate) fn close_segment<W: Out>(request: &Request, segment: Segment, out: &m
 
 /// The line that was written last, none at first, and a buffer for the next. Each ends in LF.
 #[derive(Drop)]
-pub(crate) struct Lines {
+pub(crate) struct LineBuffers {
     pub(crate) last: String,
     pub(crate) next: String,
 }
 
-impl Lines {
+impl LineBuffers {
     /// Before the first line.
-    pub(crate) fn new(alloc: Global) -> Lines
+    pub(crate) fn new(alloc: Global) -> LineBuffers
         ensures { string_bytes result.last ≡ [] }
     {
-        Lines {
+        LineBuffers {
             last: String::new(alloc),
             next: String::new(alloc),
         }

@@ -11,7 +11,7 @@ ghost use Rattle.bag_walk.specs.Segments as spec;
 ghost use Rattle.bag_walk.specs.Segments.{ForReportFrom};
 ghost use Rattle.bag_walk.specs.WalkRuns.{WritesSegment};
 
-use crate::segment::{Lines, Segment, SegmentEnd, end_of_report, write_faults};
+use crate::segment::{LineBuffers, Segment, SegmentEnd, end_of_report, write_faults};
 use crate::{InOrder, Outcome, Steps, Walk};
 use bag_report::{Options, Profile};
 use bag_tree::{Out, Stop, Tree};
@@ -68,7 +68,7 @@ pub fn run_segments<T: Tree, W: Out>(
         (W.state out.old) (W.state out.new) result.1 }
 {
     let mut tree = tree;
-    let mut lines = Lines::new(alloc);
+    let mut lines = LineBuffers::new(alloc);
     let mut written = 0;
     let mut outcome = Outcome::Stopped(0);
     for limit in limits {
@@ -91,7 +91,7 @@ fn write_segment<T: Tree, W: Out>(
     tree: T,
     profile: Option<&Profile>,
     options: Options,
-    lines: &mut Lines,
+    lines: &mut LineBuffers,
     limit: u64,
     out: &mut W,
 ) -> (T, Segment)
@@ -136,7 +136,7 @@ fn write_segment<T: Tree, W: Out>(
 pub(crate) fn segment_of_walk<T: Tree, S: InOrder<T> + Drop, W: Out>(
     alloc: Global,
     walk: Steps<T, S>,
-    lines: &mut Lines,
+    lines: &mut LineBuffers,
     limit: u64,
     out: &mut W,
 ) -> (T, Segment)

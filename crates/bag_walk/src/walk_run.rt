@@ -3,7 +3,7 @@ ghost use Rattle.std.specs.Prelude.{◌≡◌};
 ghost use Rattle.bag_walk.specs.Ending.{limit_of};
 ghost use Rattle.bag_walk.specs.WalkRuns.{RunsWalk};
 
-use crate::segment::{Lines, close_segment};
+use crate::segment::{LineBuffers, close_segment};
 use crate::segments::segment_of_walk;
 use crate::{InOrder, Outcome, Request, Steps};
 use bag_tree::{Out, Tree};
@@ -19,7 +19,7 @@ pub(crate) fn run_of_walk<T: Tree, S: InOrder<T> + Drop, W: Out>(
     ensures { RunsWalk T.Tree S.Source walk (T.state result.0) request.now
         (W.state out.old) (W.state out.new) result.1 }
 {
-    let mut lines = Lines::new(alloc);
+    let mut lines = LineBuffers::new(alloc);
     let (tree, segment) = segment_of_walk(alloc, walk, &mut lines, limit_of(request), out);
     (tree, close_segment(request, segment, out))
 }

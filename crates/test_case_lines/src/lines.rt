@@ -69,7 +69,7 @@ pub struct Entry<'a> {
 /// What is wanted of one of several runs: the lines up to a `then`, and those after it, where there
 /// is one.
 #[derive(Clone, Copy)]
-pub struct Part<'a> {
+pub struct Turn<'a> {
     pub lines: &'a [Line<'a>],
     pub rest: Option<&'a [Line<'a>]>,
 }
@@ -140,17 +140,17 @@ impl Entry<'_> {
     }
 }
 
-impl<'a> Part<'a> {
-    /// The first part of lines.
-    pub fn of(lines: &'a [Line<'a>]) -> Part<'a> {
+impl<'a> Turn<'a> {
+    /// The first turn of lines.
+    pub fn of(lines: &'a [Line<'a>]) -> Turn<'a> {
         for (place, line) in lines.iter().enumerate() {
             if line.word == Word::Then {
-                return Part {
+                return Turn {
                     lines: lines.get(..place).unwrap_or(lines),
                     rest: lines.get(place.saturating_add(1)..),
                 };
             }
         }
-        Part { lines, rest: None }
+        Turn { lines, rest: None }
     }
 }

@@ -7,7 +7,7 @@ use crate::world::World;
 use bag_cli::{Action, Plan};
 use bag_disk::DiskFault;
 use std::alloc::Global;
-use test_case_lines::{Answer, Bytes, Mistake, Part, Report, Sight, is_wanted, see_part};
+use test_case_lines::{Answer, Bytes, Mistake, Report, Sight, Turn, is_wanted, see_turn};
 
 /// Whose calls are refused.
 #[derive(Clone, Copy)]
@@ -74,7 +74,7 @@ impl Turns<'_> {
 /// where the calls of that run are refused, and no others.
 pub(crate) fn see_in_turn(sight: &Sight<'_>, turns: &Turns<'_>, report: &mut Report) {
     let (unrefused, calls) = turns.unrefused();
-    let mut next = Part::of(sight.entry.below);
+    let mut next = Turn::of(sight.entry.below);
     let mut last = None;
     for call in 1..=calls {
         let found = turns.refused(call);
@@ -82,9 +82,9 @@ pub(crate) fn see_in_turn(sight: &Sight<'_>, turns: &Turns<'_>, report: &mut Rep
             match next.rest {
                 Some(rest) if is_wanted(sight, Some(next), &found) => {
                     last = Some(next);
-                    next = Part::of(rest);
+                    next = Turn::of(rest);
                 }
-                Some(_) => return see_part(sight, next, call, &found, report),
+                Some(_) => return see_turn(sight, next, call, &found, report),
                 None => return see_past(sight, last, call, &found, report),
             }
         }
@@ -92,20 +92,20 @@ pub(crate) fn see_in_turn(sight: &Sight<'_>, turns: &Turns<'_>, report: &mut Rep
     if next.rest.is_some() && is_wanted(sight, Some(next), &unrefused) {
         report.text.fail(Mistake::Turns);
     }
-    see_part(sight, next, 0, &unrefused, report);
+    see_turn(sight, next, 0, &unrefused, report);
 }
 
 /// Compares the answer that comes where the call of a number is refused with the last one that is
 /// wanted of such a call.
 fn see_past(
     sight: &Sight<'_>,
-    last: Option<Part<'_>>,
+    last: Option<Turn<'_>>,
     call: u64,
     found: &Answer,
     report: &mut Report,
 ) {
     match last {
-        Some(last) => see_part(sight, last, call, found, report),
+        Some(last) => see_turn(sight, last, call, found, report),
         None => report.text.fail(Mistake::Turns),
     }
 }

@@ -1,6 +1,6 @@
 use Rattle.bag_walk.proofs.Common.{◌++◌, sym, ap, codes, ◌∙◌}
 use Rattle.bag_walk.proofs.RunLines.{read_cursor}
-use Rattle.bag_walk.proofs.segment.Lines.last_fault.Goals as goal
+use Rattle.bag_walk.proofs.segment.LineBuffers.last_fault.Goals as goal
 
 pub returns-in-Ok : goal.returns-in-Ok
 returns-in-Ok c = λ last is.

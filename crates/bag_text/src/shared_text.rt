@@ -7,13 +7,13 @@ use std::rc::RcStr;
 
 /// A part of a text that has more than one owner, seen by contracts as its bytes.
 #[derive(Drop)]
-pub(crate) struct Part {
+pub(crate) struct SharedText {
     whole: RcStr,
     start: u32,
     end: u32,
 }
 
-impl Model for Part {
+impl Model for SharedText {
     ghost use Rattle.std.specs.Prelude.{ℕ, List, ◌≤◌, slice_range};
     ghost use Rattle.std.specs.Rc.{rc_str_bytes};
     ghost use Rattle.std.specs.Str.{IsCharBoundary};
@@ -27,9 +27,9 @@ impl Model for Part {
         × IsCharBoundary (rc_str_bytes part.whole) part.end };
 }
 
-impl Part {
+impl SharedText {
     /// The part that stands at a place, where this text does.
-    pub(crate) fn of(whole: &RcStr, place: usize, text: &str) -> Option<Part>
+    pub(crate) fn of(whole: &RcStr, place: usize, text: &str) -> Option<SharedText>
         ensures { IfSome result (λ part. part ≡ text.now) }
     {
         let end = place.checked_add(text.len())?;
@@ -43,7 +43,7 @@ impl Part {
         let Ok(whole) = whole.clone() else {
             return None;
         };
-        Some(Part { whole, start, end })
+        Some(SharedText { whole, start, end })
     }
 
     /// The part, to look at.
@@ -54,11 +54,11 @@ impl Part {
     }
 
     /// The same part once more, which takes no memory.
-    pub(crate) fn share(&self) -> Result<Part, AllocError>
+    pub(crate) fn share(&self) -> Result<SharedText, AllocError>
         ensures { IfOk result (λ part. part ≡ self.now) }
     {
         let whole = self.whole.clone()?;
-        Ok(Part {
+        Ok(SharedText {
             whole,
             start: self.start,
             end: self.end,
