@@ -27,11 +27,10 @@ pub use Rattle.bag_tree.proofs.PathEntries.{none_below, t_true}
 pub use Rattle.bag_tree.proofs.SameText.{exact_texts, one_text, same_test, text_itself}
 pub use Rattle.bag_tree.specs.declared.listing.FileEntry.{FileEntry}
 pub use Rattle.bag_disk.specs.BagBelow.{file_of_disk, folder_of_disk}
-pub use Rattle.bag_disk.specs.Disk.{DiskState}
+pub use Rattle.bag_disk.specs.Disk.{DiskState, Node, Nodes, bytes_of}
 pub use Rattle.bag_disk.specs.DiskNodes.{AreNamesIn, Has, HasSpecial, HasUnnamed, HasUnnamedPath}
 pub use Rattle.bag_disk.specs.DiskNodes.{IsDisk, IsFolder, IsName, IsReachedByFolders, IsReachedTo}
 pub use Rattle.bag_disk.specs.DiskNodes.{OnlyLooks, entry_of_node, is_plain_found, node}
-pub use Rattle.bag_disk.specs.Disk.{Node, Nodes, bytes_of}
 pub use Rattle.bag_disk.specs.Disk.{entry_count, files_and_folders, is_folder_node, is_plain}
 pub use Rattle.bag_disk.specs.Disk.{is_plain_node}
 pub use Rattle.bag_disk.specs.Disk.Node.{File, Folder, Other}

@@ -14,9 +14,8 @@ ghost use Rattle.bag_facts.specs.FactsOfBag.{AreJudged, AreParsed, AreRulesOf, H
 ghost use Rattle.bag_facts.specs.TagFacts.{name_of, AreEntriesOf, IsReadOf, IsDeclarationOf};
 ghost use Rattle.bag_facts.specs.TagFacts.{IsMetadataOf, IsFetchListOf, IsManifestNamed};
 ghost use Rattle.bag_facts.specs.TagFacts.{IsTagFileNamed};
-ghost use Rattle.bag_facts.specs.Wanted.{ForListing, OpensUpTo, OpensWanted};
+ghost use Rattle.bag_facts.specs.Wanted.{ForListing, OpensUpTo, OpensWanted, Wants};
 ghost use Rattle.bag_facts.specs.TagReader.{OpensAll, OpensFirst, MayStopReading};
-ghost use Rattle.bag_facts.specs.Wanted.{Wants};
 ghost use Rattle.bag_facts.specs.declared.options.Depth.TheVariants as depth_of;
 
 use crate::listed_manifest::has_manifest;

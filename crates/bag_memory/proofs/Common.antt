@@ -30,11 +30,10 @@ pub use Rattle.bag_tree.specs.Steps.{Files, create, is_taken, lacks_folder, lack
 pub use Rattle.bag_tree.specs.Steps.{rename_folder}
 pub use Rattle.bag_tree.specs.Tree.{TreeState}
 pub use Rattle.bag_tree.specs.FileReads.{ReadsNext}
-pub use Rattle.bag_memory.specs.Memory.{empty_bag}
+pub use Rattle.bag_memory.specs.Memory.{empty_bag, folders_for, is_in_folder}
 pub use Rattle.bag_memory.specs.MemoryTree.{PassesAsBag, are_bytes, bag_of_files, file_map}
 pub use Rattle.bag_memory.specs.MemoryTree.{folder_set, is_text_name, is_text_path, listed}
 pub use Rattle.bag_memory.specs.MemoryTree.{unread_rest}
-pub use Rattle.bag_memory.specs.Memory.{folders_for, is_in_folder}
 pub use Rattle.bag_memory.specs.Memory.{memory_state_after, with_file, with_folder}
 pub use Rattle.bag_memory.specs.Refusals.{after_call, failing, is_kth, next_due, refused_calls}
 pub use Rattle.bag_memory.specs.declared.calls.Due.TheVariants.{After, Never, Past}

@@ -120,8 +120,7 @@ impl<T: WriteTree + Drop> WriteTree for FailTree<T> {
     ghost use Rattle.bag_memory.specs.FailTree.{IfNotKth, RefusesKth};
     ghost use Rattle.bag_memory.specs.Refusals.{after_call};
     ghost use Rattle.bag_tree.specs.ChangeCalls.{Creates, LeavesUnchangedOrPartial, MakesFolder};
-    ghost use Rattle.bag_tree.specs.ChangeCalls.{MovesIn};
-    ghost use Rattle.bag_tree.specs.ChangeCalls.{RenamesFolder};
+    ghost use Rattle.bag_tree.specs.ChangeCalls.{MovesIn, RenamesFolder};
 
     fn make_folder(&mut self, name: &str) -> Result<(), TreeFault>
         requires { IsTrue (is_base_name name.now) }

@@ -23,10 +23,9 @@ pub use Rattle.bag_profile.specs.Label.{allowed_values, flag, label_rules, label
 pub use Rattle.bag_profile.specs.Orderly.{AreLabelsOrderly}
 pub use Rattle.bag_profile.specs.Label.{label_rules_of}
 pub use Rattle.bag_profile.specs.NameLists.{name_lists_of, name_rules}
-pub use Rattle.bag_profile.specs.Pattern.{begins, matches, some_tail}
+pub use Rattle.bag_profile.specs.Pattern.{begins, matches, some_tail, star}
 pub use Rattle.bag_profile.specs.Laws.{IsPieces, MatchesArePieces, TextSetsAreLists}
 pub use Rattle.bag_profile.specs.Star.{matches_after_star}
-pub use Rattle.bag_profile.specs.Pattern.{star}
 pub use Rattle.bag_profile.specs.Read.{as_record, of_object}
 pub use Rattle.bag_profile.specs.Terms.{serialization_named, terms_of}
 pub use Rattle.bag_profile.specs.TextSet.{IsAscending, text_set, texts, texts_if_all, with_texts}

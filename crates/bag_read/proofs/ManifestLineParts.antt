@@ -8,8 +8,7 @@ use Rattle.bag_read.proofs.Common.{TagmanifestNamesTagmanifest, Rules, checked_d
 use Rattle.bag_read.proofs.Common.{spelled_path, without_marks, is_manifest_name, Reason, decoded_or, ◌>>=◌, Kind}
 use Rattle.bag_read.proofs.Common.{Payload, Tag, manifest_line}
 use Rattle.bag_read.specs.ManifestLine.{IsSpelling, MayName, IsManifestLine, ManifestLinesReadAsTheirParts}
-use Rattle.bag_read.specs.ManifestLine.{OnlyReadsManifest}
-use Rattle.bag_read.specs.ManifestLine.{HasOnlyManifestReason}
+use Rattle.bag_read.specs.ManifestLine.{OnlyReadsManifest, HasOnlyManifestReason}
 use Rattle.bag_read.proofs.LineParts.{or_false, not_false, not_empty, empty_test, is_cut, cut_part, cut_rest, not_blank}
 use Rattle.bag_read.proofs.LineParts.{begins_some, is_without, without_alone}
 use Rattle.bag_read.proofs.Reason.{bind_ok, decoded_ok, ok_same}

@@ -117,8 +117,7 @@ pub use Rattle.bag_stages.specs.FaultPlaces.{in_file}
 pub use Rattle.bag_stages.specs.FetchFaults.{AreByLine, AreFetched, IsNamedByNone, IsNamedByNoneAmong}
 pub use Rattle.bag_stages.specs.FetchFaults.{IsFetchLeftOutByAll, IsFetchLeftOutByOne, IsFetchLeftOutBySome, IsNotNamed}
 pub use Rattle.bag_stages.specs.FetchFaults.{IsNotNamedAmong, not_in_manifest}
-pub use Rattle.bag_stages.specs.FetchStage.{HasFetch, IsOfFetch}
-pub use Rattle.bag_stages.specs.FetchStage.{fetch_txt}
+pub use Rattle.bag_stages.specs.FetchStage.{HasFetch, IsOfFetch, fetch_txt}
 pub use Rattle.bag_stages.specs.FileFaults.{AreTagsOf, HasTextless, IsFaultAmong, IsFileFault, IsUnsupported}
 pub use Rattle.bag_stages.specs.FileFaults.{ListsPayloadManifest}
 pub use Rattle.bag_stages.specs.Given.{AreNaming, IsGivenBy, IsSpelledBy, kind_of}
@@ -143,5 +142,4 @@ pub use Rattle.bag_stages.specs.SumFaults.{sum_differs, IsFaultOfFile}
 pub use Rattle.bag_stages.specs.SummedFiles.{IsNamed, IsSummed}
 pub use Rattle.bag_stages.specs.TagFiles.{HasManifest, HasNoText, HasSupported, Names, bagit_txt, lines_in}
 pub use Rattle.bag_stages.specs.TagFiles.{lines_or_none, manifest_of, named_in}
-pub use Rattle.bag_stages.specs.ValidityStage.{Differs, IsEntryIn, IsOfValidity}
-pub use Rattle.bag_stages.specs.ValidityStage.{expected_and_found}
+pub use Rattle.bag_stages.specs.ValidityStage.{Differs, IsEntryIn, IsOfValidity, expected_and_found}

@@ -46,8 +46,7 @@ pub use Rattle.bag_text.specs.AlgList.{has_member, same_alg, with_member}
 pub use Rattle.bag_text.specs.AlgSet.{IsTable, flag_of, members}
 pub use Rattle.bag_text.specs.AlgTable.{flags_are, has_each, has_member-filter, same_alg_same, same_rank}
 pub use Rattle.bag_text.specs.LineEnd.{end_len, is_line_end}
-pub use Rattle.bag_text.specs.Lines.{IsLine, carriage_return, line_feed}
-pub use Rattle.bag_text.specs.Lines.{lines}
+pub use Rattle.bag_text.specs.Lines.{IsLine, carriage_return, line_feed, lines}
 pub use Rattle.bag_text.specs.Path.{components, is_component, is_path, slash}
 pub use Rattle.bag_text.specs.SortKey.{CommonFrontIsTheLongest, IsFront, IsLongestFront, common_front, front_of_sixteen}
 pub use Rattle.bag_text.specs.Spells.{BeginsWithNone, SpellsLineEnds, SpellsStrictly}

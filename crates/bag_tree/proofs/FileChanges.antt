@@ -1,10 +1,8 @@
 -- What a power cut leaves of changes of single files.
 use Rattle.bag_tree.proofs.Common.{arith, ◌≡◌, ◌≢◌, ◌++◌, ◌∷◌, ◌⊎◌, ◌≤◌, ℕ, zero, suc, inl, inr, true}
-use Rattle.bag_tree.proofs.Common.{false}
-use Rattle.bag_tree.proofs.Common.{List, [], refl, ap, sym, ◌∙◌, subst, map}
+use Rattle.bag_tree.proofs.Common.{false, List, [], refl, ap, sym, ◌∙◌, subst, map}
 use Rattle.bag_tree.proofs.Common.{append-nil, append_assoc, length, take, false≢true, and_from}
-use Rattle.bag_tree.proofs.Common.{is_base_name}
-use Rattle.bag_tree.proofs.Common.{file}
+use Rattle.bag_tree.proofs.Common.{is_base_name, file}
 use Rattle.std.proofs.Common.{◌||◌}
 use Rattle.std.proofs.lemmas.Bool.{false_from_ne_true}
 use Rattle.bag_tree.proofs.Events.{base_there, in_base, nothing_named, no_bytes, done_write}
@@ -15,8 +13,7 @@ use Rattle.bag_tree.proofs.Runs.{started, synced, weaker}
 use Rattle.bag_tree.proofs.Within.{itself_within}
 use Rattle.bag_tree.specs.Asked.{ChangeNothing, joined}
 use Rattle.bag_tree.specs.Bag.{Bag, has_file}
-use Rattle.bag_tree.specs.Cut.{MayLeave, done, hold, is_file_synced, is_synced}
-use Rattle.bag_tree.specs.Cut.{lose}
+use Rattle.bag_tree.specs.Cut.{MayLeave, done, hold, is_file_synced, is_synced, lose}
 use Rattle.bag_tree.specs.FileChanges.{AsksPut, AsksRemove, CanChange, CanChangeAll, ChangeAsks}
 use Rattle.bag_tree.specs.FileChanges.{ChangesAsk, ChangesAreDurable, CutsLeaveFirstChanges, IsAfterFirst, IsFree}
 use Rattle.bag_tree.specs.FileChanges.{IsNoFolder, IsPerhapsWithBegun, after_changes, changed}

@@ -1,6 +1,5 @@
 -- A file that was written beside the others is given its name, or one is removed.
-use Rattle.bag_tree.proofs.Common.{◌≡◌, ◌≢◌, ◌++◌, ◌∷◌, ◌&&◌, ℕ, inl, inr, Bool, true}
-use Rattle.bag_tree.proofs.Common.{false}
+use Rattle.bag_tree.proofs.Common.{◌≡◌, ◌≢◌, ◌++◌, ◌∷◌, ◌&&◌, ℕ, inl, inr, Bool, true, false}
 use Rattle.bag_tree.proofs.Common.{List, [], Some, None, Option, cond, is_some, nat_eq, refl, ap, sym, ◌∙◌}
 use Rattle.bag_tree.proofs.Common.{append_assoc, length, drop, false≢true}
 use Rattle.bag_tree.proofs.Common.{nat_list_cmp_total, get-insert, get-entries, find, is_base_name, slash, under}
@@ -14,17 +13,14 @@ use Rattle.std.specs.FinSet as set
 use Rattle.std.specs.FinSet.{contains-remove, same_set}
 use Rattle.std.specs.List.{list_any}
 use Rattle.std.specs.Str.{bytes_eq}
-use Rattle.bag_tree.proofs.Events.{created_again}
-use Rattle.bag_tree.proofs.Events.{file_within, other_name}
+use Rattle.bag_tree.proofs.Events.{created_again, file_within, other_name}
 use Rattle.bag_tree.proofs.Moving.{moves_all}
 use Rattle.bag_tree.proofs.Parents.{base_not_under, first-under}
 use Rattle.bag_tree.proofs.SameText.{exact_texts, one_text, text_itself}
 use Rattle.bag_tree.proofs.Within.{itself_within, not_within, prefix_test, under_within, within_cases}
 use Rattle.bag_tree.specs.Bag.{Bag, has_file, has_folder}
-use Rattle.bag_tree.specs.Cut.{done, has_below, hold, is_there}
-use Rattle.bag_tree.specs.Cut.{lose, rename, without}
-use Rattle.bag_tree.specs.FileChanges.{IsFree}
-use Rattle.bag_tree.specs.FileChanges.{IsNoFolder}
+use Rattle.bag_tree.specs.Cut.{done, has_below, hold, is_there, lose, rename, without}
+use Rattle.bag_tree.specs.FileChanges.{IsFree, IsNoFolder}
 use Rattle.bag_tree.specs.MovesAll.{MovesAll}
 use Rattle.bag_tree.specs.Steps.{create, has_within}
 use Rattle.bag_tree.specs.declared.event.DeviceEvent.TheVariants as event

@@ -1,6 +1,5 @@
 -- A bag: files by their paths, and the folders of its base folder (RFC 8493, 2).
-use Rattle.std.specs.Prelude.{◌<◌, ◌≡◌, Bool, true, false, List, Option, Some, All, IsTrue}
-use Rattle.std.specs.Prelude.{IsUtf8}
+use Rattle.std.specs.Prelude.{◌<◌, ◌≡◌, Bool, true, false, List, Option, Some, All, IsTrue, IsUtf8}
 use Rattle.std.specs.FinMap as map
 use Rattle.std.specs.FinSet as set
 use Rattle.bag_text.specs.Bytes.{Content, Name, Path}

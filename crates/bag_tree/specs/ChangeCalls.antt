@@ -1,6 +1,5 @@
 -- What each call that changes a tree promises.
-use Rattle.std.specs.Prelude.{◌≡◌, ◌⊎◌, true, ℕ, IsTrue, Result, OnOk, OnErr, IfErr}
-use Rattle.std.specs.Prelude.{MatchResult}
+use Rattle.std.specs.Prelude.{◌≡◌, ◌⊎◌, true, ℕ, IsTrue, Result, OnOk, OnErr, IfErr, MatchResult}
 use Rattle.bag_text.specs.Bytes.{Content, Name}
 use Rattle.bag_text.specs.Path.{under}
 use Rattle.bag_tree.specs.Asked.{Adds, Asking, AsksFile, AsksFolder, AsksMove, AsksRename}

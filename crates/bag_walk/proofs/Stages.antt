@@ -2,8 +2,7 @@
 use Rattle.bag_walk.proofs.Common.{◌≡◌, ◌<◌, ◌≤◌, ◌+◌, ◌++◌, ◌⊎◌, inl, inr, ℕ, List, [], Option, Contains, true}
 use Rattle.bag_walk.proofs.Common.{false, sym, ◌∙◌, subst, append_assoc, arith, stage, IsListOf, Code, contains_either}
 use Rattle.bag_walk.proofs.Common.{contains_nothing, joined, nothing_listed, same_members, fault_cmp, Fault}
-use Rattle.bag_walk.proofs.Common.{Check, above, is_above, IsReported}
-use Rattle.bag_walk.proofs.Common.{IsStageOf, filtered_list}
+use Rattle.bag_walk.proofs.Common.{Check, above, is_above, IsReported, IsStageOf, filtered_list}
 use Rattle.bag_walk.proofs.Common.{IsStageAbove, NoFaultBefore, AllBelow, AreAheadBefore}
 use Rattle.bag_walk.proofs.Common.{IsAhead, IsReportAfter, cases_lt, Bool, true≢false, refl, ap, filter, if◌then◌else◌}
 use Rattle.bag_walk.proofs.Common.{is_payload_path, text_cmp, Payload, Tag, Bag, IsBag, TreeState, IsFactsOf, Facts}

@@ -1,6 +1,5 @@
 //! The lines of a report's faults, each written when its fault is found.
-ghost use Rattle.std.specs.Prelude.{◌≡◌, List, [], string_bytes};
-ghost use Rattle.std.specs.Prelude.{IfOk, IsTrue, OnOk, Option};
+ghost use Rattle.std.specs.Prelude.{◌≡◌, List, [], string_bytes, IfOk, IsTrue, OnOk, Option};
 ghost use Rattle.std.specs.Option.{option_copied};
 ghost use Rattle.bag_tree.specs.Out.{OutState};
 ghost use Rattle.bag_facts.specs.declared.fault.Fault.{Fault as FaultValue};

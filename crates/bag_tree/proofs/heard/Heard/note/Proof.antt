@@ -13,14 +13,13 @@ use types.Kit.{drop}
 use types.SemTy.{Body}
 use denote.RattleType.{owns}
 use denote.Memory.{mem}
-use denote.Ref.{MutRef, mut_vals, mut_Tells}
+use denote.Ref.{MutRef, mut_vals, mut_Tells, Bor}
 use denote.Signature.{plain}
 use Rattle.bag_tree.specs.contracts.heard.Heard as T
 use Rattle.bag_tree.specs.contracts.heard.Heard.note.Key.{name as #it}
 use Rattle.bag_tree.specs.contracts.heard.Heard.note as it
 use Rattle.bag_tree.proofs.heard.Heard.note.Statement as stated
 use Rattle.bag_tree.proofs.heard.Heard.note.Code as code
-use denote.Ref.{Bor}
 use denote.Builtin.{u8}
 use denote.Exit.{yes}
 use denote.Slice.{ShrSlice, slice_val, shr_slice_vals, shr_slice_Tells}
