@@ -1,5 +1,5 @@
 //! A disk of which one call is refused.
-ghost use Rattle.std.specs.Prelude.{◌≡◌, if◌then◌else◌};
+ghost use Rattle.std.specs.Prelude.{◌≡◌};
 ghost use Rattle.std.specs.Result.{result_err};
 ghost use Rattle.test_disk.specs.Refusing.{is_due, is_refused, one_less, refusing};
 
@@ -102,14 +102,14 @@ impl Call {
 }
 
 impl<D: Disk + Drop> Disk for RefusingDisk<D> {
-    ghost use Rattle.std.specs.Prelude.{◌<◌, IsErrOf, IsTrue, false, is_some, length};
+    ghost use Rattle.std.specs.Prelude.{◌<◌, IsTrue, is_some, length};
     ghost use Rattle.bag_text.specs.Path.{is_path};
     ghost use Rattle.test_disk.specs.DiskCalls.{ClosesFile, Enters, LooksAt, LooksAtNamed};
     ghost use Rattle.test_disk.specs.DiskCalls.{NamesNext, Opens, Reads};
-    ghost use Rattle.test_disk.specs.RefusingDisk.{below_of, call_of, fault_of, own_of};
-    ghost use Rattle.test_disk.specs.RefusingDisk.{reported_of};
+    ghost use Rattle.test_disk.specs.RefusingDisk.{IsCallOf, IsInTurn, IsLook, below_of, call_of};
+    ghost use Rattle.test_disk.specs.RefusingDisk.{fault_of, own_of, reported_of};
     ghost use Rattle.bag_disk.specs.Failures.{failures_counted};
-    ghost use Rattle.bag_disk.specs.Refusal.{at_known, failures_after, of_name, refusal_at_path};
+    ghost use Rattle.bag_disk.specs.Refusal.{at_known, of_name, refusal_at_path};
 
     ghost state = { λ disk.
         refusing (D.state disk.disk) disk.fault (failures_counted disk.failures) };
@@ -118,18 +118,8 @@ impl<D: Disk + Drop> Disk for RefusingDisk<D> {
 
     fn entry_at(&mut self, path: &str) -> Result<Entry, DiskFault>
         requires { IsTrue (is_path path.now) }
-        ensures call { call_of self.new ≡ call_of self.old }
-        ensures fault { fault_of self.new ≡ fault_of self.old }
-        ensures due { IsTrue (is_refused (call_of self.old) path.now)
-            → IsErrOf result (fault_of self.old) × (below_of self.new ≡ below_of self.old)
-            × (own_of self.new
-            ≡ failures_after (refusal_at_path (fault_of self.old)) (own_of self.old)) }
-        ensures passed { is_refused (call_of self.old) path.now ≡ false
-            → LooksAt (D.state (below_of self.old)) (D.state (below_of self.new)) path.now result
-            × (own_of self.new ≡ own_of self.old) }
-        ensures reported { reported_of self.new
-            ≡ (if is_refused (call_of self.old) path.now then reported_of self.old
-            else result_err result) }
+        ensures { IsLook path.now refusal_at_path (λ old new. LooksAt (D.state old) (D.state new)
+            path.now result) self.old self.new result }
     {
         if self.refuses_entry(path) {
             self.failures.refuse(Refusal::of_path(self.fault));
@@ -140,17 +130,8 @@ impl<D: Disk + Drop> Disk for RefusingDisk<D> {
 
     fn named_entry(&mut self, path: &str) -> Result<Entry, DiskFault>
         requires { IsTrue (is_path path.now) }
-        ensures call { call_of self.new ≡ call_of self.old }
-        ensures fault { fault_of self.new ≡ fault_of self.old }
-        ensures due { IsTrue (is_refused (call_of self.old) path.now)
-            → IsErrOf result (fault_of self.old) × (below_of self.new ≡ below_of self.old)
-            × (own_of self.new ≡ failures_after (at_known (fault_of self.old)) (own_of self.old)) }
-        ensures passed { is_refused (call_of self.old) path.now ≡ false
-            → LooksAtNamed (D.state (below_of self.old)) (D.state (below_of self.new)) path.now
-            result × (own_of self.new ≡ own_of self.old) }
-        ensures reported { reported_of self.new
-            ≡ (if is_refused (call_of self.old) path.now then reported_of self.old
-            else result_err result) }
+        ensures { IsLook path.now at_known (λ old new. LooksAtNamed (D.state old) (D.state new)
+            path.now result) self.old self.new result }
     {
         if self.refuses_entry(path) {
             self.failures.refuse(Refusal::at_known(self.fault));
@@ -160,16 +141,8 @@ impl<D: Disk + Drop> Disk for RefusingDisk<D> {
     }
 
     fn enter(&mut self, folder: &str) -> Result<(), DiskFault>
-        ensures counted { call_of self.new ≡ one_less (call_of self.old) }
-        ensures fault { fault_of self.new ≡ fault_of self.old }
-        ensures due { IsTrue (is_due (call_of self.old))
-            → IsErrOf result (fault_of self.old) × (below_of self.new ≡ below_of self.old)
-            × (own_of self.new ≡ failures_after (at_known (fault_of self.old)) (own_of self.old)) }
-        ensures passed { is_due (call_of self.old) ≡ false
-            → Enters (D.state (below_of self.old)) (D.state (below_of self.new)) folder.now result
-            × (own_of self.new ≡ own_of self.old) }
-        ensures reported { reported_of self.new
-            ≡ (if is_due (call_of self.old) then reported_of self.old else result_err result) }
+        ensures { IsInTurn at_known (λ old new. Enters (D.state old) (D.state new)
+            folder.now result) self.old self.new result }
     {
         if self.call.is_due() {
             self.failures.refuse(Refusal::at_known(self.fault));
@@ -179,16 +152,8 @@ impl<D: Disk + Drop> Disk for RefusingDisk<D> {
     }
 
     fn next_name(&mut self) -> Result<Option<Text>, DiskFault>
-        ensures counted { call_of self.new ≡ one_less (call_of self.old) }
-        ensures fault { fault_of self.new ≡ fault_of self.old }
-        ensures due { IsTrue (is_due (call_of self.old))
-            → IsErrOf result (fault_of self.old) × (below_of self.new ≡ below_of self.old)
-            × (own_of self.new ≡ failures_after (of_name (fault_of self.old)) (own_of self.old)) }
-        ensures passed { is_due (call_of self.old) ≡ false
-            → NamesNext (D.state (below_of self.old)) (D.state (below_of self.new)) result
-            × (own_of self.new ≡ own_of self.old) }
-        ensures reported { reported_of self.new
-            ≡ (if is_due (call_of self.old) then reported_of self.old else result_err result) }
+        ensures { IsInTurn of_name (λ old new. NamesNext (D.state old) (D.state new) result)
+            self.old self.new result }
     {
         if self.call.is_due() {
             self.failures.refuse(Refusal::of_name(self.fault));
@@ -199,17 +164,10 @@ impl<D: Disk + Drop> Disk for RefusingDisk<D> {
 
     fn open(&mut self, path: &str) -> Result<(), DiskFault>
         requires { IsTrue (is_path path.now) }
-        ensures counted { call_of self.new ≡ one_less (call_of self.old) }
-        ensures fault { fault_of self.new ≡ fault_of self.old }
-        ensures due { IsTrue (is_due (call_of self.old)) → IsErrOf result (fault_of self.old)
-            × ClosesFile (D.state (below_of self.old)) (D.state (below_of self.new))
-            × (own_of self.new
-            ≡ failures_after (refusal_at_path (fault_of self.old)) (own_of self.old)) }
-        ensures passed { is_due (call_of self.old) ≡ false
-            → Opens (D.state (below_of self.old)) (D.state (below_of self.new)) path.now result
-            × (own_of self.new ≡ own_of self.old) }
-        ensures reported { reported_of self.new
-            ≡ (if is_due (call_of self.old) then reported_of self.old else result_err result) }
+        ensures { IsCallOf (is_due (call_of self.old)) (one_less (call_of self.old))
+            refusal_at_path (λ old new. ClosesFile (D.state old) (D.state new))
+            (λ old new. Opens (D.state old) (D.state new) path.now result)
+            self.old self.new result }
     {
         if self.call.is_due() {
             self.disk.close();
@@ -236,16 +194,8 @@ impl<D: Disk + Drop> Disk for RefusingDisk<D> {
     fn read(&mut self, buffer: &mut [u8]) -> Result<usize, DiskFault>
         requires some { 0 < length buffer.old }
         requires file_open { IsTrue (is_some (D.state (below_of self.old)).rest) }
-        ensures counted { call_of self.new ≡ one_less (call_of self.old) }
-        ensures fault { fault_of self.new ≡ fault_of self.old }
-        ensures due { IsTrue (is_due (call_of self.old))
-            → IsErrOf result (fault_of self.old) × (below_of self.new ≡ below_of self.old)
-            × (own_of self.new ≡ failures_after (at_known (fault_of self.old)) (own_of self.old)) }
-        ensures passed { is_due (call_of self.old) ≡ false
-            → Reads (D.state (below_of self.old)) (D.state (below_of self.new)) (length buffer.old)
-            buffer.new result × (own_of self.new ≡ own_of self.old) }
-        ensures reported { reported_of self.new
-            ≡ (if is_due (call_of self.old) then reported_of self.old else result_err result) }
+        ensures { IsInTurn at_known (λ old new. Reads (D.state old) (D.state new)
+            (length buffer.old) buffer.new result) self.old self.new result }
     {
         if self.call.is_due() {
             self.failures.refuse(Refusal::at_known(self.fault));
@@ -256,29 +206,19 @@ impl<D: Disk + Drop> Disk for RefusingDisk<D> {
 }
 
 impl<D: WritableDisk + Drop> WritableDisk for RefusingDisk<D> {
-    ghost use Rattle.std.specs.Prelude.{IsErrOf, IsTrue, false, is_some};
+    ghost use Rattle.std.specs.Prelude.{IsTrue, is_some};
     ghost use Rattle.bag_text.specs.Path.{is_path};
     ghost use Rattle.test_disk.specs.DiskCalls.{Creates, MakesFolderAt, Renames, Syncs};
     ghost use Rattle.test_disk.specs.DiskCalls.{SyncsFolder, Writes};
-    ghost use Rattle.test_disk.specs.RefusingDisk.{below_of, call_of, fault_of, own_of};
-    ghost use Rattle.test_disk.specs.RefusingDisk.{reported_of};
-    ghost use Rattle.bag_disk.specs.Refusal.{at_known, failures_after, of_making};
+    ghost use Rattle.test_disk.specs.RefusingDisk.{IsInTurn, below_of};
+    ghost use Rattle.bag_disk.specs.Refusal.{at_known, of_making};
 
     ghost written = { λ disk. D.written disk.disk };
 
     fn make_folder(&mut self, path: &str) -> Result<(), DiskFault>
         requires { IsTrue (is_path path.now) }
-        ensures counted { call_of self.new ≡ one_less (call_of self.old) }
-        ensures fault { fault_of self.new ≡ fault_of self.old }
-        ensures due { IsTrue (is_due (call_of self.old))
-            → IsErrOf result (fault_of self.old) × (below_of self.new ≡ below_of self.old)
-            × (own_of self.new ≡ failures_after (of_making (fault_of self.old)) (own_of self.old)) }
-        ensures passed { is_due (call_of self.old) ≡ false
-            → MakesFolderAt (D.state (below_of self.old)) (D.state (below_of self.new))
-            (D.written (below_of self.old)) (D.written (below_of self.new))
-            path.now result × (own_of self.new ≡ own_of self.old) }
-        ensures reported { reported_of self.new
-            ≡ (if is_due (call_of self.old) then reported_of self.old else result_err result) }
+        ensures { IsInTurn of_making (λ old new. MakesFolderAt (D.state old) (D.state new)
+            (D.written old) (D.written new) path.now result) self.old self.new result }
     {
         if self.call.is_due() {
             self.failures.refuse(Refusal::of_making(self.fault));
@@ -290,17 +230,8 @@ impl<D: WritableDisk + Drop> WritableDisk for RefusingDisk<D> {
     fn rename(&mut self, from: &str, to: &str) -> Result<(), DiskFault>
         requires from { IsTrue (is_path from.now) }
         requires to { IsTrue (is_path to.now) }
-        ensures counted { call_of self.new ≡ one_less (call_of self.old) }
-        ensures fault { fault_of self.new ≡ fault_of self.old }
-        ensures due { IsTrue (is_due (call_of self.old))
-            → IsErrOf result (fault_of self.old) × (below_of self.new ≡ below_of self.old)
-            × (own_of self.new ≡ failures_after (at_known (fault_of self.old)) (own_of self.old)) }
-        ensures passed { is_due (call_of self.old) ≡ false
-            → Renames (D.state (below_of self.old)) (D.state (below_of self.new))
-            (D.written (below_of self.old)) (D.written (below_of self.new))
-            from.now to.now result × (own_of self.new ≡ own_of self.old) }
-        ensures reported { reported_of self.new
-            ≡ (if is_due (call_of self.old) then reported_of self.old else result_err result) }
+        ensures { IsInTurn at_known (λ old new. Renames (D.state old) (D.state new) (D.written old)
+            (D.written new) from.now to.now result) self.old self.new result }
     {
         if self.call.is_due() {
             self.failures.refuse(Refusal::at_known(self.fault));
@@ -311,17 +242,8 @@ impl<D: WritableDisk + Drop> WritableDisk for RefusingDisk<D> {
 
     fn create(&mut self, path: &str) -> Result<(), DiskFault>
         requires { IsTrue (is_path path.now) }
-        ensures counted { call_of self.new ≡ one_less (call_of self.old) }
-        ensures fault { fault_of self.new ≡ fault_of self.old }
-        ensures due { IsTrue (is_due (call_of self.old))
-            → IsErrOf result (fault_of self.old) × (below_of self.new ≡ below_of self.old)
-            × (own_of self.new ≡ failures_after (of_making (fault_of self.old)) (own_of self.old)) }
-        ensures passed { is_due (call_of self.old) ≡ false
-            → Creates (D.state (below_of self.old)) (D.state (below_of self.new))
-            (D.written (below_of self.old)) (D.written (below_of self.new))
-            path.now result × (own_of self.new ≡ own_of self.old) }
-        ensures reported { reported_of self.new
-            ≡ (if is_due (call_of self.old) then reported_of self.old else result_err result) }
+        ensures { IsInTurn of_making (λ old new. Creates (D.state old) (D.state new) (D.written old)
+            (D.written new) path.now result) self.old self.new result }
     {
         if self.call.is_due() {
             self.failures.refuse(Refusal::of_making(self.fault));
@@ -332,17 +254,8 @@ impl<D: WritableDisk + Drop> WritableDisk for RefusingDisk<D> {
 
     fn write(&mut self, bytes: &[u8]) -> Result<usize, DiskFault>
         requires { IsTrue (is_some (D.written (below_of self.old))) }
-        ensures counted { call_of self.new ≡ one_less (call_of self.old) }
-        ensures fault { fault_of self.new ≡ fault_of self.old }
-        ensures due { IsTrue (is_due (call_of self.old))
-            → IsErrOf result (fault_of self.old) × (below_of self.new ≡ below_of self.old)
-            × (own_of self.new ≡ failures_after (at_known (fault_of self.old)) (own_of self.old)) }
-        ensures passed { is_due (call_of self.old) ≡ false
-            → Writes (D.state (below_of self.old)) (D.state (below_of self.new))
-            (D.written (below_of self.old)) (D.written (below_of self.new))
-            bytes.now result × (own_of self.new ≡ own_of self.old) }
-        ensures reported { reported_of self.new
-            ≡ (if is_due (call_of self.old) then reported_of self.old else result_err result) }
+        ensures { IsInTurn at_known (λ old new. Writes (D.state old) (D.state new) (D.written old)
+            (D.written new) bytes.now result) self.old self.new result }
     {
         if self.call.is_due() {
             self.failures.refuse(Refusal::at_known(self.fault));
@@ -353,17 +266,8 @@ impl<D: WritableDisk + Drop> WritableDisk for RefusingDisk<D> {
 
     fn sync(&mut self) -> Result<(), DiskFault>
         requires { IsTrue (is_some (D.written (below_of self.old))) }
-        ensures counted { call_of self.new ≡ one_less (call_of self.old) }
-        ensures fault { fault_of self.new ≡ fault_of self.old }
-        ensures due { IsTrue (is_due (call_of self.old))
-            → IsErrOf result (fault_of self.old) × (below_of self.new ≡ below_of self.old)
-            × (own_of self.new ≡ failures_after (at_known (fault_of self.old)) (own_of self.old)) }
-        ensures passed { is_due (call_of self.old) ≡ false
-            → Syncs (D.state (below_of self.old)) (D.state (below_of self.new))
-            (D.written (below_of self.old)) (D.written (below_of self.new))
-            result × (own_of self.new ≡ own_of self.old) }
-        ensures reported { reported_of self.new
-            ≡ (if is_due (call_of self.old) then reported_of self.old else result_err result) }
+        ensures { IsInTurn at_known (λ old new. Syncs (D.state old) (D.state new) (D.written old)
+            (D.written new) result) self.old self.new result }
     {
         if self.call.is_due() {
             self.failures.refuse(Refusal::at_known(self.fault));
@@ -373,17 +277,8 @@ impl<D: WritableDisk + Drop> WritableDisk for RefusingDisk<D> {
     }
 
     fn sync_folder(&mut self, folder: &str) -> Result<(), DiskFault>
-        ensures counted { call_of self.new ≡ one_less (call_of self.old) }
-        ensures fault { fault_of self.new ≡ fault_of self.old }
-        ensures due { IsTrue (is_due (call_of self.old))
-            → IsErrOf result (fault_of self.old) × (below_of self.new ≡ below_of self.old)
-            × (own_of self.new ≡ failures_after (at_known (fault_of self.old)) (own_of self.old)) }
-        ensures passed { is_due (call_of self.old) ≡ false
-            → SyncsFolder (D.state (below_of self.old)) (D.state (below_of self.new))
-            (D.written (below_of self.old)) (D.written (below_of self.new))
-            folder.now result × (own_of self.new ≡ own_of self.old) }
-        ensures reported { reported_of self.new
-            ≡ (if is_due (call_of self.old) then reported_of self.old else result_err result) }
+        ensures { IsInTurn at_known (λ old new. SyncsFolder (D.state old) (D.state new)
+            (D.written old) (D.written new) folder.now result) self.old self.new result }
     {
         if self.call.is_due() {
             self.failures.refuse(Refusal::at_known(self.fault));
@@ -394,27 +289,17 @@ impl<D: WritableDisk + Drop> WritableDisk for RefusingDisk<D> {
 }
 
 impl<D: ReplaceDisk + Drop> ReplaceDisk for RefusingDisk<D> {
-    ghost use Rattle.std.specs.Prelude.{IsErrOf, IsTrue, false};
+    ghost use Rattle.std.specs.Prelude.{IsTrue};
     ghost use Rattle.bag_text.specs.Path.{is_path};
     ghost use Rattle.test_disk.specs.DiskCalls.{PutsInPlaceAt, RemovesAt};
-    ghost use Rattle.test_disk.specs.RefusingDisk.{below_of, call_of, fault_of, own_of};
-    ghost use Rattle.test_disk.specs.RefusingDisk.{reported_of};
-    ghost use Rattle.bag_disk.specs.Refusal.{at_known, failures_after, refusal_at_path};
+    ghost use Rattle.test_disk.specs.RefusingDisk.{IsInTurn};
+    ghost use Rattle.bag_disk.specs.Refusal.{at_known, refusal_at_path};
 
     fn replace(&mut self, from: &str, to: &str) -> Result<(), DiskFault>
         requires from { IsTrue (is_path from.now) }
         requires to { IsTrue (is_path to.now) }
-        ensures counted { call_of self.new ≡ one_less (call_of self.old) }
-        ensures fault { fault_of self.new ≡ fault_of self.old }
-        ensures due { IsTrue (is_due (call_of self.old))
-            → IsErrOf result (fault_of self.old) × (below_of self.new ≡ below_of self.old)
-            × (own_of self.new ≡ failures_after (at_known (fault_of self.old)) (own_of self.old)) }
-        ensures passed { is_due (call_of self.old) ≡ false
-            → PutsInPlaceAt (D.state (below_of self.old)) (D.state (below_of self.new))
-            (D.written (below_of self.old)) (D.written (below_of self.new))
-            from.now to.now result × (own_of self.new ≡ own_of self.old) }
-        ensures reported { reported_of self.new
-            ≡ (if is_due (call_of self.old) then reported_of self.old else result_err result) }
+        ensures { IsInTurn at_known (λ old new. PutsInPlaceAt (D.state old) (D.state new)
+            (D.written old) (D.written new) from.now to.now result) self.old self.new result }
     {
         if self.call.is_due() {
             self.failures.refuse(Refusal::at_known(self.fault));
@@ -425,18 +310,8 @@ impl<D: ReplaceDisk + Drop> ReplaceDisk for RefusingDisk<D> {
 
     fn remove(&mut self, path: &str) -> Result<(), DiskFault>
         requires { IsTrue (is_path path.now) }
-        ensures counted { call_of self.new ≡ one_less (call_of self.old) }
-        ensures fault { fault_of self.new ≡ fault_of self.old }
-        ensures due { IsTrue (is_due (call_of self.old))
-            → IsErrOf result (fault_of self.old) × (below_of self.new ≡ below_of self.old)
-            × (own_of self.new
-            ≡ failures_after (refusal_at_path (fault_of self.old)) (own_of self.old)) }
-        ensures passed { is_due (call_of self.old) ≡ false
-            → RemovesAt (D.state (below_of self.old)) (D.state (below_of self.new))
-            (D.written (below_of self.old)) (D.written (below_of self.new))
-            path.now result × (own_of self.new ≡ own_of self.old) }
-        ensures reported { reported_of self.new
-            ≡ (if is_due (call_of self.old) then reported_of self.old else result_err result) }
+        ensures { IsInTurn refusal_at_path (λ old new. RemovesAt (D.state old) (D.state new)
+            (D.written old) (D.written new) path.now result) self.old self.new result }
     {
         if self.call.is_due() {
             self.failures.refuse(Refusal::of_path(self.fault));
