@@ -9,6 +9,7 @@ pub mod LineFields
 pub mod LineOf
 pub mod Options
 pub mod Part
+pub mod Stage
 pub mod Stops
 pub mod TagFacts
 pub mod TagReader

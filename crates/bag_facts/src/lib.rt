@@ -28,6 +28,7 @@ mod listed_manifest;
 mod options;
 mod part;
 mod pooling;
+mod stage;
 mod tag_facts;
 mod tag_reader;
 
@@ -37,4 +38,5 @@ pub use field::put_line;
 pub use from_line::CursorFault;
 pub use options::{Depth, Options};
 pub use part::Part;
+pub use stage::Stage;
 pub use tag_facts::{FetchList, Manifest, Metadata, TagFacts};

@@ -3,6 +3,7 @@ ghost use Rattle.std.specs.Prelude.{◌≡◌, ◌↔◌, IsTrue};
 ghost use Rattle.bag_facts.specs.Options.{reaches};
 ghost use Rattle.bag_facts.specs.Wanted.{Wants};
 
+use crate::Stage;
 use bag_read::TagName;
 
 /// How much of a bag is checked.
@@ -24,11 +25,12 @@ impl Depth {
     pub fn has_stage(self, stage: u8) -> bool
         ensures { result ≡ reaches self stage }
     {
+        let is_conformance = stage == Stage::Conformance as u8;
         match self {
-            Depth::Declaration => stage <= 1,
-            Depth::Fast => stage <= 3 || stage == 8,
-            Depth::Complete => stage <= 6 || stage == 8,
-            Depth::Full => stage <= 8,
+            Depth::Declaration => stage <= Stage::Declaration as u8,
+            Depth::Fast => stage <= Stage::Metadata as u8 || is_conformance,
+            Depth::Complete => stage <= Stage::Completeness as u8 || is_conformance,
+            Depth::Full => stage <= Stage::Conformance as u8,
         }
     }
 }

@@ -3,7 +3,7 @@
 //!
 //! ```
 //! let facts = Facts::read(alloc, &mut tree, options)?;
-//! for fault in &stage_faults(alloc, &facts, Some(&profile), 8)? {
+//! for fault in &stage_faults(alloc, &facts, Some(&profile), Stage::Conformance.number())? {
 //!     let line = fault.to_line(alloc)?;
 //!     let same = Fault::from_line(alloc, line.as_str())?;
 //! }
@@ -21,7 +21,7 @@ pub mod laws;
 mod stages;
 
 pub use bag_facts::{
-    CursorFault, Depth, Facts, Fault, FetchList, Manifest, Metadata, Options, TagFacts,
+    CursorFault, Depth, Facts, Fault, FetchList, Manifest, Metadata, Options, Stage, TagFacts,
 };
 pub use bag_profile::{Profile, ProfileFault};
 pub use stages::stage_faults;

@@ -12,7 +12,7 @@ ghost use Rattle.bag_report.specs.Stages.{IsFoundAt, IsStageOf, check_of_facts};
 ghost use Rattle.bag_stages.specs.Found.{AreFaultsOf};
 
 use bag_conformance::conformance_faults;
-use bag_facts::{Depth, Facts, Fault, Options};
+use bag_facts::{Depth, Facts, Fault, Options, Stage};
 use bag_profile::Profile;
 use bag_stages::{
     completeness_faults, declaration_faults, fetch_faults, manifest_faults, metadata_faults,
@@ -59,15 +59,18 @@ fn found_faults(
         faults.items) }
     ensures seventh { IfOk result (λ faults. stage ≡ 7 → faults.items ≡ []) }
 {
+    let Some(stage) = Stage::from_number(stage) else {
+        return Ok(Vec::new(alloc));
+    };
     match stage {
-        1 => declaration_faults(alloc, facts),
-        2 => parts_faults(alloc, facts),
-        3 => metadata_faults(alloc, facts),
-        4 => fetch_faults(alloc, facts),
-        5 => manifest_faults(alloc, facts),
-        6 => completeness_faults(alloc, facts),
-        8 => profile_faults(alloc, facts, profile),
-        _ => Ok(Vec::new(alloc)),
+        Stage::Declaration => declaration_faults(alloc, facts),
+        Stage::Parts => parts_faults(alloc, facts),
+        Stage::Metadata => metadata_faults(alloc, facts),
+        Stage::Fetch => fetch_faults(alloc, facts),
+        Stage::Manifests => manifest_faults(alloc, facts),
+        Stage::Completeness => completeness_faults(alloc, facts),
+        Stage::Validity => Ok(Vec::new(alloc)),
+        Stage::Conformance => profile_faults(alloc, facts, profile),
     }
 }
 

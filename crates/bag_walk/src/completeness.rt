@@ -13,7 +13,7 @@ ghost use Rattle.bag_profile.specs.Profile.{Profile};
 use crate::above_cursor::above;
 use crate::part::Bounds;
 use crate::{Fixed, InOrder, Quiet, Source};
-use bag_facts::{Facts, Fault};
+use bag_facts::{Facts, Fault, Stage};
 use bag_stages::completeness_faults;
 use bag_tree::{Stop, Tree};
 use std::alloc::{AllocError, Global};
@@ -74,7 +74,7 @@ fn sought(alloc: Global, facts: &Facts, after: Option<&Fault>) -> Result<Vec<Fau
     ensures none { IfOk result (λ faults.
         reaches facts.now.options.depth 6 ≡ false → faults.items ≡ []) }
 {
-    if !facts.options.depth.has_stage(6) {
+    if !facts.options.depth.has_stage(Stage::Completeness as u8) {
         return Ok(Vec::new(alloc));
     }
     Ok(above(completeness_faults(alloc, facts)?, after))

@@ -9,14 +9,11 @@ ghost use Rattle.bag_walk.specs.Parts.{files_within};
 
 use crate::part::Bounds;
 use crate::to_sum::ToSum;
-use bag_facts::{Depth, Facts, Fault};
+use bag_facts::{Depth, Facts, Fault, Stage};
 use bag_stages::{Places, expected_of};
 use bag_text::Text;
 use bag_tree::FileEntry;
 use std::alloc::{AllocError, Global};
-
-/// The stage of faults of digests.
-const STAGE: u8 = 7;
 
 /// The listed files between two bounds that a manifest names, with what manifests give for them, in
 /// path order: those that a cursor hasn't passed. There are none below the depth `Full`. No other
@@ -81,8 +78,8 @@ fn is_passed(after: Option<&Fault>, path: &Text) -> bool
     match after {
         None => false,
         Some(cursor) => {
-            let stage = cursor.stage();
-            stage > STAGE || stage == STAGE && *path < cursor.path
+            let (stage, validity) = (cursor.stage(), Stage::Validity as u8);
+            stage > validity || stage == validity && *path < cursor.path
         }
     }
 }

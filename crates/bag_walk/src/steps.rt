@@ -19,7 +19,7 @@ ghost use Rattle.bag_walk.specs.Steps.{WalkOpensNoFileEarly, OpensNext, StopsBef
 use crate::above_cursor::above;
 use crate::part::{Bounds, Listed};
 use crate::{Completeness, Fixed, InOrder, Source, Then, Validity};
-use bag_facts::{Facts, Fault, Options, Part};
+use bag_facts::{Facts, Fault, Options, Part, Stage};
 use bag_profile::Profile;
 use bag_report::stage_faults;
 use bag_tree::{Stop, Tree};
@@ -275,7 +275,7 @@ fn late_within(
         IsStageWithin check 8 (option_copied after.entry) bounds.now faults.items)) }
 {
     if bounds.has_late() {
-        return stage_above(alloc, facts, profile, 8, after);
+        return stage_above(alloc, facts, profile, Stage::Conformance as u8, after);
     }
     Ok(Vec::new(alloc))
 }
@@ -291,7 +291,7 @@ fn early_above(
         AreAheadBefore check 6 (option_copied after.entry) faults.items)) }
 {
     let mut faults = Vec::new(alloc);
-    for stage in 1..6 {
+    for stage in Stage::Declaration as u8..Stage::Completeness as u8 {
         let mut of_stage = stage_above(alloc, facts, profile, stage, after)?;
         faults.append(&mut of_stage)?;
     }
