@@ -1,6 +1,8 @@
 -- What was written to a file.
-use Rattle.std.specs.Prelude.{ℕ, ◌≡◌, ◌⊎◌, false, IsTrue, List, Option, None, Some, take}
-use Rattle.bag_disk.specs.Disk.{DiskState, Nodes, is_folder_node}
+use Rattle.std.specs.Prelude.{ℕ, ◌≡◌, ◌⊎◌, Bool, true, false, IsTrue, List, Option, None, Some}
+use Rattle.std.specs.Prelude.{take}
+use Rattle.bag_disk.specs.Disk.{DiskState, Node, Nodes, is_folder_node}
+use Rattle.bag_disk.specs.Disk.Node.{File, Folder, Other}
 use Rattle.bag_disk.specs.DiskNodes.{OnlyLooks, node}
 use Rattle.bag_disk.specs.ReplaceDisk.{without_node}
 use Rattle.bag_disk.specs.WritableDisk.{Appends, ClosesOpenFile, HasFileNode, with_file_node}
@@ -51,6 +53,18 @@ pub record Puts (old new : DiskState) (beside name bytes : List ℕ) : Type 0 wh
 abbrev pub LeavesPut : DiskState → DiskState → List ℕ → List ℕ → List ℕ → Type 0
 LeavesPut old new beside name bytes =
     OnlyLooks old new ⊎ Begins old new beside bytes ⊎ Puts old new beside name bytes
+
+-- nothing stands there, or a regular file
+abbrev pub is_none_or_file : Option Node → Bool
+is_none_or_file None = true
+is_none_or_file (Some (File bytes)) = true
+is_none_or_file (Some Folder) = false
+is_none_or_file (Some Other) = false
+
+-- where something that is no file has the name, on an honest disk, the disk was only looked at
+abbrev pub LooksFirst : DiskState → DiskState → List ℕ → Type 0
+LooksFirst old new name =
+    IsTrue old.honest → is_none_or_file (node old.nodes name) ≡ false → OnlyLooks old new
 
 -- a file was removed
 pub record RemovesIt (old new : DiskState) (name : List ℕ) : Type 0 where

@@ -7,7 +7,7 @@ ghost use Rattle.bag_disk.specs.Refusal.{IsCounted};
 ghost use Rattle.bag_store.specs.Asking.{AsksOfDisk};
 ghost use Rattle.bag_store.specs.Changing.{IsPlaceTaken, LacksFileThere};
 ghost use Rattle.bag_store.specs.Due.{IsDueInMaking, IsDueInRemoving};
-ghost use Rattle.bag_store.specs.Writing.{LeavesPut, Puts, RemovesIt};
+ghost use Rattle.bag_store.specs.Writing.{LeavesPut, LooksFirst, Puts, RemovesIt};
 
 use crate::standing::{check_is_file, check_no_folder};
 use crate::syncing::{BASE, sync_names};
@@ -29,6 +29,7 @@ pub(crate) fn replace<D: ReplaceDisk>(
         (Puts (D.state disk.old) (D.state disk.new) beside.now name.now bytes.now) }
     ensures left { OnErr result
         (LeavesPut (D.state disk.old) (D.state disk.new) beside.now name.now bytes.now) }
+    ensures looks_first { LooksFirst (D.state disk.old) (D.state disk.new) name.now }
     ensures asked { AsksOfDisk (AsksPut beside.now name.now bytes.now)
         (AsksFirstOf (AsksPut beside.now name.now bytes.now))
         (D.state disk.old) (D.state disk.new) result }

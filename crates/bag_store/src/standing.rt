@@ -3,7 +3,6 @@ ghost use Rattle.std.specs.Prelude.{◌≡◌, IfErr, IfOk, IsTrue, None, OnOk, 
 ghost use Rattle.bag_text.specs.Path.{is_base_name, is_path};
 ghost use Rattle.bag_tree.specs.Bag.{has_folder};
 ghost use Rattle.bag_tree.specs.Steps.{is_taken};
-ghost use Rattle.bag_disk.specs.Disk.{is_folder_node};
 ghost use Rattle.bag_disk.specs.DiskNodes.{HasSpecial, IsReachedByFolders, OnlyLooks, node};
 ghost use Rattle.bag_disk.specs.WritableDisk.{HasFileNode};
 ghost use Rattle.bag_store.specs.Changing.{IsNameTaken, LacksFileThere};
@@ -12,6 +11,7 @@ ghost use Rattle.bag_disk.specs.Refusal.{IsCounted};
 ghost use Rattle.bag_store.specs.Due.{IsDueInFinding, IsDueInLook, IsDueInMaking};
 ghost use Rattle.bag_store.specs.Due.{IsDueInRemoving};
 ghost use Rattle.bag_store.specs.Standing.{IsStanding};
+ghost use Rattle.bag_store.specs.Writing.{is_none_or_file};
 
 use bag_disk::{Disk, DiskFault, Entry, Refusal};
 
@@ -86,7 +86,7 @@ pub(crate) fn check_no_folder<D: Disk>(disk: &mut D, name: &str) -> Result<(), R
     ensures looks { OnlyLooks (D.state disk.old) (D.state disk.new) }
     ensures none { OnOk result
         (IsTrue (D.state disk.old).honest
-        → is_folder_node (node (D.state disk.old).nodes name.now) ≡ false) }
+        → is_none_or_file (node (D.state disk.old).nodes name.now) ≡ true) }
     ensures refused { IfErr result
         (IsDueInMaking (D.state disk.old)
         (IsTrue (D.state disk.old).honest
