@@ -7,8 +7,9 @@ use Rattle.bag_tree.specs.Out.{OutState}
 use Rattle.bag_tree.specs.Cut.{LeavesOnly}
 use Rattle.bag_tree.specs.Tree.{TreeState}
 use Rattle.bag_tags.specs.Element.{NewElement}
+use Rattle.bag_report.specs.Valid.{HasNoFault}
 use Rattle.bag_make.specs.Made as bag
-use Rattle.bag_make.specs.Make.{HasKnownSize, HasNoFault, Leaves, MayRefuseMaking}
+use Rattle.bag_make.specs.Make.{HasKnownSize, Leaves, MayRefuseMaking}
 use Rattle.bag_make.specs.PowerCut.{OutlastsCuts}
 use Rattle.bag_make.specs.declared.fault.MakeFault.{MakeFault}
 use Rattle.bag_cli.specs.Making.{IsMaking}

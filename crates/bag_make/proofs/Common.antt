@@ -55,6 +55,7 @@ pub use Rattle.bag_read.specs.Oxum.{oxum_text}
 pub use Rattle.bag_stages.specs.Payload.{oxum, oxum_of_files, payload}
 pub use Rattle.bag_stages.specs.TagFiles.{HasSupported, Names, lines_in, lines_or_none, manifest_of}
 pub use Rattle.bag_stages.specs.ValidityStage.{Differs, IsEntryIn}
+pub use Rattle.bag_report.specs.Valid.{HasNoFault, full}
 pub use Rattle.bag_tags.proofs.DeclarationReadAgain.{declaration_again}
 pub use Rattle.bag_tags.proofs.InfoReadAgain.{info_again}
 pub use Rattle.bag_tags.proofs.ManifestReadAgain.{manifest_again}
@@ -105,8 +106,7 @@ pub use Rattle.bag_make.specs.Contents.{MadeHasTheseFolders, ManifestsAscend}
 pub use Rattle.bag_make.specs.Made.{File, data_folder, declaration_file, entries_of, info_file, made, manifest}
 pub use Rattle.bag_make.specs.Made.{named_tag_files, new_elements, new_payload, new_tag_files, payload_manifests}
 pub use Rattle.bag_make.specs.Made.{tag_manifests}
-pub use Rattle.bag_make.specs.Make.{CanAsk, HasKnownSize, HasMade, HasNoFault, Leaves}
-pub use Rattle.bag_make.specs.Make.{MayRefuseMaking, full}
+pub use Rattle.bag_make.specs.Make.{CanAsk, HasKnownSize, HasMade, Leaves, MayRefuseMaking}
 pub use Rattle.bag_make.specs.Plan.{in_order, is_in_the_way, new_file, steps}
 pub use Rattle.bag_make.specs.Laws.{StepsMake, RefusesOneFile, CanMake, MadeIsValid}
 pub use Rattle.bag_make.specs.ListedTops.{has_new, listed_tops}

@@ -3,7 +3,8 @@ use Rattle.bag_make.proofs.Common.{◌≡◌, inl, inr, true, List, None, Alg, n
 use Rattle.bag_make.proofs.Common.{DeclarationIsReadAgain, InfoIsReadAgain, ManifestIsReadAgain, made, CanMake}
 use Rattle.bag_make.proofs.Common.{MadeIsValid, full}
 use Rattle.bag_facts.specs.FaultOrder.{fault_cmp}
-use Rattle.bag_report.specs.Report.{asks, IsReported, Is}
+use Rattle.bag_report.specs.Report.{asks, Is}
+use Rattle.bag_report.specs.Valid.{IsFaultOf}
 use Rattle.bag_make.proofs.DeclarationReads.{no_declaration_fault}
 use Rattle.bag_make.proofs.FetchIsNotThere.{no_fetch_fault}
 use Rattle.bag_make.proofs.FilesAreNamed.{no_completeness_fault}
@@ -33,5 +34,5 @@ module _ (declaration_read : DeclarationIsReadAgain) (info_read : InfoIsReadAgai
 
     pub made_is_valid : MadeIsValid
     made_is_valid bag algs info can =
-        nothing_listed fault_cmp (IsReported (record { bag = made bag algs info; profile = None; options = full }))
+        nothing_listed fault_cmp (IsFaultOf (made bag algs info))
         (λ f reported. no_fault bag algs info can f reported.0 reported.1)

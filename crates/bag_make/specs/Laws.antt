@@ -1,5 +1,5 @@
 -- Laws about makings.
-use Rattle.std.specs.Prelude.{◌≡◌, false, List, [], ◌≢◌, All, ◌^◌, ◌<◌, None, length, sum_by}
+use Rattle.std.specs.Prelude.{◌≡◌, false, List, [], ◌≢◌, All, ◌^◌, ◌<◌, length, sum_by}
 use Rattle.std.specs.List.{list_any}
 use Rattle.bag_text.specs.Bytes.{Path}
 use Rattle.bag_text.specs.Text.{IsText}
@@ -12,9 +12,8 @@ use Rattle.bag_tree.specs.Tree.{TreeState}
 use Rattle.bag_make.specs.Plan.{is_in_the_way, steps}
 use Rattle.std.specs.List.Sorted.{IsStrictlySortedBy}
 use Rattle.bag_text.specs.Alg.{rank_cmp}
-use Rattle.bag_report.specs.Report.{IsReport}
+use Rattle.bag_report.specs.Valid.{HasNoFault}
 use Rattle.bag_make.specs.Request.{is_refused}
-use Rattle.bag_make.specs.Make.{full}
 use Rattle.bag_make.specs.Stops.{IsAtFile}
 
 -- what a bag is made of: files that can be counted, a set of algorithms that isn't empty, and
@@ -32,7 +31,7 @@ pub record CanMake (bag : Bag) (algs : List Alg) (info : List NewElement) : Type
 abbrev pub MadeIsValid : Type 0
 MadeIsValid =
     (bag : Bag) (algs : List Alg) (info : List NewElement) → CanMake bag algs info
-    → IsReport (record { bag = made bag algs info; profile = None; options = full }) []
+    → HasNoFault (made bag algs info)
 
 -- the law: a refusal can be reported of one file alone
 abbrev pub RefusesOneFile : Type 0

@@ -1,6 +1,6 @@
 -- What making a bag leaves, and how it is refused.
 use Rattle.std.specs.Prelude.{ℕ, ◌≡◌, ◌≢◌, ◌⊎◌, ◌<◌, ◌^◌, ◌-◌, ◌++◌, true, false, IsTrue, List, []}
-use Rattle.std.specs.Prelude.{Some, All, None, map, take, slice_get, sum_by, length}
+use Rattle.std.specs.Prelude.{Some, All, map, take, slice_get, sum_by, length}
 use Rattle.std.specs.List.{list_any}
 use Rattle.std.specs.List.Sorted.{IsStrictlySortedBy}
 use Rattle.bag_text.specs.Alg.{rank_cmp}
@@ -8,7 +8,6 @@ use Rattle.bag_text.specs.declared.alg.Alg.{Alg}
 use Rattle.bag_tree.specs.Bag.{Bag, files_of, has_folder}
 use Rattle.bag_tree.specs.Tree.{TreeState, Keeps}
 use Rattle.bag_tree.specs.declared.tree_fault.TreeFault.{TreeFault}
-use Rattle.bag_report.specs.Report.{IsReport}
 use Rattle.bag_tags.specs.Element.{NewElement}
 use Rattle.bag_tree.specs.Steps.{create}
 use Rattle.bag_make.specs.Made.{made}
@@ -22,8 +21,6 @@ use Rattle.bag_make.specs.declared.fault.MakeFault.TheVariants.{NoAlgorithm, InT
 use Rattle.bag_make.specs.declared.fault.MakeFault.TheVariants.{ReadStopped, Memory, StepRefused}
 use Rattle.bag_make.specs.declared.step.Step.{Step}
 use Rattle.bag_make.specs.declared.step.Step.TheVariants.{Create}
-use Rattle.bag_facts.specs.declared.options.Depth.TheVariants.{Full}
-use Rattle.bag_facts.specs.declared.options.Options.{Options}
 
 -- there is an algorithm, and all elements can be given
 abbrev pub CanAsk : List Alg → List NewElement → Type 0
@@ -89,11 +86,3 @@ Leaves algs info old new fault = new ≡ old
 pub record HasKnownSize (bag : Bag) : Type 0 where
   pub count : length (files_of bag) < 2 ^ 64
   pub size : sum_by (λ e. length e.1) (files_of bag) < 2 ^ 64
-
--- everything is checked, but for names that clash
-abbrev pub full : Options
-full = record { depth = Full; clashes = false }
-
--- checked in full, but for names that clash, the bag has no fault
-abbrev pub HasNoFault : Bag → Type 0
-HasNoFault bag = IsReport (record { bag = bag; profile = None; options = full }) []

@@ -8,8 +8,9 @@ use Rattle.bag_facts.specs.declared.fault.Fault.{Fault}
 use Rattle.bag_stages.specs.DeclarationStage.{IsOfDeclaration}
 use Rattle.bag_stages.specs.TagFiles.{bagit_txt}
 use Rattle.bag_tags.specs.Element.{NewElement}
+use Rattle.bag_report.specs.Valid.{HasNoFault}
 use Rattle.bag_make.specs.Made.{data_folder}
-use Rattle.bag_make.specs.Make.{HasNoFault, Leaves}
+use Rattle.bag_make.specs.Make.{Leaves}
 use Rattle.bag_make.specs.Plan.{is_in_the_way}
 use Rattle.bag_make.specs.declared.fault.MakeFault.{MakeFault}
 

@@ -4,7 +4,8 @@ use Rattle.std.specs.List.{list_any}
 use Rattle.bag_text.specs.declared.alg.Alg.{Alg}
 use Rattle.bag_tree.specs.Tree.{TreeState}
 use Rattle.bag_tags.specs.Element.{NewElement}
-use Rattle.bag_make.specs.Make.{HasKnownSize, HasMade, HasNoFault, Leaves, MayRefuseMaking}
+use Rattle.bag_report.specs.Valid.{HasNoFault}
+use Rattle.bag_make.specs.Make.{HasKnownSize, HasMade, Leaves, MayRefuseMaking}
 use Rattle.bag_make.specs.PowerCut.{LastsForGood, OutlastsCuts}
 use Rattle.bag_make.specs.Reading.{OpensFolder}
 use Rattle.bag_make.specs.Remainder.{LacksNoPayload}

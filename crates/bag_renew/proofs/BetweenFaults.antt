@@ -22,6 +22,7 @@ use Rattle.bag_read.specs.declared.manifest.ManifestEntry.{ManifestEntry}
 use Rattle.bag_facts.specs.Facts.{IsByV10, rules_in}
 use Rattle.bag_facts.specs.declared.fault.Fault.{Fault}
 use Rattle.bag_report.specs.Report.{Is, asks}
+use Rattle.bag_report.specs.Valid.{full}
 use Rattle.bag_facts.specs.FactsOfBag.{IsByV097}
 use Rattle.bag_stages.proofs.LeftOut.{by_all, by_one, left_out_by, not_both}
 use Rattle.bag_stages.specs.CompletenessStage.{CompletenessHolds, IsOfCompleteness, IsPayloadFile, Missing}
@@ -36,7 +37,6 @@ use Rattle.bag_stages.specs.FaultFields.{At}
 use Rattle.bag_stages.specs.ValidityStage.{Differs, IsEntryIn, IsOfValidity, ValidityHolds, expected_and_found}
 use Rattle.bag_tree.specs.Bag.{LacksFile}
 use Rattle.bag_tree.specs.Digest.{digest}
-use Rattle.bag_renew.specs.Valid.{full}
 use Rattle.bag_read.specs.declared.fetch.FetchEntry.{FetchEntry}
 use Rattle.bag_renew.proofs.AlikeFaults.{AreAlike, declaration_was, differs_was, entry_was, fetch_was, has_list}
 use Rattle.bag_renew.proofs.AlikeFaults.{left_out_was}

@@ -27,6 +27,7 @@ use Rattle.bag_facts.specs.declared.options.Options.{Options}
 use Rattle.bag_report.specs.Report.{Is, IsReported}
 use Rattle.bag_report.proofs.Asked.{asked_at_full}
 use Rattle.bag_report.proofs.Found.{is_of_validity}
+use Rattle.bag_report.specs.Valid.{HasNoFault, IsFaultOf, full}
 use Rattle.bag_renew.proofs.Common.{cond, not, ◌||◌}
 use Rattle.bag_stages.proofs.NamesByKind.{entry_kind}
 use Rattle.bag_stages.specs.Given.{kind_of}
@@ -51,14 +52,14 @@ use Rattle.bag_facts.proofs.Found.{held_at, listed, same_files}
 use Rattle.bag_renew.proofs.GivenDigests.{are_compared, read_are}
 use Rattle.bag_renew.specs.Compared.{AreCompared}
 use Rattle.bag_renew.specs.FirstFaults.{HasNoneBefore, IsFaultBy, IsFirst, IsFoundFirst, IsLookedFor}
-use Rattle.bag_renew.specs.NewManifests.{AreOfSameBytes, HasChecked, HasCheckedAll, HasFault, IsRefusedFor}
+use Rattle.bag_renew.specs.NewManifests.{AreOfSameBytes, HasChecked, HasCheckedAll, IsRefusedFor}
 use Rattle.bag_renew.specs.NewManifests.{OpensRead, OpensTwice}
 use Rattle.bag_renew.specs.NewManifests.{manifests_for}
 use Rattle.bag_renew.specs.Renewed.{entries_of}
 use Rattle.bag_renew.specs.Summed.{AreChecked, AreSummed, IsDifferenceIn, IsFaultyFile, IsRight, files_to_read}
 use Rattle.bag_tree.specs.Listing.{entry_of_file}
 use Rattle.bag_renew.specs.Summed.{is_to_read, payload_of, to_read}
-use Rattle.bag_renew.specs.Valid.{HasNoFault, IsDamage, full}
+use Rattle.bag_renew.specs.Valid.{IsDamage}
 use Rattle.bag_renew.specs.declared.checked.Unchecked.{Unchecked}
 use Rattle.bag_renew.specs.declared.checked.Unchecked.TheVariants.{Faulty, Stopped}
 use Rattle.bag_tags.specs.declared.summed.SummedFile.{SummedFile}
@@ -92,10 +93,10 @@ with_its_payload true false same read = read
 with_its_payload false with_payload same read = let clash : ◌≡◌ {A = Kind} Payload Tag = same in cc
 
 module _ (facts : Facts) (bag : Bag) (of : IsFactsOf bag facts) (options : facts.options ≡ full) where
-  has_it : (f : Fault) → IsFaultBy facts bag f → HasFault bag f
+  has_it : (f : Fault) → IsFaultBy facts bag f → IsFaultOf bag f
   has_it f = subst (λ (o : Options). IsReported (record { bag = bag; profile = None; options = o }) f) options
 
-  found_it : (f : Fault) → HasFault bag f → IsFaultBy facts bag f
+  found_it : (f : Fault) → IsFaultOf bag f → IsFaultBy facts bag f
   found_it f = subst (λ (o : Options). IsReported (record { bag = bag; profile = None; options = o }) f) (sym options)
 
   -- so the first fault that is found is the bag's
@@ -126,15 +127,15 @@ module _ (facts : Facts) (bag : Bag) (of : IsFactsOf bag facts) (options : facts
       (ap kind_of d.3.path_is ∙ sym (entry_kind bag Tag d.0 (lines_in bag (manifest_of Tag d.0)) d.1 d.4))
 
   module _ (none : HasNoneBefore facts 7) where
-    pub none_early : (f : Fault) → HasFault bag f → stage f.code < 7 → ⊥
+    pub none_early : (f : Fault) → IsFaultOf bag f → stage f.code < 7 → ⊥
     none_early f has before = none bag of f (found_it f has) before
 
     -- so each fault is of a digest that differs
     module _ (f : Fault) where
-      below : (k : ℕ) → stage f.code ≡ k → k < 7 → HasFault bag f → ⊥
+      below : (k : ℕ) → stage f.code ≡ k → k < 7 → IsFaultOf bag f → ⊥
       below k at lt has = none_early f has (subst (λ n. n < 7) (sym at) lt)
 
-      of_validity : Is bag None f → HasFault bag f → IsOfValidity bag f
+      of_validity : Is bag None f → IsFaultOf bag f → IsOfValidity bag f
       unfolding Is
       of_validity (inl h) has = absurd (below 1 (declaration_of_stage_one bag f h) (omega arith) has)
       of_validity (inr (inl h)) has = absurd (below 2 (parts_of_stage_two bag f h) (omega arith) has)
@@ -235,7 +236,7 @@ module _ (facts : Facts) (bag : Bag) (of : IsFactsOf bag facts) (options : facts
       differing TagSumDiffers d h read = one_file Tag d h read
       differing _ d h read = d
 
-      no_fault : HasFault bag f → is_to_read with_payload f.path ≡ true → ⊥
+      no_fault : IsFaultOf bag f → is_to_read with_payload f.path ≡ true → ⊥
       unfolding IsOfValidity
       no_fault has read = let h = of_validity f has.0 has in differing f.code h h read
 
@@ -249,7 +250,7 @@ module _ (facts : Facts) (bag : Bag) (of : IsFactsOf bag facts) (options : facts
       damage_by TagSumDiffers is d h = absurd (tag_differs d h)
       damage_by _ is d h = absurd d
 
-      is_damage : HasFault bag f → IsDamage f
+      is_damage : IsFaultOf bag f → IsDamage f
       unfolding IsOfValidity
       is_damage has = let h = of_validity f has.0 has in damage_by f.code refl h h
 
@@ -370,13 +371,13 @@ module _ (facts : Facts) (with_payload : Bool) (algs : List Alg) (old new : Tree
       (passed (λ (x : File). is_to_read with_payload x.0) (files_of old.bag) e read c))
 
   -- each fault is damage of the payload
-  pub damaged : (f : Fault) → HasFault old.bag f → IsDamage f
+  pub damaged : (f : Fault) → IsFaultOf old.bag f → IsDamage f
   damaged f has = is_damage facts old.bag of h.options h.none with_payload right f has
 
   -- and there is none where the payload was read
   pub none_at_all : with_payload ≡ true → HasNoFault old.bag
   none_at_all all =
-      nothing_listed fault_cmp (IsReported (record { bag = old.bag; profile = None; options = full }))
+      nothing_listed fault_cmp (IsFaultOf old.bag)
       (λ f has. no_fault facts old.bag of h.options h.none with_payload right f has
       (ap (λ b. is_to_read b f.path) all))
 

@@ -22,6 +22,7 @@ use Rattle.bag_read.specs.declared.info.Element.{Element}
 use Rattle.bag_read.specs.declared.line_fault.LineFault.{LineFault}
 use Rattle.bag_facts.specs.declared.fault.Fault.{Fault}
 use Rattle.bag_report.specs.Report.{asks}
+use Rattle.bag_report.specs.Valid.{full}
 use Rattle.bag_stages.specs.FaultFields.{in_line}
 use Rattle.bag_stages.specs.MetadataStage.{HasElement, IsOfMetadata, MetadataHolds, bag_info_txt, oxum_label}
 use Rattle.bag_stages.specs.Payload.{oxum, oxum_of_files}
@@ -33,7 +34,7 @@ use Rattle.bag_tags.specs.ReadAgain.{elements_read}
 use Rattle.bag_renew.specs.Elements.{added_to, after_oxum, appended_to, before_oxum, elements_of, goes, has_label}
 use Rattle.bag_renew.specs.Elements.{in_place_of, is_same, new_ones, replaced, some_has}
 use Rattle.bag_renew.specs.Renewed.{renewed}
-use Rattle.bag_renew.specs.Valid.{CanRenew, GoodElementsAreGoodInfo, HasGoodElements, HasGoodInfo, full}
+use Rattle.bag_renew.specs.Valid.{CanRenew, GoodElementsAreGoodInfo, HasGoodElements, HasGoodInfo}
 use Rattle.bag_renew.specs.declared.renewal.ElementChanges.{ElementChanges}
 use Rattle.bag_renew.proofs.Contents.{these_files}
 use Rattle.bag_renew.proofs.KeptInfo.{kept_is_good}

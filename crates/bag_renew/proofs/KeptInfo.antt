@@ -12,6 +12,7 @@ use Rattle.bag_read.specs.declared.info.Element.{Element}
 use Rattle.bag_facts.specs.Facts.{rules_in}
 use Rattle.bag_facts.specs.declared.fault.Fault.{Fault}
 use Rattle.bag_report.specs.Report.{asks}
+use Rattle.bag_report.specs.Valid.{full}
 use Rattle.bag_stages.specs.FaultFields.{At, in_line}
 use Rattle.bag_stages.specs.MetadataStage.{HasElement, HasFirst, HasLater, IsOfMetadata, MetadataHolds, bag_info_txt}
 use Rattle.bag_stages.specs.MetadataStage.{oxum_label, pair}
@@ -21,7 +22,7 @@ use Rattle.bag_stages.specs.TagFiles.{lines_in, lines_or_none}
 use Rattle.bag_tags.specs.OnLines.{text_on_lines}
 use Rattle.bag_renew.specs.Elements.{asks_nothing}
 use Rattle.bag_renew.specs.Renewed.{renewed}
-use Rattle.bag_renew.specs.Valid.{CanRenew, HasGoodInfo, full}
+use Rattle.bag_renew.specs.Valid.{CanRenew, HasGoodInfo}
 use Rattle.bag_renew.proofs.Contents.{these_files}
 use Rattle.bag_facts.proofs.Found.{same_option}
 use Rattle.bag_renew.proofs.KeptOr.{keeps_v10}

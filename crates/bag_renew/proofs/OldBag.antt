@@ -25,6 +25,7 @@ use Rattle.bag_read.specs.declared.line_fault.LineFault.{LineFault}
 use Rattle.bag_facts.specs.Facts.{IsByV10, rules_in}
 use Rattle.bag_facts.specs.declared.fault.Fault.{Fault}
 use Rattle.bag_report.specs.Report.{Is, asks}
+use Rattle.bag_report.specs.Valid.{IsFaultOf, full}
 use Rattle.bag_stages.proofs.BagLists.{some_alg, there_or_not}
 use Rattle.bag_stages.proofs.HasLists.{Decided}
 use Rattle.bag_stages.proofs.LeftOut.{by_one}
@@ -36,7 +37,7 @@ use Rattle.bag_stages.specs.MetadataStage.{IsOfMetadata, MetadataHolds}
 use Rattle.bag_stages.specs.PartsStage.{IsOfParts, PartHolds}
 use Rattle.bag_stages.specs.TagFiles.{HasManifest, HasSupported, Names, lines_or_none, manifest_of, named_in}
 use Rattle.bag_renew.specs.Telling.{NamesAll, NamesItsPayload, paths_named}
-use Rattle.bag_renew.specs.Valid.{IsDamage, IsFaultOf, full}
+use Rattle.bag_renew.specs.Valid.{IsDamage}
 
 -- ---- the codes of the faults of a manifest's lines
 

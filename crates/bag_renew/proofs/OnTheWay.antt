@@ -12,7 +12,8 @@ use Rattle.bag_facts.specs.declared.fault.Fault.{Fault}
 use Rattle.bag_renew.specs.OnTheWay.{CanRenewInPlace, EachBagOnTheWayHasOldFaults, EachBagOnTheWayIsValid}
 use Rattle.bag_renew.specs.OnTheWay.{EachCutBagHasOldFaults, EachCutBagIsValid, HasNoPercent}
 use Rattle.bag_renew.specs.Renewed.{renewed}
-use Rattle.bag_renew.specs.Valid.{HasNoFault, IsDamage, IsFaultOf}
+use Rattle.bag_renew.specs.Valid.{IsDamage}
+use Rattle.bag_report.specs.Valid.{HasNoFault, IsFaultOf}
 use Rattle.bag_renew.proofs.BetweenFaults.{IsBetween, of_either}
 use Rattle.bag_renew.proofs.OnTheWayBegun.{with_begun}
 use Rattle.bag_renew.proofs.OnTheWayFiles.{between}

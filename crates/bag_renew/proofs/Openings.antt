@@ -36,7 +36,7 @@ use Rattle.bag_renew.specs.Reading.{AllowsRenewal, HasNoEarlyFault, IsRefusalOf,
 use Rattle.bag_renew.specs.Renewed.{is_kept_alg, reads_payload}
 use Rattle.bag_renew.specs.Summed.{files_to_read, is_to_read, to_read}
 use Rattle.bag_tree.specs.Listing.{entry_of_file}
-use Rattle.bag_renew.specs.Valid.{full}
+use Rattle.bag_report.specs.Valid.{full}
 use Rattle.bag_renew.specs.declared.checked.Unchecked.{Unchecked}
 use Rattle.bag_renew.specs.declared.checked.Unchecked.TheVariants.{Faulty, Stopped}
 use Rattle.bag_renew.specs.declared.fault.RenewFault.{RenewFault}

@@ -38,7 +38,7 @@ use Rattle.bag_renew.specs.Renewed.{reads_payload}
 use Rattle.bag_renew.specs.Stops.{AreOpened, IsOfFile, IsRefusedAmong, MayStop, MayStopUnchecked, StopsAtFile}
 use Rattle.bag_renew.specs.Stops.{StopsChecking}
 use Rattle.bag_renew.specs.Summed.{AreSummed, IsFaultyFile, IsNoMemory, files_to_read, is_to_read, to_read}
-use Rattle.bag_renew.specs.Valid.{full}
+use Rattle.bag_report.specs.Valid.{full}
 use Rattle.bag_renew.specs.declared.checked.Unchecked.{Unchecked}
 use Rattle.bag_renew.specs.declared.checked.Unchecked.TheVariants as checked
 use Rattle.bag_renew.specs.declared.fault.RenewFault.{RenewFault}

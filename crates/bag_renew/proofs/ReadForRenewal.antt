@@ -19,7 +19,8 @@ use Rattle.bag_renew.specs.NewInfo.{IsInfoAfter, IsInfoRefusal, IsNewInfo}
 use Rattle.bag_renew.specs.Reading.{HasKnownSize, HasNoEarlyFault, HasReadBag, IsReadForRenewal, MayRefuseReading}
 use Rattle.bag_renew.specs.Renewed.{writes_info}
 use Rattle.bag_renew.specs.Request.{is_bad_request, is_refused}
-use Rattle.bag_renew.specs.Valid.{HasGoodElements, full}
+use Rattle.bag_renew.specs.Valid.{HasGoodElements}
+use Rattle.bag_report.specs.Valid.{full}
 use Rattle.bag_renew.specs.declared.fault.RenewFault.{RenewFault}
 use Rattle.bag_renew.specs.declared.fault.RenewFault.TheVariants as why
 use Rattle.bag_renew.specs.declared.renewal.ElementChanges.{ElementChanges}

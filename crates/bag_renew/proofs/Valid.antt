@@ -33,6 +33,7 @@ use Rattle.bag_facts.specs.FaultOrder.{fault_cmp}
 use Rattle.bag_facts.specs.Facts.{IsByV10, rules_in}
 use Rattle.bag_facts.specs.declared.fault.Fault.{Fault}
 use Rattle.bag_report.specs.Report.{Is, asks}
+use Rattle.bag_report.specs.Valid.{IsFaultOf, full}
 use Rattle.bag_stages.proofs.LeftOut.{left_out_by, not_both}
 use Rattle.bag_stages.specs.DeclarationStage.{DeclarationHolds, InDeclaration, IsOfDeclaration}
 use Rattle.bag_stages.specs.FaultFields.{At, in_line}
@@ -48,8 +49,8 @@ use Rattle.bag_tree.specs.Digest.{digest}
 use Rattle.bag_renew.specs.Contents.{IsNewText}
 use Rattle.bag_renew.specs.Renewed.{is_kept_alg, renewed}
 use Rattle.bag_renew.specs.Telling.{NamesItsFiles, NewManifestsGiveDigests}
-use Rattle.bag_renew.specs.Valid.{CanRenew, HasGoodInfo, IsFaultOf, IsOldDamage}
-use Rattle.bag_renew.specs.Valid.{RenewedHasOldFaults, RenewedIsValid, full}
+use Rattle.bag_renew.specs.Valid.{CanRenew, HasGoodInfo, IsOldDamage}
+use Rattle.bag_renew.specs.Valid.{RenewedHasOldFaults, RenewedIsValid}
 use Rattle.bag_renew.proofs.AlgsWhere.{passes}
 use Rattle.bag_renew.proofs.Contents.{these_files}
 use Rattle.bag_facts.proofs.Found.{same_option}

@@ -22,7 +22,8 @@ use Rattle.bag_renew.specs.Reading.{HasKnownSize, MayRefuseReading}
 use Rattle.bag_renew.specs.OnTheWay.{CanRenewInPlace, HasNoPercent}
 use Rattle.bag_renew.specs.Renew.{HasNoNewFault, HasPlanned, HasStoppedAt, IsRenewal, MayRefuseRenewing, told_as}
 use Rattle.bag_renew.specs.Request.{is_bad_request}
-use Rattle.bag_renew.specs.Valid.{HasGoodInfo, IsFaultOf, IsOldDamage}
+use Rattle.bag_renew.specs.Valid.{HasGoodInfo, IsOldDamage}
+use Rattle.bag_report.specs.Valid.{IsFaultOf}
 use Rattle.bag_renew.proofs.OnTheWay.{each_cut_has_old_faults}
 use Rattle.bag_renew.specs.declared.fault.RenewFault.{RenewFault}
 use Rattle.bag_renew.specs.declared.fault.RenewFault.TheVariants as why

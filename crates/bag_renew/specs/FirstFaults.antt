@@ -10,7 +10,8 @@ use Rattle.bag_facts.specs.declared.facts.Facts.{Facts}
 use Rattle.bag_facts.specs.declared.fault.Fault.{Fault}
 use Rattle.bag_report.specs.Report.{IsReported}
 use Rattle.bag_report.specs.Stages.{check_of_facts}
-use Rattle.bag_renew.specs.Valid.{IsDamage, IsFaultOf}
+use Rattle.bag_report.specs.Valid.{IsFaultOf}
+use Rattle.bag_renew.specs.Valid.{IsDamage}
 use Rattle.bag_renew.specs.declared.checked.Unchecked.{Unchecked}
 use Rattle.bag_renew.specs.declared.checked.Unchecked.TheVariants.{Faulty, Stopped}
 

@@ -1,5 +1,5 @@
 -- The payload manifests of further algorithms.
-use Rattle.std.specs.Prelude.{ℕ, ◌≡◌, ◌++◌, All, Bool, IsTrue, List, None, map}
+use Rattle.std.specs.Prelude.{ℕ, ◌≡◌, ◌++◌, All, Bool, IsTrue, List, map}
 use Rattle.std.specs.Prelude.{true}
 use Rattle.std.specs.List.Sorted.{IsStrictlySortedBy}
 use Rattle.bag_text.specs.Bytes.{Path}
@@ -11,15 +11,13 @@ use Rattle.bag_read.specs.declared.tag_name.TagName.TheVariants.{Manifest}
 use Rattle.bag_facts.specs.FactsOfBag.{IsFactsOf}
 use Rattle.bag_facts.specs.Wanted.{IsWanted, paths_of}
 use Rattle.bag_facts.specs.declared.facts.Facts.{Facts}
-use Rattle.bag_facts.specs.declared.fault.Fault.{Fault}
-use Rattle.bag_report.specs.Report.{IsReported}
+use Rattle.bag_report.specs.Valid.{IsFaultOf, full}
 use Rattle.bag_tree.specs.Bag.{Bag, IsBag, files_of}
 use Rattle.bag_tree.specs.Tree.{TreeState}
 use Rattle.bag_renew.specs.Compared.{AreCompared}
 use Rattle.bag_renew.specs.FirstFaults.{HasNoneBefore, IsFirst}
 use Rattle.bag_renew.specs.Renewed.{File, manifest}
 use Rattle.bag_renew.specs.Summed.{AreChecked, files_to_read, payload_of, to_read}
-use Rattle.bag_renew.specs.Valid.{full}
 use Rattle.bag_renew.specs.declared.checked.Unchecked.{Unchecked}
 use Rattle.bag_renew.specs.declared.checked.Unchecked.TheVariants.{Faulty, Stopped}
 use Rattle.bag_tags.specs.declared.summed.SummedFile.{SummedFile}
@@ -73,12 +71,8 @@ abbrev pub HasCheckedAll : List Alg → TreeState → TreeState → List SummedF
 HasCheckedAll algs old new summed =
     (facts : Facts) × (info : List ℕ) × HasChecked facts true algs old new summed info
 
--- a fault of the bag, checked in full but for names that clash
-abbrev pub HasFault : Bag → Fault → Type 0
-HasFault bag f = IsReported (record { bag = bag; profile = None; options = full }) f
-
 -- This is the bag's first fault; or the tree refused to list its files or to read one, or memory ran
 -- out.
 abbrev pub IsRefusedFor : Bag → Unchecked → Type 0
 IsRefusedFor bag (Stopped stop) = Unit {0}
-IsRefusedFor bag (Faulty fault) = IsFirst (HasFault bag) fault
+IsRefusedFor bag (Faulty fault) = IsFirst (IsFaultOf bag) fault

@@ -8,11 +8,12 @@ use Rattle.bag_facts.specs.declared.fault.Fault.{Fault}
 use Rattle.bag_stages.specs.TagFiles.{Names}
 use Rattle.bag_tree.specs.Bag.{Bag, HasFile}
 use Rattle.bag_tree.specs.FileChanges.{IsAfterFirst}
+use Rattle.bag_report.specs.Valid.{HasNoFault, IsFaultOf}
 use Rattle.bag_renew.specs.Changes.{after, changes}
 use Rattle.bag_renew.specs.Laws.{IsOutOfTheWay}
 use Rattle.bag_renew.specs.Obstacles.{has_percent}
 use Rattle.bag_renew.specs.Renewed.{begun_file}
-use Rattle.bag_renew.specs.Valid.{CanRenew, HasGoodInfo, HasNoFault, IsDamage, IsFaultOf}
+use Rattle.bag_renew.specs.Valid.{CanRenew, HasGoodInfo, IsDamage}
 use Rattle.bag_renew.specs.declared.renewal.Renewal.{Renewal}
 
 -- no tag manifest of the bag names a file that has the name of one that is begun

@@ -12,12 +12,12 @@ use Rattle.bag_facts.specs.declared.fault.Fault.{Fault}
 use Rattle.bag_tree.specs.Bag.{Bag, IsBag, files_of}
 use Rattle.bag_tree.specs.Tree.{TreeState}
 use Rattle.bag_tree.specs.declared.listing.FileEntry.{FileEntry}
+use Rattle.bag_report.specs.Valid.{full}
 use Rattle.bag_renew.specs.NewInfo.{CanWriteInfo}
 use Rattle.bag_renew.specs.Obstacles.{HasNoObstacle}
 use Rattle.bag_renew.specs.Reading.{HasNoEarlyFault}
 use Rattle.bag_renew.specs.Renewed.{reads_payload}
 use Rattle.bag_renew.specs.Summed.{files_to_read, to_read}
-use Rattle.bag_renew.specs.Valid.{full}
 use Rattle.bag_renew.specs.declared.checked.Unchecked.{Unchecked}
 use Rattle.bag_renew.specs.declared.checked.Unchecked.TheVariants.{Faulty, Stopped}
 use Rattle.bag_renew.specs.declared.fault.RenewFault.{RenewFault}

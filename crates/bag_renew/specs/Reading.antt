@@ -17,6 +17,7 @@ use Rattle.bag_tree.specs.Bag.{Bag, IsBag, files_of}
 use Rattle.bag_tree.specs.Tree.{Keeps, MayReportMemory, NothingFailed, TreeState}
 use Rattle.bag_tree.specs.declared.tree_fault.Stop.{Stop}
 use Rattle.bag_tree.specs.declared.tree_fault.TreeFault.TheVariants as cause_of
+use Rattle.bag_report.specs.Valid.{HasNoFault, IsFaultOf, full}
 use Rattle.bag_renew.specs.Compared.{AreCompared}
 use Rattle.bag_renew.specs.FirstFaults.{HasNoneBefore, IsFirst, IsFoundFirst, IsLookedFor}
 use Rattle.bag_renew.specs.NewInfo.{CanWriteInfo, IsInfoRefusal}
@@ -26,7 +27,7 @@ use Rattle.bag_renew.specs.Renewed.{File, new_algs, new_elements, reads_payload,
 use Rattle.bag_renew.specs.Request.{is_bad_request}
 use Rattle.bag_renew.specs.Stops.{IsOfFile}
 use Rattle.bag_renew.specs.Summed.{AreSummed, IsInfoAmong, files_to_read}
-use Rattle.bag_renew.specs.Valid.{CanRenew, HasGoodElements, HasNoFault, IsFaultOf, full}
+use Rattle.bag_renew.specs.Valid.{CanRenew, HasGoodElements}
 use Rattle.bag_renew.specs.declared.checked.Unchecked.{Unchecked}
 use Rattle.bag_renew.specs.declared.checked.Unchecked.TheVariants as checked
 use Rattle.bag_renew.specs.declared.fault.RenewFault.{RenewFault}

@@ -11,8 +11,8 @@ use Rattle.bag_tree.specs.declared.tree_fault.TreeFault.TheVariants.{Memory}
 use Rattle.bag_tree.specs.Stop.{IsOutOfMemory}
 use Rattle.bag_facts.specs.Stops.{IsOfListing, MayRefuseFacts, ReportsAnswer}
 use Rattle.bag_facts.specs.Wanted.{AreWanted, ForListing, paths_of}
+use Rattle.bag_report.specs.Valid.{full}
 use Rattle.bag_renew.specs.Summed.{to_read}
-use Rattle.bag_renew.specs.Valid.{full}
 use Rattle.bag_renew.specs.declared.checked.Unchecked.{Unchecked}
 use Rattle.bag_renew.specs.declared.checked.Unchecked.TheVariants.{Faulty, Stopped}
 

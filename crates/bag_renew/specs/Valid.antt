@@ -1,5 +1,5 @@
 -- When a renewed bag has no fault.
-use Rattle.std.specs.Prelude.{◌⊎◌, ◌<◌, ◌^◌, ◌≡◌, ◌≢◌, All, false, true, [], None, Some}
+use Rattle.std.specs.Prelude.{◌⊎◌, ◌<◌, ◌^◌, ◌≡◌, ◌≢◌, All, false, true, [], Some}
 use Rattle.std.specs.List.{list_any}
 use Rattle.bag_text.specs.Bytes.{Content}
 use Rattle.bag_text.specs.Text.{IsText}
@@ -9,9 +9,8 @@ use Rattle.bag_read.specs.ManifestName.{tag_path}
 use Rattle.bag_read.specs.declared.tag_name.TagName.TheVariants.{Fetch, Info}
 use Rattle.bag_facts.specs.Facts.{IsByV10}
 use Rattle.bag_facts.specs.declared.fault.Fault.{Fault}
-use Rattle.bag_facts.specs.declared.options.Depth.TheVariants.{Full}
-use Rattle.bag_facts.specs.declared.options.Options.{Options}
-use Rattle.bag_report.specs.Report.{IsReport, IsReported, asks}
+use Rattle.bag_report.specs.Report.{asks}
+use Rattle.bag_report.specs.Valid.{HasNoFault, IsFaultOf, full}
 use Rattle.bag_stages.specs.MetadataStage.{IsOfMetadata, oxum_label}
 use Rattle.bag_stages.specs.Payload.{oxum}
 use Rattle.bag_tags.specs.OnLines.{is_bad_long_element}
@@ -20,18 +19,6 @@ use Rattle.bag_renew.specs.Elements.{has_label}
 use Rattle.bag_renew.specs.Renewed.{is_kept_alg, new_algs, new_elements, renewed, writes_info}
 use Rattle.bag_renew.specs.Telling.{AreUnmarked}
 use Rattle.bag_renew.specs.declared.renewal.Renewal.{Renewal}
-
--- everything is checked, but for names that clash
-abbrev pub full : Options
-full = record { depth = Full; clashes = false }
-
--- a fault of the bag, checked in full, but for names that clash
-abbrev pub IsFaultOf : Bag → Fault → Type 0
-IsFaultOf bag f = IsReported (record { bag = bag; profile = None; options = full }) f
-
--- checked so, the bag has no fault
-abbrev pub HasNoFault : Bag → Type 0
-HasNoFault bag = IsReport (record { bag = bag; profile = None; options = full }) []
 
 -- a file of the payload has another digest than a manifest gives
 abbrev pub IsDamage : Fault → Type 0

@@ -5,11 +5,11 @@ ghost use Rattle.bag_read.specs.declared.kind.Kind.TheVariants.{Payload};
 ghost use Rattle.bag_stages.specs.Payload.{payload};
 ghost use Rattle.bag_tags.specs.Summed.{manifests_of};
 ghost use Rattle.bag_tree.specs.Tree.{Keeps, NothingFailed};
+ghost use Rattle.bag_report.specs.Valid.{HasNoFault};
 ghost use Rattle.bag_renew.specs.NewManifests.{AreOfSameBytes, HasCheckedAll, IsRefusedFor};
 ghost use Rattle.bag_renew.specs.NewManifests.{OpensTwice, manifests_for};
 ghost use Rattle.bag_renew.specs.Openings.{OpensAllInTurn, OpensBeforeFiles};
 ghost use Rattle.bag_renew.specs.Stops.{MayStopUnchecked};
-ghost use Rattle.bag_renew.specs.Valid.{HasNoFault};
 
 use crate::Unchecked;
 use crate::reading::FULL;

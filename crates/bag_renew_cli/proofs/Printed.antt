@@ -11,7 +11,7 @@ use Rattle.bag_tree.specs.Out.{IsCut}
 use Rattle.bag_renew.specs.NewManifests.{AreOfSameBytes, manifests_for}
 use Rattle.bag_renew.specs.Openings.{OpensAllInTurn}
 use Rattle.bag_renew.specs.Renewed.{File, manifest}
-use Rattle.bag_renew.specs.Valid.{HasNoFault}
+use Rattle.bag_report.specs.Valid.{HasNoFault}
 use Rattle.bag_renew_cli.specs.Printing.{IsPrinting, text_of}
 use Rattle.std.proofs.Common.{true}
 

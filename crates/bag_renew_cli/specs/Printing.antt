@@ -7,11 +7,11 @@ use Rattle.bag_stages.specs.Payload.{payload}
 use Rattle.bag_tree.specs.Out.{IsCut, OutState}
 use Rattle.bag_tree.specs.Tree.{Keeps, TreeState}
 use Rattle.bag_tree.specs.declared.out.Refused.{Refused}
+use Rattle.bag_report.specs.Valid.{HasNoFault}
 use Rattle.bag_renew.specs.NewManifests.{AreOfSameBytes, IsRefusedFor}
 use Rattle.bag_renew.specs.Openings.{OpensAllInTurn, OpensBeforeFiles}
 use Rattle.bag_renew.specs.Renewed.{File, manifest}
 use Rattle.bag_renew.specs.Stops.{MayStopUnchecked}
-use Rattle.bag_renew.specs.Valid.{HasNoFault}
 use Rattle.bag_renew.specs.declared.checked.Unchecked.{Unchecked}
 use Rattle.bag_renew.specs.declared.checked.Unchecked.TheVariants.{Faulty, Stopped}
 use Rattle.bag_renew.specs.declared.fault.RenewFault.{RenewFault}

@@ -25,3 +25,4 @@ pub use Rattle.bag_stages.specs.ValidityStage
 pub mod Laws
 pub mod Report
 pub mod Stages
+pub mod Valid

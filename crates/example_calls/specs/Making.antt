@@ -4,7 +4,8 @@ use Rattle.std.specs.declared.result.Result.TheVariants.{Ok, Err}
 use Rattle.bag_text.specs.declared.alg.Alg.{Alg}
 use Rattle.bag_text.specs.declared.alg.Alg.TheVariants.{Sha256, Sha512}
 use Rattle.bag_tree.specs.Tree.{TreeState, Keeps}
-use Rattle.bag_make.specs.Make.{HasBegunFile, HasKnownSize, HasMade, HasNoFault}
+use Rattle.bag_report.specs.Valid.{HasNoFault}
+use Rattle.bag_make.specs.Make.{HasBegunFile, HasKnownSize, HasMade}
 use Rattle.bag_make.specs.Plan.{after}
 use Rattle.bag_make.specs.declared.fault.MakeFault.{MakeFault}
 use Rattle.bag_make.specs.declared.fault.MakeFault.TheVariants.{NoAlgorithm, InTheWay, BadValue}
