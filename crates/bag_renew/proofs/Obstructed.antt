@@ -4,7 +4,8 @@ use Rattle.bag_renew.proofs.Common.{Option, None, Some, refl, sym, ap, subst, in
 use Rattle.bag_renew.proofs.Common.{any_from, from_any, false≢true, cond, contains_behind, contains_cases}
 use Rattle.bag_renew.proofs.Common.{contains_either, contains_first, contains_mapped, contains_nothing, mapped_contains}
 use Rattle.bag_renew.proofs.Common.{list_any, and_from, and_parts, tag_path, algs, Alg, Kind, Payload, Tag}
-use Rattle.bag_renew.proofs.Common.{TagName, Declaration, Info, Fetch, Manifest}
+use Rattle.bag_renew.proofs.Common.{TagName, Declaration, Info, Fetch, Manifest, bytes_eq-Decides, codes, false_from_ne_true}
+use Rattle.bag_renew.proofs.Common.{first_component, get_or, is_payload_path, suc, take, zero}
 use Rattle.bag_renew.proofs.Common.{Bag, HasFile, files_of, has_file, under, keeps, new_algs, Renewal, begun_file}
 use Rattle.std.specs.Prelude.{MatchOption, find}
 use Rattle.std.specs.Option.{option_map}
@@ -22,7 +23,7 @@ use Rattle.bag_tree.proofs.Within.{prefix_test}
 use Rattle.bag_tree.specs.Bag.{LacksFile}
 use Rattle.bag_tree.specs.declared.listing.FileEntry.{FileEntry}
 use Rattle.bag_renew.specs.Obstacles.{AreFree, HasBelow, HasNoObstacle, IsInTheWay, IsNamedAsTag, first_unnameable}
-use Rattle.bag_renew.specs.Obstacles.{begins_as_payload, has_percent, is_below, is_below_some, is_unnameable}
+use Rattle.bag_renew.specs.Obstacles.{has_percent, is_below, is_below_some, is_unnameable}
 use Rattle.bag_renew.specs.Obstacles.{manifest_names, paths_of, reserved_names}
 use Rattle.bag_renew.specs.Renewed.{is_v10}
 use Rattle.bag_tree.specs.Listing.{entry_of_file}
@@ -77,44 +78,58 @@ is_below_it name rest =
 abbrev manifests : List (List ℕ)
 manifests = manifest_names Payload ++ manifest_names Tag
 
--- no path below a reserved name begins as those of the payload
+-- a path of the payload begins with a d
+front_begins : (n : ℕ) (path : List ℕ) → take n path ≡ codes "data" → get_or path 0 0 ≡ 100
+front_begins zero path same = let clash : [] ≡ codes "data" = same in cc
+front_begins (suc n) [] same = let clash : [] ≡ codes "data" = same in cc
+front_begins (suc n) (c ∷ rest) same = ap (λ front. get_or front 0 0) same
+
+its_folder : (path : List ℕ) → is_payload_path path ≡ true → first_component path ≡ codes "data"
+its_folder path is = grind (arith, and_parts, bytes_eq-Decides)
+
+payload_begins : (path : List ℕ) → is_payload_path path ≡ true → get_or path 0 0 ≡ 100
+payload_begins path is = front_begins _ path (its_folder path is)
+
+-- no path below a reserved name is of the payload
 module _ (rest : List ℕ) where
-  tag_begins : (tag : TagName) → begins_as_payload (under (tag_path tag) rest) ≡ false
-  tag_begins Declaration = refl
-  tag_begins Info = refl
-  tag_begins Fetch = refl
-  tag_begins (Manifest Payload alg) = refl
-  tag_begins (Manifest Tag alg) = refl
+  outside : (name : List ℕ) → get_or (under name rest) 0 0 ≢ 100 → is_payload_path (under name rest) ≡ false
+  outside name other = false_from_ne_true _ (λ is. other (payload_begins (under name rest) is))
 
-  begun_begins : begins_as_payload (under begun_file rest) ≡ false
-  begun_begins = refl
+  below_tag : (tag : TagName) → is_payload_path (under (tag_path tag) rest) ≡ false
+  below_tag Declaration = outside (tag_path Declaration) (λ e. omega (arith, e))
+  below_tag Info = outside (tag_path Info) (λ e. omega (arith, e))
+  below_tag Fetch = outside (tag_path Fetch) (λ e. omega (arith, e))
+  below_tag (Manifest Payload alg) = outside (tag_path (Manifest Payload alg)) (λ e. omega (arith, e))
+  below_tag (Manifest Tag alg) = outside (tag_path (Manifest Tag alg)) (λ e. omega (arith, e))
 
-  so_begins : (one name : List ℕ) → one ≡ name → begins_as_payload (under one rest) ≡ false
-      → begins_as_payload (under name rest) ≡ false
-  so_begins one name same is = ap (λ n. begins_as_payload (under n rest)) (sym same) ∙ is
+  below_begun : is_payload_path (under begun_file rest) ≡ false
+  below_begun = outside begun_file (λ e. omega (arith, e))
 
-  manifest_begins : (kind : Kind) (name : List ℕ) → Contains (manifest_names kind) name
-      → begins_as_payload (under name rest) ≡ false
+  below_same : (one name : List ℕ) → one ≡ name → is_payload_path (under one rest) ≡ false
+      → is_payload_path (under name rest) ≡ false
+  below_same one name same is = ap (λ n. is_payload_path (under n rest)) (sym same) ∙ is
+
+  below_kind : (kind : Kind) (name : List ℕ) → Contains (manifest_names kind) name
+      → is_payload_path (under name rest) ≡ false
   unfolding manifest_names
-  manifest_begins kind name has =
+  below_kind kind name has =
       let one = contains_mapped (λ (alg : Alg). tag_path (Manifest kind alg)) algs name has in
-      so_begins (tag_path (Manifest kind one.0)) name one.2 (tag_begins (Manifest kind one.0))
+      below_same (tag_path (Manifest kind one.0)) name one.2 (below_tag (Manifest kind one.0))
 
-  tags_begin : (name : List ℕ) → Contains manifests name
-      → begins_as_payload (under name rest) ≡ false
-  tags_begin name has = elim (contains_either (manifest_names Payload) (manifest_names Tag) name has) [
-    | inl payload ↦ manifest_begins Payload name payload
-    | inr tag ↦ manifest_begins Tag name tag
+  below_manifest : (name : List ℕ) → Contains manifests name → is_payload_path (under name rest) ≡ false
+  below_manifest name has = elim (contains_either (manifest_names Payload) (manifest_names Tag) name has) [
+    | inl payload ↦ below_kind Payload name payload
+    | inr tag ↦ below_kind Tag name tag
   ]
 
-begins_otherwise : (name rest : List ℕ) → Contains reserved_names name → begins_as_payload (under name rest) ≡ false
-begins_otherwise name rest has = elim (contains_cases (tag_path Declaration) (tag_path Info ∷ begun_file ∷ manifests) name has) [
-  | inl is ↦ so_begins rest (tag_path Declaration) name is (tag_begins rest Declaration)
+below_reserved : (name rest : List ℕ) → Contains reserved_names name → is_payload_path (under name rest) ≡ false
+below_reserved name rest has = elim (contains_cases (tag_path Declaration) (tag_path Info ∷ begun_file ∷ manifests) name has) [
+  | inl is ↦ below_same rest (tag_path Declaration) name is (below_tag rest Declaration)
   | inr others ↦ elim (contains_cases (tag_path Info) (begun_file ∷ manifests) name others) [
-    | inl is ↦ so_begins rest (tag_path Info) name is (tag_begins rest Info)
+    | inl is ↦ below_same rest (tag_path Info) name is (below_tag rest Info)
     | inr more ↦ elim (contains_cases begun_file manifests name more) [
-      | inl is ↦ so_begins rest begun_file name is (begun_begins rest)
-      | inr manifest ↦ tags_begin rest name manifest
+      | inl is ↦ below_same rest begun_file name is (below_begun rest)
+      | inr manifest ↦ below_manifest rest name manifest
     ]
   ]
 ]
@@ -187,7 +202,7 @@ module _ (bag : Bag) (facts : Facts) (of : IsFactsOf bag facts) where
       in_the_way entry at found P first is e =
           let this = found_passes is_found listed entry (sym first) in
           name_found found entry P (subst (λ xs. Contains xs entry) same this.0)
-          (and_parts (not (begins_as_payload entry.path)) (list_any (λ name. is_below name entry.path) names) this.1).1
+          (and_parts (not (is_payload_path entry.path)) (list_any (λ name. is_below name entry.path) names) this.1).1
           (e ∙ ap (λ p. find (λ name. is_below name p) names) is)
 
       -- or none
@@ -196,11 +211,11 @@ module _ (bag : Bag) (facts : Facts) (of : IsFactsOf bag facts) where
           let some = contains_mapped path files (under name rest) (path_there (under name rest) there) in
           let above = any_from (λ n. is_below n some.0.path) names name
           (subst (λ xs. Contains xs name) (sym reserved) has) (ap (is_below name) some.2 ∙ is_below_it name rest) in
-          let other : not (begins_as_payload some.0.path) ≡ true =
-          ap (λ p. not (begins_as_payload p)) some.2 ∙ ap not (begins_otherwise name rest has) in
+          let other : not (is_payload_path some.0.path) ≡ true =
+          ap (λ p. not (is_payload_path p)) some.2 ∙ ap not (below_reserved name rest has) in
           false≢true
           (sym (none_passes is_found listed some.0 (sym none) (subst (λ xs. Contains xs some.0) (sym same) some.1))
-          ∙ and_from (not (begins_as_payload some.0.path)) (list_any (λ n. is_below n some.0.path) names) other above)
+          ∙ and_from (not (is_payload_path some.0.path)) (list_any (λ n. is_below n some.0.path) names) other above)
 
   -- where none is found, each path can be named
   module _ (none : first_unnameable bag ≡ None) (name : List ℕ) (has : HasFile bag name) where

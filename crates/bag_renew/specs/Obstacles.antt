@@ -1,10 +1,10 @@
 -- What keeps a bag without faults from being renewed (RFC 8493, 2).
 use Rattle.std.specs.Prelude.{ℕ, ◌≡◌, ◌≢◌, ◌⊎◌, ◌==◌, ◌&&◌, ◌||◌, Bool, true, false, not, List, [], ◌∷◌}
-use Rattle.std.specs.Prelude.{◌++◌, Option, None, Some, Contains, find, map, nat_eq, slice_get}
+use Rattle.std.specs.Prelude.{◌++◌, Option, Some, Contains, find, map, nat_eq}
 use Rattle.std.specs.List.{list_any, starts_with}
 use Rattle.bag_text.specs.Bytes.{Name, Path}
 use Rattle.bag_text.specs.Alg.{algs}
-use Rattle.bag_text.specs.Path.{under}
+use Rattle.bag_text.specs.Path.{is_payload_path, under}
 use Rattle.bag_text.specs.Spelling.{percent}
 use Rattle.bag_text.specs.declared.alg.Alg.{Alg}
 use Rattle.bag_read.specs.ManifestName.{tag_path}
@@ -91,15 +91,7 @@ IsObstacle bag renewal fault = ⊥
 abbrev pub is_below : Name → Path → Bool
 is_below name path = starts_with nat_eq path (under name [])
 
--- a path that begins as those of the payload do, with a d
-abbrev pub is_some_d : Option ℕ → Bool
-is_some_d (Some c) = c == 100
-is_some_d None = false
-
-abbrev pub begins_as_payload : Path → Bool
-begins_as_payload path = is_some_d (slice_get path 0)
-
--- a path that doesn't, and is below one of these names
+-- a path that isn't of the payload, and is below one of these names
 abbrev pub is_below_some : List Name → Path → Bool
 is_below_some names path =
-    not (begins_as_payload path) && list_any (λ name. is_below name path) names
+    not (is_payload_path path) && list_any (λ name. is_below name path) names

@@ -17,7 +17,7 @@ use crate::algorithms::{keeps, new_algs};
 use crate::{RenewFault, Renewal};
 use bag_facts::Facts;
 use bag_read::{Kind, TagName};
-use bag_text::{Alg, Text, is_blank};
+use bag_text::{Alg, Text, is_blank, is_payload};
 use bag_tree::{FileEntry, rest_within};
 use std::alloc::{AllocError, Global};
 
@@ -27,9 +27,6 @@ pub(crate) const BEGUN_FILE: &str = ".bagit-begun";
 const STAR: u8 = b'*';
 
 const PERCENT: u8 = b'%';
-
-/// The first byte of the payload folder's name.
-const PAYLOAD_START: u8 = b'd';
 
 /// Whether nothing keeps a bag without faults from being renewed; else the first obstacle, in this
 /// order: its version, what it fetches, its algorithms, the names of tag files, and paths that no
@@ -160,7 +157,7 @@ fn push_manifest_names(alloc: Global, names: &mut Vec<Text>, kind: Kind) -> Resu
     Ok(())
 }
 
-/// The first of the files that isn't of the payload and stands below one of these names.
+/// The first of these files that is below one of these names, and no payload file.
 fn first_below<'a>(files: &'a [FileEntry], names: &[Text]) -> Option<&'a FileEntry>
     ensures { option_copied result
         ≡ find (λ entry. spec.is_below_some names.now entry.path) files.now }
@@ -173,17 +170,7 @@ fn first_below<'a>(files: &'a [FileEntry], names: &[Text]) -> Option<&'a FileEnt
 fn is_below_some(names: &[Text], path: &str) -> bool
     ensures { result ≡ spec.is_below_some names.now path.now }
 {
-    !begins_as_payload(path) && has_above(names, path)
-}
-
-/// Whether a path begins with a `d`, as that of each payload file does, and no reserved name.
-fn begins_as_payload(path: &str) -> bool
-    ensures { result ≡ spec.begins_as_payload path.now }
-{
-    match path.as_bytes().first() {
-        Some(byte) => *byte == PAYLOAD_START,
-        None => false,
-    }
+    !is_payload(path) && has_above(names, path)
 }
 
 /// Whether a path is below one of these names.
