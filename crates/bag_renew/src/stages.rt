@@ -9,18 +9,19 @@ use bag_facts::Facts;
 use bag_report::stage_faults;
 use std::alloc::Global;
 
+/// The stage at which digests are compared.
+const FIXITY: u8 = 7;
+
 /// Whether a bag has no fault of the stages 1 to 6, which come before digests are compared; else
 /// the first.
 pub(crate) fn check_stages(alloc: Global, facts: &Facts) -> Result<(), Unchecked>
     ensures none { OnOk result (HasNoneBefore facts.now 7) }
     ensures fault { IfErr result (IsFoundFirst facts.now) }
 {
-    check_stage(alloc, facts, 1)?;
-    check_stage(alloc, facts, 2)?;
-    check_stage(alloc, facts, 3)?;
-    check_stage(alloc, facts, 4)?;
-    check_stage(alloc, facts, 5)?;
-    check_stage(alloc, facts, 6)
+    for stage in 1..FIXITY {
+        check_stage(alloc, facts, stage)?;
+    }
+    Ok(())
 }
 
 /// Whether a bag has no fault of a stage; else the first of that stage.
