@@ -1,5 +1,5 @@
 -- The tag files that are read (RFC 8493, 2.1 and 2.2).
-use Rattle.std.specs.Prelude.{◌≡◌, ◌≢◌, ◌++◌, ◌⊎◌, ◌∷◌, ℕ, List, All, Contains, map, IsTrue}
+use Rattle.std.specs.Prelude.{◌≡◌, ◌≢◌, ◌++◌, ◌⊎◌, ◌∷◌, ℕ, List, All, Contains, map, take, IsTrue}
 use Rattle.std.specs.List.Sorted.{IsStrictlySortedBy}
 use Rattle.bag_text.specs.Bytes.{Path}
 use Rattle.bag_text.specs.Text.{text_cmp}
@@ -33,6 +33,10 @@ paths_of files = map (λ entry. entry.path) files
 abbrev pub AreWanted : Options → List FileEntry → List Path → Type 0
 AreWanted options files paths =
     IsListOf text_cmp (λ path. IsWanted options path × Contains (paths_of files) path) paths
+
+-- the first of these files were opened, one after another, and no other
+abbrev pub OpensFirstOf : List Path → TreeState → TreeState → Type 0
+OpensFirstOf paths old new = (count : ℕ) × (new.openings ≡ old.openings ++ take count paths)
 
 -- files that are wanted were opened, each once at most and in path order, and no others
 abbrev pub OpensWanted : Options → TreeState → TreeState → Type 0

@@ -37,7 +37,7 @@ pub use Rattle.bag_facts.proofs.Refusing.{came_from, path_some, refused_file, to
 pub use Rattle.bag_facts.specs.Facts.{rules_in}
 pub use Rattle.bag_tree.specs.Stop.{IsOutOfMemory, IsRefusalOf}
 pub use Rattle.bag_facts.specs.Stops.{MayRefuseFacts}
-pub use Rattle.bag_facts.specs.Wanted.{paths_of}
+pub use Rattle.bag_facts.specs.Wanted.{OpensFirstOf, paths_of}
 pub use Rattle.bag_facts.specs.declared.fault.Fault.{Fault}
 pub use Rattle.bag_read.proofs.PickedOut.{any_from, both_true, from_any}
 pub use Rattle.bag_read.proofs.TagPaths.{in_base, name_is_text, name_named, paths_differ}
@@ -117,7 +117,7 @@ pub use Rattle.bag_make.specs.Steps.{AllAsk, CanTake, CanTakeAll, HasLeft, HasTa
 pub use Rattle.bag_make.specs.StepsTaken.{HasDone, IsStep}
 pub use Rattle.bag_make.specs.Steps.{StepAsks, after_steps, change, new_folder}
 pub use Rattle.bag_make.specs.Stops.{IsAtFile, MayStopMaking}
-pub use Rattle.bag_make.specs.Summing.{StopsSumming, AreSummedFiles, IsSummedEntry, OpensFirstOf}
+pub use Rattle.bag_make.specs.Summing.{StopsSumming, AreSummedFiles, IsSummedEntry}
 pub use Rattle.bag_tags.specs.Summed.{summed_entry, AreSummed, HasItsSums, manifests_of}
 pub use Rattle.bag_make.specs.Texts.{info_of, named_of, size_of}
 pub use Rattle.bag_make.specs.declared.fault.MakeFault.{MakeFault}

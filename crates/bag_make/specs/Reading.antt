@@ -1,15 +1,16 @@
 -- How the files of a folder are read before a bag is made of them.
-use Rattle.std.specs.Prelude.{ℕ, ◌≡◌, ◌⊎◌, ◌++◌, IsTrue, None, Some, map, take}
+use Rattle.std.specs.Prelude.{◌≡◌, ◌⊎◌, IsTrue, None, Some, map}
 use Rattle.bag_tree.specs.Bag.{files_of}
 use Rattle.bag_tree.specs.Tree.{TreeState, Keeps, refusal_of}
 use Rattle.bag_tree.specs.declared.answer.Answer.TheVariants.{Given}
 use Rattle.bag_tree.specs.declared.tree_fault.TreeFault.TheVariants as cause_of
+use Rattle.bag_facts.specs.Wanted.{OpensFirstOf}
 
 -- of an honest tree the first files of the bag were opened, in path order and each once, and no
 -- other
 abbrev pub OpensFolder : TreeState → TreeState → Type 0
-OpensFolder old new = IsTrue old.honest
-    → (count : ℕ) × (new.openings ≡ old.openings ++ take count (map (λ e. e.0) (files_of old.bag)))
+OpensFolder old new =
+    IsTrue old.honest → OpensFirstOf (map (λ e. e.0) (files_of old.bag)) old new
 
 -- The files were listed and no file was opened. The device didn't fail, and of an honest tree only
 -- files and folders stand there.

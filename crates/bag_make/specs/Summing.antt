@@ -1,7 +1,6 @@
 -- What summing files promises.
-use Rattle.std.specs.Prelude.{ℕ, ◌≡◌, ◌⊎◌, ◌++◌, IsTrue, List, Some, All, map, take}
-use Rattle.std.specs.Prelude.{length}
-use Rattle.bag_text.specs.Bytes.{Content, Path}
+use Rattle.std.specs.Prelude.{◌≡◌, ◌⊎◌, IsTrue, List, Some, All, map, length}
+use Rattle.bag_text.specs.Bytes.{Content}
 use Rattle.bag_text.specs.Path.{under}
 use Rattle.bag_tree.specs.Bag.{file}
 use Rattle.bag_tree.specs.Tree.{MayReportMemory, TreeState, CameFromFile}
@@ -19,10 +18,6 @@ use Rattle.bag_tags.specs.declared.summed.SummedFile.{SummedFile}
 use Rattle.bag_make.specs.Stops.{IsAtFile}
 use Rattle.bag_tree.specs.Listing.{entry_of_file}
 use Rattle.bag_tags.specs.Summed.{AreSummed}
-
--- the first of these files were opened, one after another, and no other
-abbrev pub OpensFirstOf : List Path → TreeState → TreeState → Type 0
-OpensFirstOf paths old new = (count : ℕ) × (new.openings ≡ old.openings ++ take count paths)
 
 -- The files that are listed so, under data/, each with its digests. Of an honest tree they are
 -- files of the bag.

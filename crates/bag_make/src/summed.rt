@@ -3,9 +3,9 @@ ghost use Rattle.std.specs.Prelude.{◌≡◌, ◌<◌, ◌++◌, ◌∷◌, [],
 ghost use Rattle.bag_text.specs.Path.{under};
 ghost use Rattle.bag_tree.specs.Tree.{Keeps, NothingFailed};
 ghost use Rattle.bag_tree.specs.FileReads.{OpensAtMost};
-ghost use Rattle.bag_facts.specs.Wanted.{paths_of};
+ghost use Rattle.bag_facts.specs.Wanted.{OpensFirstOf, paths_of};
 ghost use Rattle.bag_make.specs.Made.{data_folder};
-ghost use Rattle.bag_make.specs.Summing.{StopsSumming, AreSummedFiles, IsSummedEntry, OpensFirstOf};
+ghost use Rattle.bag_make.specs.Summing.{StopsSumming, AreSummedFiles, IsSummedEntry};
 ghost use Rattle.bag_tags.specs.declared.summed.SummedFile.{SummedFile as Digested};
 
 use bag_tags::SummedFile;

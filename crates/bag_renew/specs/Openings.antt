@@ -7,7 +7,7 @@ use Rattle.bag_text.specs.Code.{stage}
 use Rattle.bag_text.specs.Path.{is_payload_path}
 use Rattle.bag_text.specs.Text.{text_cmp}
 use Rattle.bag_text.specs.declared.alg.Alg.{Alg}
-use Rattle.bag_facts.specs.Wanted.{IsWanted, OpensWanted, paths_of}
+use Rattle.bag_facts.specs.Wanted.{IsWanted, OpensFirstOf, OpensWanted, paths_of}
 use Rattle.bag_facts.specs.declared.fault.Fault.{Fault}
 use Rattle.bag_tree.specs.Bag.{Bag, IsBag, files_of}
 use Rattle.bag_tree.specs.Tree.{TreeState}
@@ -28,8 +28,7 @@ use Rattle.bag_renew.specs.declared.renewal.Renewal.{Renewal}
 -- no other file
 abbrev pub OpensFirstToRead : Bool → List FileEntry → TreeState → TreeState → Type 0
 OpensFirstToRead with_payload files old new =
-    (count : ℕ)
-    × (new.openings ≡ old.openings ++ take count (paths_of (to_read with_payload files)))
+    OpensFirstOf (paths_of (to_read with_payload files)) old new
 
 -- Tag files were read, each once at most and in path order, and then the first of the files of a
 -- bag that are to be read were opened, each once and in path order; but none before the bag was
