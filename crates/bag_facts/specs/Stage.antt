@@ -4,12 +4,12 @@ use Rattle.bag_facts.specs.declared.stage.Stage.{Stage}
 use Rattle.bag_facts.specs.declared.stage.Stage.TheVariants as stage
 
 -- the first digit of the codes of its faults
-abbrev pub number : Stage → ℕ
-number stage.Declaration = 1
-number stage.Parts = 2
-number stage.Metadata = 3
-number stage.Fetch = 4
-number stage.Manifests = 5
-number stage.Completeness = 6
-number stage.Validity = 7
-number stage.Conformance = 8
+abbrev pub stage_number : Stage → ℕ
+stage_number stage.Declaration = 1
+stage_number stage.Parts = 2
+stage_number stage.Metadata = 3
+stage_number stage.Fetch = 4
+stage_number stage.Manifests = 5
+stage_number stage.Completeness = 6
+stage_number stage.Validity = 7
+stage_number stage.Conformance = 8

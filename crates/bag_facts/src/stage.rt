@@ -1,6 +1,6 @@
 //! The stages of a check.
 ghost use Rattle.std.specs.Prelude.{◌≡◌, ◌≢◌, MatchOption};
-ghost use Rattle.bag_facts.specs.Stage as spec;
+ghost use Rattle.bag_facts.specs.Stage.{stage_number};
 ghost use Rattle.bag_facts.specs.declared.stage.Stage.{Stage};
 
 /// A stage of a check, in the order in which a report has their faults.
@@ -27,15 +27,15 @@ pub enum Stage {
 impl Stage {
     /// The first digit of the codes of its faults.
     pub fn number(self) -> u8
-        ensures { result ≡ spec.number self }
+        ensures { result ≡ stage_number self }
     {
         self as u8
     }
 
     /// The stage of a number, or `None` where no stage has it.
     pub fn from_number(number: u8) -> Option<Stage>
-        ensures { MatchOption result ((stage : Stage) → spec.number stage ≢ number)
-            (λ stage. spec.number stage ≡ number) }
+        ensures { MatchOption result ((stage : Stage) → stage_number stage ≢ number)
+            (λ stage. stage_number stage ≡ number) }
     {
         match number {
             1 => Some(Stage::Declaration),

@@ -5,12 +5,9 @@ ghost use Rattle.bag_renew.specs.FirstFaults.{HasNoneAt, HasNoneBefore, IsFoundA
 use crate::Unchecked;
 use crate::checked::first_of;
 use crate::summed::no_memory;
-use bag_facts::Facts;
+use bag_facts::{Facts, Stage};
 use bag_report::stage_faults;
 use std::alloc::Global;
-
-/// The stage at which digests are compared.
-const FIXITY: u8 = 7;
 
 /// Whether a bag has no fault of the stages 1 to 6, which come before digests are compared; else
 /// the first.
@@ -18,7 +15,7 @@ pub(crate) fn check_stages(alloc: Global, facts: &Facts) -> Result<(), Unchecked
     ensures none { OnOk result (HasNoneBefore facts.now 7) }
     ensures fault { IfErr result (IsFoundFirst facts.now) }
 {
-    for stage in 1..FIXITY {
+    for stage in Stage::Declaration as u8..Stage::Validity as u8 {
         check_stage(alloc, facts, stage)?;
     }
     Ok(())
