@@ -6,12 +6,12 @@
 //! let disk = MemoryDisk::holding(alloc, nodes);
 //! ```
 //!
-//! A `MemoryDisk` is honest unless it is reported otherwise, and notes what its device did; `cuts`
-//! gives disks that a power cut may leave after that. A `RefusingDisk` is any disk of which one
-//! call is refused.
+//! A `MemoryDisk` is honest until a file is swapped, and notes what its device did; `cuts` gives
+//! disks that a power cut may leave after that. A `RefusingDisk` is any disk of which one call is
+//! refused.
 //!
-//! There is a disk of all that can stand on one, and of nothing else. It is honest until a file is
-//! swapped, and calls that change it are exact.
+//! There is a `MemoryDisk` of all that can stand on a disk, and of nothing else. Clauses say why a
+//! call of it may be refused, but for `next_name`, `read`, `replace` and `remove`.
 #![tactic(auto)]
 
 mod changing;
