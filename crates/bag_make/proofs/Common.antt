@@ -26,7 +26,7 @@ pub use Rattle.std.specs.FinMap.{get-insert, is_sorted}
 pub use Rattle.std.specs.FinMap.Entries.{below_all, find-where_key, is_some-find, is_sorted-where_key, same_entries}
 pub use Rattle.std.specs.FinSet.{contains-insert, contains-remove, contains-retain, same_set}
 pub use Rattle.std.specs.List.{AllByRecursion, after_first, before_first, list_all, list_any, position_or_len}
-pub use Rattle.std.specs.List.{suffix_len, swap}
+pub use Rattle.std.specs.List.{suffix_len}
 pub use Rattle.std.specs.Option.{option_map}
 pub use Rattle.std.specs.Ordering.{eq_by_cmp, is_lt}
 pub use Rattle.std.specs.Prelude.{option_and_then}
@@ -119,7 +119,7 @@ pub use Rattle.bag_make.specs.Steps.{StepAsks, after_steps, change, new_folder}
 pub use Rattle.bag_make.specs.Stops.{IsAtFile, MayStopMaking}
 pub use Rattle.bag_make.specs.Summing.{StopsSumming, AreSummedFiles, IsSummedEntry}
 pub use Rattle.bag_tags.specs.Summed.{summed_entry, AreSummed, HasItsSums, manifests_of}
-pub use Rattle.bag_make.specs.Texts.{info_of, named_of, size_of}
+pub use Rattle.bag_make.specs.Texts.{info_of, size_of}
 pub use Rattle.bag_make.specs.declared.fault.MakeFault.{MakeFault}
 pub use Rattle.bag_make.specs.declared.step.Step.{Step}
 pub use Rattle.bag_make.specs.declared.step.Step.TheVariants.{Create, MakeFolder, MoveIn, Rename}

@@ -1,9 +1,10 @@
 -- What is composed of listed files and their digests is what is said of the bag.
 use Rattle.bag_make.proofs.Common.{arith, ◌≡◌, ℕ, ◌++◌, ◌∷◌, List, [], map, sum_by, Contains, refl, sym, ap, ◌∙◌, subst}
-use Rattle.bag_make.proofs.Common.{swap, length-map, Alg, contains_first, contains_behind, tag_path, Kind, Payload, Tag}
+use Rattle.bag_make.proofs.Common.{length-map, Alg, contains_first, contains_behind, tag_path, Kind, Payload, Tag}
 use Rattle.bag_make.proofs.Common.{Manifest, FileEntry, NewElement, manifest_text, File, new_payload, entries_of}
-use Rattle.bag_make.proofs.Common.{manifest, named_tag_files, new_tag_files, info_file, AreSummed, entry_of_file}
-use Rattle.bag_make.proofs.Common.{summed_entry, info_of, manifests_of, named_of, SummedFile}
+use Rattle.bag_make.proofs.Common.{manifest, named_tag_files, new_tag_files, info_file, declaration_file}
+use Rattle.bag_make.proofs.Common.{payload_manifests, tag_manifests, AreSummed, entry_of_file}
+use Rattle.bag_make.proofs.Common.{summed_entry, info_of, manifests_of, SummedFile}
 use Rattle.std.proofs.Common.{sum}
 use Rattle.std.proofs.lemmas.List.Sums.{sum-map}
 use Rattle.std.proofs.lemmas.Simd.{map-map}
@@ -41,17 +42,19 @@ module _ (files : List File) (listed : List FileEntry) (payload : List SummedFil
   info_is : info_of listed info ≡ info_file files algs info
   info_is = grind (arith, length-map, sum_by-map)
 
-  pub named_are : named_of listed payload algs info ≡ named_tag_files files algs info
-  named_are = grind (arith, info_is, manifests_are algs Payload (new_payload files) payload are)
-
   -- in the order in which they are written
-  pub tag_files_are : (named made : List File) (summed : List SummedFile) → named ≡ named_of listed payload algs info
-      → AreSummed algs named summed
-      → made ≡ swap (named ++ manifests_of Tag algs summed) 0 1 → made ≡ new_tag_files files algs info
-  tag_files_are named made summed is named_summed swapped =
-      let named_is = is ∙ named_are in
-      swapped
-      ∙ ap (λ xs. swap (xs ++ manifests_of Tag algs summed) 0 1) named_is
-      ∙ ap (λ xs. swap (named_tag_files files algs info ++ xs) 0 1)
-      (manifests_are algs Tag (named_tag_files files algs info) summed
-      (subst (λ xs. AreSummed algs xs summed) named_is named_summed))
+  pub tag_files_are : (declared metadata : File) (manifests tags made : List File) (summed : List SummedFile)
+      → declared ≡ declaration_file files algs info → metadata ≡ info_of listed info
+      → manifests ≡ manifests_of Payload algs payload → AreSummed algs (metadata ∷ declared ∷ manifests) summed
+      → tags ≡ manifests_of Tag algs summed → made ≡ declared ∷ metadata ∷ manifests ++ tags
+      → made ≡ new_tag_files files algs info
+  tag_files_are declared metadata manifests tags made summed is_declared is_metadata are_manifests named are_tags is =
+      let metadata_is : metadata ≡ info_file files algs info = is_metadata ∙ info_is in
+      let manifests_is : manifests ≡ payload_manifests files algs info =
+      are_manifests ∙ manifests_are algs Payload (new_payload files) payload are in
+      let named_is : metadata ∷ declared ∷ manifests ≡ named_tag_files files algs info =
+      λ i. metadata_is i ∷ is_declared i ∷ manifests_is i in
+      let tags_is : tags ≡ tag_manifests files algs info =
+      are_tags ∙ manifests_are algs Tag (named_tag_files files algs info) summed
+      (subst (λ xs. AreSummed algs xs summed) named_is named) in
+      is ∙ (λ i. is_declared i ∷ metadata_is i ∷ manifests_is i ++ tags_is i)

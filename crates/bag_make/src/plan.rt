@@ -15,7 +15,8 @@ ghost use Rattle.bag_make.specs.declared.step.Step.TheVariants.{MakeFolder, Move
 
 use crate::step::Step;
 use crate::tops::tops;
-use bag_text::{Items, Text};
+use bag_tags::TagFile;
+use bag_text::Text;
 use bag_tree::Listing;
 use std::alloc::{AllocError, Global};
 
@@ -23,7 +24,7 @@ use std::alloc::{AllocError, Global};
 pub(crate) fn plan(
     alloc: Global,
     listing: &Listing,
-    tag_files: Vec<(Text, Items<u8>)>,
+    tag_files: Vec<TagFile>,
 ) -> Result<Vec<Step>, AllocError>
     ensures steps { IfOk result (λ steps.
         steps.items ≡ spec.steps_for (from_listing.listed_tops listing.now) tag_files.items) }
@@ -58,11 +59,11 @@ fn moves(alloc: Global, tops: &[&str]) -> Result<Vec<Step>, AllocError>
 }
 
 /// Adds the steps that make these tag files.
-fn push_files(steps: &mut Vec<Step>, tag_files: Vec<(Text, Items<u8>)>) -> Result<(), AllocError>
+fn push_files(steps: &mut Vec<Step>, tag_files: Vec<TagFile>) -> Result<(), AllocError>
     ensures { OnOk result (steps.new.items ≡ steps.old.items ++ map spec.new_file tag_files.items) }
 {
-    for (name, bytes) in tag_files {
-        steps.push(Step::Create(name, bytes))?;
+    for file in tag_files {
+        steps.push(Step::Create(file.path, file.content))?;
     }
     Ok(())
 }

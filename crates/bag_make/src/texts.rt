@@ -1,5 +1,5 @@
 //! The tag files that are made.
-ghost use Rattle.std.specs.Prelude.{◌≡◌, List, IfOk, map};
+ghost use Rattle.std.specs.Prelude.{◌≡◌, ◌∷◌, ◌++◌, List, IfOk, map};
 ghost use Rattle.std.specs.List.Sorted.{IsStrictlySortedBy};
 ghost use Rattle.bag_text.specs.Alg.{rank_cmp};
 ghost use Rattle.bag_read.specs.ManifestName.{tag_path};
@@ -9,12 +9,14 @@ ghost use Rattle.bag_tags.specs.Declaration.{declaration_text};
 ghost use Rattle.bag_tags.specs.Summed.{AreSummed};
 ghost use Rattle.bag_make.specs.Made as bag;
 ghost use Rattle.bag_make.specs.Made.{File, new_payload};
-ghost use Rattle.bag_make.specs.Texts.{info_of, named_of, size_of};
+ghost use Rattle.bag_make.specs.Texts.{info_of, size_of};
 
 use crate::request::OXUM_LABEL;
 use bag_read::{Kind, TagName};
-use bag_tags::{SummedFile, manifests_of, sum_texts, write_declaration, write_info};
-use bag_text::{Alg, AlgSet, Items, Text};
+use bag_tags::{
+    SummedFile, TagFile, manifests_of, sum_text, sum_texts, write_declaration, write_info,
+};
+use bag_text::{AlgSet, Items, Text};
 use bag_tree::FileEntry;
 use std::alloc::{AllocError, Global};
 
@@ -26,7 +28,7 @@ pub(crate) fn tag_files(
     payload: &[SummedFile],
     algs: AlgSet,
     info: &[(Text, Text)],
-) -> Result<Vec<(Text, Items<u8>)>, AllocError>
+) -> Result<Vec<TagFile>, AllocError>
     ensures ascend { IsStrictlySortedBy rank_cmp algs }
     ensures files { IfOk result (λ made.
         (files : List File) → map entry_of_file files ≡ listed.now
@@ -34,40 +36,60 @@ pub(crate) fn tag_files(
         → made.items ≡ bag.new_tag_files files algs info.now) }
 {
     let members = algs.members(alloc)?;
-    let mut files = named_tag_files(alloc, listed, payload, &members, info)?;
-    let summed = sum_texts(alloc, files.as_slice(), algs)?;
-    let mut tag_manifests = manifests_of(alloc, Kind::Tag, &members, &summed)?;
-    files.append(&mut tag_manifests)?;
-    // `bagit.txt` is written first, and `bag-info.txt` comes before it in the order of paths.
-    files.swap(0, 1);
-    Ok(files)
+    let declaration = declaration_file(alloc)?;
+    let info = info_file(alloc, listed, info)?;
+    let payload_manifests = manifests_of(alloc, Kind::Payload, &members, payload)?;
+    let named = named_in_path_order(alloc, &info, &declaration, &payload_manifests, algs)?;
+    let tag_manifests = manifests_of(alloc, Kind::Tag, &members, &named)?;
+    in_writing_order(alloc, declaration, info, payload_manifests, tag_manifests)
 }
 
-/// The tag files that tag manifests name, in path order.
-fn named_tag_files(
+/// The tag files that tag manifests name, with their digests, in path order: `bag-info.txt` comes
+/// before `bagit.txt`.
+fn named_in_path_order(
     alloc: Global,
-    listed: &[FileEntry],
-    payload: &[SummedFile],
-    algs: &[Alg],
-    info: &[(Text, Text)],
-) -> Result<Vec<(Text, Items<u8>)>, AllocError>
-    ensures { IfOk result (λ made. made.items ≡ named_of listed.now payload.now algs.now info.now) }
+    info: &TagFile,
+    declaration: &TagFile,
+    payload_manifests: &[TagFile],
+    algs: AlgSet,
+) -> Result<Vec<SummedFile>, AllocError>
+    ensures { IfOk result (λ named.
+        AreSummed algs (info.now ∷ declaration.now ∷ payload_manifests.now) named.items) }
 {
-    let mut files = Vec::new(alloc);
-    files.push(info_file(alloc, listed, info)?)?;
-    files.push(declaration_file(alloc)?)?;
-    let mut payload_manifests = manifests_of(alloc, Kind::Payload, algs, payload)?;
+    let mut named = Vec::new(alloc);
+    named.push(sum_text(alloc, info, algs)?)?;
+    named.push(sum_text(alloc, declaration, algs)?)?;
+    named.append(&mut sum_texts(alloc, payload_manifests, algs)?)?;
+    Ok(named)
+}
+
+/// The tag files in the order in which they are written: `bagit.txt` is the first.
+fn in_writing_order(
+    alloc: Global,
+    declaration: TagFile,
+    info: TagFile,
+    mut payload_manifests: Vec<TagFile>,
+    mut tag_manifests: Vec<TagFile>,
+) -> Result<Vec<TagFile>, AllocError>
+    ensures { IfOk result (λ files. files.items
+        ≡ declaration ∷ info ∷ payload_manifests.items ++ tag_manifests.items) }
+{
+    let mut files = vec![in alloc; declaration, info]?;
     files.append(&mut payload_manifests)?;
+    files.append(&mut tag_manifests)?;
     Ok(files)
 }
 
 /// `bagit.txt` (RFC 8493, 2.1.1).
-fn declaration_file(alloc: Global) -> Result<(Text, Items<u8>), AllocError>
+fn declaration_file(alloc: Global) -> Result<TagFile, AllocError>
     ensures { IfOk result (λ file. file ≡ (tag_path TagName.Declaration, declaration_text)) }
 {
     let path = TagName::Declaration.path(alloc)?;
     match write_declaration(alloc) {
-        Ok(bytes) => Ok((path, Items::from_vec(bytes))),
+        Ok(bytes) => Ok(TagFile {
+            path,
+            content: Items::from_vec(bytes),
+        }),
         Err(_) => Err(AllocError),
     }
 }
@@ -77,7 +99,7 @@ fn info_file(
     alloc: Global,
     listed: &[FileEntry],
     info: &[(Text, Text)],
-) -> Result<(Text, Items<u8>), AllocError>
+) -> Result<TagFile, AllocError>
     ensures { IfOk result (λ file. file ≡ info_of listed.now info.now) }
 {
     let mut elements = copies(alloc, info)?;
@@ -85,7 +107,10 @@ fn info_file(
     let path = TagName::Info.path(alloc)?;
     // The elements were asked, so that only memory can be wanting.
     match write_info(alloc, &elements) {
-        Ok(bytes) => Ok((path, Items::from_vec(bytes))),
+        Ok(bytes) => Ok(TagFile {
+            path,
+            content: Items::from_vec(bytes),
+        }),
         Err(_) => Err(AllocError),
     }
 }

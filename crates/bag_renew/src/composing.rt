@@ -15,8 +15,8 @@ use crate::removing::{dropped, opened};
 use crate::tag_files::{first_files, kept_names, last_files};
 use bag_facts::Facts;
 use bag_read::Kind;
-use bag_tags::{SummedFile, manifests_of};
-use bag_text::{Alg, Items, Text};
+use bag_tags::{SummedFile, TagFile, manifests_of};
+use bag_text::{Alg, Items};
 use bag_tree::FileChange;
 use std::alloc::{AllocError, Global};
 
@@ -24,9 +24,9 @@ use std::alloc::{AllocError, Global};
 #[derive(Debug, Drop)]
 pub(crate) struct Composed {
     /// The files that are put before manifests are dropped: the metadata and payload manifests.
-    pub first: Vec<(Text, Items<u8>)>,
+    pub first: Vec<TagFile>,
     /// Those that are put after that: the declaration, where it isn't kept.
-    pub last: Vec<(Text, Items<u8>)>,
+    pub last: Vec<TagFile>,
     /// The digests of the files that tag manifests name.
     pub named: Vec<SummedFile>,
 }
@@ -88,12 +88,12 @@ fn append(changes: &mut Vec<FileChange>, more: Vec<FileChange>) -> Result<(), Al
 }
 
 /// The changes that put files.
-fn puts(alloc: Global, files: Vec<(Text, Items<u8>)>) -> Result<Vec<FileChange>, AllocError>
+fn puts(alloc: Global, files: Vec<TagFile>) -> Result<Vec<FileChange>, AllocError>
     ensures { IfOk result (λ made. made.items ≡ map put files.items) }
 {
     let mut changes = Vec::with_capacity(alloc, files.len())?;
-    for (path, bytes) in files {
-        changes.push(FileChange::Put(path, bytes))?;
+    for file in files {
+        changes.push(FileChange::Put(file.path, file.content))?;
     }
     Ok(changes)
 }

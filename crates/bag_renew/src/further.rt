@@ -17,8 +17,8 @@ use crate::stages::check_stages;
 use crate::summed::{check_files, no_memory};
 use bag_facts::Facts;
 use bag_read::Kind;
-use bag_tags::{SummedFile, manifests_of};
-use bag_text::{AlgSet, Items, Text, is_payload};
+use bag_tags::{SummedFile, TagFile, manifests_of};
+use bag_text::{AlgSet, is_payload};
 use bag_tree::Tree;
 use std::alloc::{AllocError, Global};
 
@@ -33,7 +33,7 @@ pub fn new_manifests<T: Tree>(
     alloc: Global,
     tree: &mut T,
     algs: AlgSet,
-) -> Result<Vec<(Text, Items<u8>)>, Unchecked>
+) -> Result<Vec<TagFile>, Unchecked>
     ensures keeps { Keeps (T.state tree.old) (T.state tree.new) }
     ensures no_failure { OnOk result ((T.state tree.new).failures ≡ (T.state tree.old).failures) }
     ensures opened { OnOk result
@@ -100,11 +100,7 @@ fn check_bag<T: Tree>(
 }
 
 /// The payload manifests of algorithms that name these files.
-fn manifests(
-    alloc: Global,
-    algs: AlgSet,
-    files: &[SummedFile],
-) -> Result<Vec<(Text, Items<u8>)>, AllocError>
+fn manifests(alloc: Global, algs: AlgSet, files: &[SummedFile]) -> Result<Vec<TagFile>, AllocError>
     ensures { IfOk result (λ made. made.items ≡ manifests_of Payload algs files.now) }
 {
     let members = algs.members(alloc)?;

@@ -3,8 +3,8 @@
 //! ```
 //! let renewal = Renewal { added: AlgSet::empty().with(Alg::Sha512), dropped, elements, to_1_0: false };
 //! let sums = check_and_sum(alloc, &mut tree, file, &expected, algs, &mut buffer)?;
-//! for (name, text) in &new_manifests(alloc, &mut tree, renewal.added)? {
-//!     let bytes = text.as_slice();
+//! for manifest in &new_manifests(alloc, &mut tree, renewal.added)? {
+//!     let bytes = manifest.content.as_slice();
 //! }
 //! ```
 //!
@@ -38,6 +38,7 @@ mod stages;
 mod summed;
 mod tag_files;
 
+pub use bag_tags::TagFile;
 pub use checked::{Unchecked, check_and_sum};
 pub use fault::RenewFault;
 pub use further::new_manifests;

@@ -11,8 +11,8 @@ ghost use Rattle.bag_renew.specs.Summed.{AreSummed};
 use crate::obstacles::BEGUN_FILE;
 use crate::tag_files::{DECLARATION, INFO};
 use bag_read::{Kind, TagName, manifest_alg};
-use bag_tags::{SummedFile, sum_texts};
-use bag_text::{AlgSet, Items, Text, is_payload};
+use bag_tags::{SummedFile, TagFile, sum_texts};
+use bag_text::{AlgSet, Text, is_payload};
 use bag_tree::Sums;
 use std::alloc::{AllocError, Global};
 use std::collections::BTreeMap;
@@ -96,8 +96,8 @@ fn is_manifest(kind: Kind, path: &str) -> bool
 pub(crate) fn named_tag_files(
     alloc: Global,
     tags: Vec<SummedFile>,
-    first: &[(Text, Items<u8>)],
-    last: &[(Text, Items<u8>)],
+    first: &[TagFile],
+    last: &[TagFile],
     algs: AlgSet,
 ) -> Result<Vec<SummedFile>, AllocError>
     ensures { IfOk result (λ named. (files : List renewed.File) → AreSummed algs files tags.items

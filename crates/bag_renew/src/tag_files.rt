@@ -16,8 +16,8 @@ use crate::alg_choice::{members_of_first, push_where};
 use crate::algorithms::{keeps, kept_algs, new_algs};
 use bag_facts::Facts;
 use bag_read::{Kind, TagName};
-use bag_tags::{SummedFile, manifests_of, write_declaration};
-use bag_text::{Alg, Items, Text};
+use bag_tags::{SummedFile, TagFile, manifests_of, write_declaration};
+use bag_text::{Alg, Items};
 use std::alloc::{AllocError, Global};
 
 pub(crate) const DECLARATION: &str = "bagit.txt";
@@ -59,7 +59,7 @@ pub(crate) fn first_files(
     renewal: &Renewal,
     payload: &[SummedFile],
     info: Option<Items<u8>>,
-) -> Result<Vec<(Text, Items<u8>)>, AllocError>
+) -> Result<Vec<TagFile>, AllocError>
     ensures texts { IfOk result (λ made. IfBagRead facts.now (λ bag.
         made.items ≡ with_path (tag_path tag.Info) info
         ++ manifests_of kind.Payload (spec.written_algs bag renewal.now) payload.now)) }
@@ -73,24 +73,28 @@ pub(crate) fn first_files(
 }
 
 /// The text of `bag-info.txt` with its name, where it is put.
-fn info_file(alloc: Global, info: Option<Items<u8>>) -> Result<Vec<(Text, Items<u8>)>, AllocError>
+fn info_file(alloc: Global, info: Option<Items<u8>>) -> Result<Vec<TagFile>, AllocError>
     ensures { IfOk result (λ made. made.items ≡ with_path (tag_path tag.Info) info) }
 {
     let mut files = Vec::new(alloc);
-    if let Some(text) = info {
-        files.push((TagName::Info.path(alloc)?, text))?;
+    if let Some(content) = info {
+        let path = TagName::Info.path(alloc)?;
+        files.push(TagFile { path, content })?;
     }
     Ok(files)
 }
 
 /// The text of the declaration with its name, where it isn't kept.
-pub(crate) fn last_files(alloc: Global, facts: &Facts) -> Result<Vec<(Text, Items<u8>)>, AllocError>
+pub(crate) fn last_files(alloc: Global, facts: &Facts) -> Result<Vec<TagFile>, AllocError>
     ensures texts { IfOk result (λ made. (bag : Bag) → IsFactsOf bag facts.now
         → made.items ≡ spec.last_files bag) }
     ensures files { IfOk result (λ made. spec.AreOfFiles (map put made.items)) }
 {
     let mut files = Vec::new(alloc);
-    let file = (TagName::Declaration.path(alloc)?, declaration(alloc)?);
+    let file = TagFile {
+        path: TagName::Declaration.path(alloc)?,
+        content: declaration(alloc)?,
+    };
     push_where(&mut files, file, !keeps_declaration(facts))?;
     Ok(files)
 }

@@ -4,8 +4,8 @@ ghost use Rattle.bag_renew_cli.specs.Printing.{IsPrinting, is_status_of, refused
 ghost use Rattle.bag_tree.specs.Pieces.{Writes};
 
 use crate::{put_renewal, renewal_status};
-use bag_renew::{RenewFault, Unchecked, new_manifests};
-use bag_text::{Alg, AlgSet, Items, Text};
+use bag_renew::{RenewFault, TagFile, Unchecked, new_manifests};
+use bag_text::{Alg, AlgSet};
 use bag_tree::{Out, Refused, Tree, TreeFault, put_all};
 use std::alloc::Global;
 
@@ -32,11 +32,11 @@ pub fn print_manifest<T: Tree, W: Out, E: Out>(
 }
 
 /// Hands the texts to the output, one after the other.
-fn put_texts<W: Out>(made: &[(Text, Items<u8>)], out: &mut W) -> Result<(), Refused>
+fn put_texts<W: Out>(made: &[TagFile], out: &mut W) -> Result<(), Refused>
     ensures { Writes (W.state out.old) (W.state out.new) (flat_map text_of made.now) result }
 {
     for one in made {
-        put_all(out, one.1.as_slice())?;
+        put_all(out, one.content.as_slice())?;
     }
     Ok(())
 }

@@ -24,6 +24,7 @@ mod line;
 mod long_info;
 mod manifest;
 mod summed;
+mod tag_file;
 
 pub use bag_read::{
     Declaration, Digest, Element, FetchEntry, Kind, LineFault, ManifestEntry, Oxum, Parsed,
@@ -36,4 +37,5 @@ pub use fault::WriteFault;
 pub use info::write_info;
 pub use long_info::{is_bad_long_element, write_long_info};
 pub use manifest::{push_entry, write_manifest};
-pub use summed::{SummedFile, manifests_of, sum_texts};
+pub use summed::{SummedFile, manifests_of, sum_text, sum_texts};
+pub use tag_file::TagFile;

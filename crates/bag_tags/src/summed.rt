@@ -5,6 +5,7 @@ ghost use Rattle.bag_tree.specs.DigestsOf.{AreSumsOf};
 ghost use Rattle.bag_tags.specs.Entry as entry;
 ghost use Rattle.bag_tags.specs.Summed as spec;
 
+use crate::TagFile;
 use crate::manifest::push_entry;
 use bag_read::{Kind, TagName};
 use bag_text::{Alg, AlgSet, Items, Text};
@@ -20,22 +21,29 @@ pub struct SummedFile {
     pub sums: Sums,
 }
 
-/// The digests of files whose bytes are given, in their order. Fails only where memory runs out.
+/// The digests of tag files, in their order. Fails only where memory runs out.
 pub fn sum_texts(
     alloc: Global,
-    files: &[(Text, Items<u8>)],
+    files: &[TagFile],
     algs: AlgSet,
 ) -> Result<Vec<SummedFile>, AllocError>
     ensures { IfOk result (λ summed. spec.AreSummed algs files.now summed.items) }
 {
     let mut summed = Vec::with_capacity(alloc, files.len())?;
     for file in files {
-        summed.push(SummedFile {
-            path: file.0.copy(alloc)?,
-            sums: sums_of(file.1.as_slice(), algs),
-        })?;
+        summed.push(sum_text(alloc, file, algs)?)?;
     }
     Ok(summed)
+}
+
+/// The digests of a tag file. Fails only where memory runs out.
+pub fn sum_text(alloc: Global, file: &TagFile, algs: AlgSet) -> Result<SummedFile, AllocError>
+    ensures { IfOk result (spec.HasItsSums algs file.now) }
+{
+    Ok(SummedFile {
+        path: file.path.copy(alloc)?,
+        sums: sums_of(file.content.as_slice(), algs),
+    })
 }
 
 /// The digests of bytes.
@@ -55,13 +63,14 @@ pub fn manifests_of(
     kind: Kind,
     algs: &[Alg],
     files: &[SummedFile],
-) -> Result<Vec<(Text, Items<u8>)>, AllocError>
+) -> Result<Vec<TagFile>, AllocError>
     ensures { IfOk result (λ made. made.items ≡ spec.manifests_of kind algs.now files.now) }
 {
     let mut manifests = Vec::new(alloc);
     for alg in algs {
         let path = TagName::Manifest(kind, *alg).path(alloc)?;
-        manifests.push((path, manifest(alloc, *alg, files)?))?;
+        let content = manifest(alloc, *alg, files)?;
+        manifests.push(TagFile { path, content })?;
     }
     Ok(manifests)
 }
