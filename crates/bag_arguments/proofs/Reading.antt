@@ -5,8 +5,7 @@ use Rattle.bag_arguments.proofs.Common.{◌||◌, Option, Some, None, refl, sym,
 use Rattle.bag_arguments.proofs.Common.{fold, take, map, option_map, length, if◌then◌else◌, filter_map, slice_index_or}
 use Rattle.bag_arguments.proofs.Common.{ParsesBool, Bor, take_more, filter_map-append, bytes_eq-Decides, algs, Alg}
 use Rattle.bag_arguments.proofs.Common.{ReadsOne, Text, matched_of, raw_values, rows_of, raw_values-rows}
-use Rattle.bag_arguments.proofs.Common.{option_to_list}
-use Rattle.bag_arguments.proofs.Common.{or_default, values}
+use Rattle.bag_arguments.proofs.Common.{option_to_list, or_default, values}
 use Rattle.bag_text.specs.AlgList.{has_member, same_alg, with_member}
 use Rattle.bag_text.specs.AlgTable.{has_each, has_member-filter, same_alg_same}
 use Rattle.clap.specs.declared.parser.matches.Found.{Found}

@@ -5,8 +5,7 @@ ghost use Rattle.bag_arguments.specs.Given.{part_given, value as value_of};
 ghost use Rattle.bag_arguments.specs.GivenRows.{HasLimit, rows_in};
 ghost use Rattle.bag_arguments.specs.Plan as spec;
 ghost use Rattle.bag_arguments.specs.Plan.{IsNotRefused};
-ghost use Rattle.bag_arguments.specs.Words.{clap_takes, matches_of_words, refusals};
-ghost use Rattle.bag_arguments.specs.Words.{texts_of_words};
+ghost use Rattle.bag_arguments.specs.Words.{clap_takes, matches_of_words, refusals, texts_of_words};
 
 use crate::command::command;
 use crate::declining::{Declined, answer_of};

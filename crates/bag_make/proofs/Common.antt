@@ -61,10 +61,9 @@ pub use Rattle.bag_tags.proofs.InfoReadAgain.{info_again}
 pub use Rattle.bag_tags.proofs.ManifestReadAgain.{manifest_again}
 pub use Rattle.bag_tags.specs.Distinct.{lent_texts}
 pub use Rattle.bag_tags.specs.Element.{NewElement, info_text, is_bad_element, is_bad_label, is_bad_value}
-pub use Rattle.bag_tags.specs.Entry.{NewEntry}
+pub use Rattle.bag_tags.specs.Entry.{NewEntry, manifest_text}
 pub use Rattle.bag_tags.specs.Writable.{CanWrite, begins_with_mark, is_bad_digest, is_bad_entry}
 pub use Rattle.bag_tags.specs.Writable.{is_bad_path, is_lower_hex_digit, may_name, paths}
-pub use Rattle.bag_tags.specs.Entry.{manifest_text}
 pub use Rattle.bag_tags.specs.ReadAgain.{DeclarationIsReadAgain, InfoIsReadAgain, ManifestIsReadAgain}
 pub use Rattle.bag_text.proofs.ListOf.{contains_back, contains_behind, contains_cases, contains_either, contains_first}
 pub use Rattle.bag_text.proofs.ListOf.{contains_front, contains_nothing, each_from_members, nothing_listed, one_list}
@@ -107,10 +106,9 @@ pub use Rattle.bag_make.specs.Made.{File, data_folder, declaration_file, entries
 pub use Rattle.bag_make.specs.Made.{named_tag_files, new_elements, new_payload, new_tag_files, payload_manifests}
 pub use Rattle.bag_make.specs.Made.{tag_manifests}
 pub use Rattle.bag_make.specs.Make.{CanAsk, HasKnownSize, HasMade, Leaves, MayRefuseMaking}
-pub use Rattle.bag_make.specs.Plan.{in_order, is_in_the_way, new_file, steps}
+pub use Rattle.bag_make.specs.Plan.{in_order, is_in_the_way, new_file, steps, steps_for, tops}
 pub use Rattle.bag_make.specs.Laws.{StepsMake, RefusesOneFile, CanMake, MadeIsValid}
 pub use Rattle.bag_make.specs.ListedTops.{has_new, listed_tops}
-pub use Rattle.bag_make.specs.Plan.{steps_for, tops}
 pub use Rattle.bag_make.specs.PowerCut.{HasAllFiles, LastsForGood, OutlastsCuts}
 pub use Rattle.bag_make.specs.Request.{AreTexts, is_refused}
 pub use Rattle.bag_make.specs.Steps.{AllAsk, CanTake, CanTakeAll, HasLeft, HasTaken, RefusedAsks}

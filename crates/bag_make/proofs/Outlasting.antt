@@ -5,7 +5,7 @@ use Rattle.bag_make.proofs.Common.{list_any, bytes_eq, first_component, under, B
 use Rattle.bag_make.proofs.Common.{make_folder, move_in, rename_folder, is_synced, AreSyncs, ChangeNothing, joined}
 use Rattle.bag_make.proofs.Common.{MayLeave, is_in_the_way, File, new_file, new_folder, data_folder, after_steps}
 use Rattle.bag_make.proofs.Common.{steps_for, AllAsk, AsksFolder, AsksMove, AsksFile, AsksPart, has_durable_folders}
-use Rattle.bag_make.proofs.Common.{MoveIn, Rename}
+use Rattle.bag_make.proofs.Common.{MoveIn, Rename, contains-insert, nat_list_cmp_total}
 use Rattle.bag_tree.proofs.Events.{made_durable, nothing_named}
 use Rattle.bag_tree.proofs.Runs.{started, synced, unchanged}
 use Rattle.bag_tree.proofs.Within.{IsWithin}
@@ -14,7 +14,6 @@ use Rattle.bag_tree.specs.Steps.{has_within}
 use Rattle.bag_tree.specs.declared.event.DeviceEvent.{DeviceEvent}
 use Rattle.bag_tree.specs.declared.event.DeviceEvent.TheVariants as event
 use Rattle.bag_make.proofs.Asking.{SomeAsk}
-use Rattle.bag_make.proofs.Common.{contains-insert, nat_list_cmp_total}
 use Rattle.bag_make.proofs.StepsMake.{moved_folders}
 use Rattle.std.specs.Cmp.Lexicographic.{texts_ties}
 use Rattle.bag_make.proofs.Told.{IsKept}

@@ -8,7 +8,7 @@ use Rattle.bag_make.proofs.Common.{is_base_name, first_component, first-under, u
 use Rattle.bag_make.proofs.Common.{has_folder, create, make_folder, move_in, rename_folder, is_within, not_within}
 use Rattle.bag_make.proofs.Common.{under_within, within_cases, is_synced, is_file_synced, is_durable, AreSyncs, joined}
 use Rattle.bag_make.proofs.Common.{AllByRecursion, HasAllFiles, is_in_the_way, new_folder, data_folder, after_steps}
-use Rattle.bag_make.proofs.Common.{MoveIn}
+use Rattle.bag_make.proofs.Common.{MoveIn, ◌&&◌, eq_by_cmp, text_cmp, has_file}
 use Rattle.std.specs.FinMap.{get-retain_keys}
 use Rattle.bag_tree.proofs.Events.{base_there, folder_there, in_base, in_folder_of, same_name, done_make, done_move}
 use Rattle.bag_tree.proofs.Events.{done_rename, done_create, synced_front, synced_after, stays_under, held_under}
@@ -24,7 +24,6 @@ use Rattle.bag_tree.specs.declared.event.DeviceEvent.TheVariants.{MakeFolder, Re
 use Rattle.bag_make.proofs.FirstParts.{first-name}
 use Rattle.bag_facts.proofs.Found.{held_at}
 use Rattle.std.proofs.Math.Bool.{and-false}
-use Rattle.bag_make.proofs.Common.{◌&&◌, eq_by_cmp, text_cmp, has_file}
 use Rattle.bag_make.proofs.Told.{IsKept, gone_on, itself_told, moving_told}
 use Rattle.bag_make.proofs.Placed.{IsPlaced, IsTop, placed_by, with_name, moved_placed, goes_on, apart, none_within}
 

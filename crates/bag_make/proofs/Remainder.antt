@@ -1,10 +1,8 @@
 -- What is left without a fault lacks no file of the payload.
 use Rattle.bag_make.proofs.Common.{arith, ◌≡◌, ◌++◌, ◌∷◌, ◌-◌, ◌||◌, ℕ, zero, suc, inl, inr, Bool, true, false}
 use Rattle.bag_make.proofs.Common.{List, [], Some, map, take, refl, sym, ◌∙◌, subst}
-use Rattle.bag_make.proofs.Common.{slice_get, AllByRecursion, list_any, bytes_eq}
-use Rattle.bag_make.proofs.Common.{false≢true}
-use Rattle.bag_make.proofs.Common.{first_component, under, is_base_name}
-use Rattle.bag_make.proofs.Common.{Alg, Fault, Bag, HasFile}
+use Rattle.bag_make.proofs.Common.{slice_get, AllByRecursion, list_any, bytes_eq, false≢true}
+use Rattle.bag_make.proofs.Common.{first_component, under, is_base_name, Alg, Fault, Bag, HasFile}
 use Rattle.bag_make.proofs.Common.{IsBag, file, has_folder, files_of, create, make_folder, move_in}
 use Rattle.bag_make.proofs.Common.{rename_folder, NewElement, File, data_folder, new_folder, new_tag_files}
 use Rattle.bag_make.proofs.Common.{is_in_the_way, tops, steps, steps_for, new_file, after_steps, Leaves}

@@ -7,8 +7,7 @@ use Rattle.bag_make.proofs.Common.{first_component, under, text_cmp, Alg, contai
 use Rattle.bag_make.proofs.Common.{each_from_members, Bag, HasFile, IsBag, file, files_of, has_folder, exact_texts}
 use Rattle.bag_make.proofs.Common.{one_text, NewElement, make_folder, move_in, rename_folder, create, File, data_folder}
 use Rattle.bag_make.proofs.Common.{new_payload, new_tag_files, made, StepsMake, is_in_the_way, steps, tops, new_folder}
-use Rattle.bag_make.proofs.Common.{after_steps, MoveIn, Create}
-use Rattle.bag_make.proofs.Common.{contains_back, contains_first}
+use Rattle.bag_make.proofs.Common.{after_steps, MoveIn, Create, contains_back, contains_first}
 use Rattle.std.specs.FinMap as fin
 use Rattle.std.specs.FinSet as set
 use Rattle.std.specs.Cmp.Lexicographic.{nat_list_eq_equiv, texts_ties}

@@ -6,9 +6,7 @@ use Rattle.bag_make.proofs.Common.{false_from_ne_true, false≢true, and_parts, 
 use Rattle.bag_make.proofs.Common.{nat_list_cmp_total, text_itself, first_component, under, is_base_name}
 use Rattle.bag_make.proofs.Common.{is_payload_path, Code, NoDeclaration, NoPayloadFolder, Fault, Bag, HasFile}
 use Rattle.bag_make.proofs.Common.{file, has_file, has_folder, create, move_in}
-use Rattle.bag_make.proofs.Common.{data_folder, new_folder}
-use Rattle.bag_make.proofs.Common.{HasNoFault}
-use Rattle.bag_make.proofs.Common.{full, HasAllFiles}
+use Rattle.bag_make.proofs.Common.{data_folder, new_folder, HasNoFault, full, HasAllFiles}
 use Rattle.bag_tree.proofs.Events.{stays_under}
 use Rattle.bag_stages.specs.DeclarationStage.{DeclarationHolds, IsOfDeclaration}
 use Rattle.bag_stages.specs.PartsStage.{PartHolds, IsOfParts}

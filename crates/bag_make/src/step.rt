@@ -1,9 +1,8 @@
 //! The steps in which a bag is made.
 ghost use Rattle.std.specs.Prelude.{◌≡◌, ◌⊎◌, OnOk, OnErr, IfErr, IsTrue, All};
 ghost use Rattle.bag_tree.specs.declared.answer.Answer.TheVariants.{Refused};
-ghost use Rattle.bag_make.specs.Steps.{CanTake, HasLeft, MayRefuseStep};
+ghost use Rattle.bag_make.specs.Steps.{CanTake, HasLeft, MayRefuseStep, HasTaken, HasStopped};
 ghost use Rattle.bag_make.specs.StepsTaken.{IsStep, HasAsked, HasDone};
-ghost use Rattle.bag_make.specs.Steps.{HasTaken, HasStopped};
 
 use bag_text::{Items, Text};
 use bag_tree::{TreeFault, WriteTree};

@@ -53,8 +53,7 @@ use Rattle.bag_renew.proofs.GivenDigests.{are_compared, read_are}
 use Rattle.bag_renew.specs.Compared.{AreCompared}
 use Rattle.bag_renew.specs.FirstFaults.{HasNoneBefore, IsFaultBy, IsFirst, IsFoundFirst, IsLookedFor}
 use Rattle.bag_renew.specs.NewManifests.{AreOfSameBytes, HasChecked, HasCheckedAll, IsRefusedFor}
-use Rattle.bag_renew.specs.NewManifests.{OpensRead, OpensTwice}
-use Rattle.bag_renew.specs.NewManifests.{manifests_for}
+use Rattle.bag_renew.specs.NewManifests.{OpensRead, OpensTwice, manifests_for}
 use Rattle.bag_renew.specs.Renewed.{entries_of}
 use Rattle.bag_renew.specs.Summed.{AreChecked, AreSummed, IsDifferenceIn, IsFaultyFile, IsRight, files_to_read}
 use Rattle.bag_tree.specs.Listing.{entry_of_file}

@@ -1,9 +1,7 @@
 -- Manifests don't stay.
-use Rattle.bag_renew.proofs.Common.{◌≡◌, true, not}
-use Rattle.bag_renew.proofs.Common.{refl, sym, ap, ◌∙◌, false≢true}
+use Rattle.bag_renew.proofs.Common.{◌≡◌, true, not, refl, sym, ap, ◌∙◌, false≢true}
 use Rattle.bag_renew.proofs.Common.{name, name_is_text, is_manifest_name, tag_path, Kind}
-use Rattle.bag_renew.proofs.Common.{Payload, Tag, Manifest, Alg}
-use Rattle.bag_renew.proofs.Common.{stays}
+use Rattle.bag_renew.proofs.Common.{Payload, Tag, Manifest, Alg, stays}
 use Rattle.bag_read.proofs.ManifestName.{named_is}
 use Rattle.bag_renew.proofs.StaysSo.{stays_so}
 

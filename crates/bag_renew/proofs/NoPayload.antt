@@ -1,10 +1,6 @@
 -- Names of the base folder are no paths of the payload.
-use Rattle.bag_renew.proofs.Common.{arith, ◌≡◌, ◌&&◌, ℕ, true, List}
-use Rattle.bag_renew.proofs.Common.{length, codes, and_parts}
-use Rattle.bag_renew.proofs.Common.{bytes_eq}
-use Rattle.bag_renew.proofs.Common.{in_base}
-use Rattle.bag_renew.proofs.Common.{is_payload_path, tag_path}
-use Rattle.bag_renew.proofs.Common.{TagName}
+use Rattle.bag_renew.proofs.Common.{arith, ◌≡◌, ◌&&◌, ℕ, true, List, length, codes, and_parts}
+use Rattle.bag_renew.proofs.Common.{bytes_eq, in_base, is_payload_path, tag_path, TagName}
 use Rattle.std.proofs.Common.{◌<◌, ◌==◌, nat_lt}
 use Rattle.bag_text.specs.Path.{components, first_component, is_base_name, is_path}
 use Rattle.std.proofs.lemmas.Bool.{eqb-true, ltb-true}

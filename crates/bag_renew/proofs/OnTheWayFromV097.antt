@@ -6,8 +6,7 @@ use Rattle.bag_renew.proofs.Common.{Some, is_some, refl, ap, sym, subst, cond, â
 use Rattle.bag_renew.proofs.Common.{contains_nothing, is_manifest_name, manifest_name}
 use Rattle.bag_renew.proofs.Common.{tag_path, Kind, Payload, Tag, TagName, Declaration, Fetch, Info, Manifest, Alg, name}
 use Rattle.bag_renew.proofs.Common.{Bag, file, has_file, FileChange, Put, Remove, after, changes}
-use Rattle.bag_renew.proofs.Common.{is_kept, keeps, kept_or}
-use Rattle.bag_renew.proofs.Common.{new_algs, payload_manifest, Renewal}
+use Rattle.bag_renew.proofs.Common.{is_kept, keeps, kept_or, new_algs, payload_manifest, Renewal}
 use Rattle.std.specs.Option.{unwrap_or}
 use Rattle.bag_text.specs.declared.alg.Alg.TheVariants.{Md5, Sha1, Sha224, Sha256, Sha384, Sha512}
 use Rattle.bag_text.specs.declared.code.Code.TheVariants.{InfoLine}
@@ -33,8 +32,7 @@ use Rattle.bag_renew.specs.Renewed.{is_v10, renewed}
 use Rattle.bag_renew.specs.Telling.{NamesItsFiles}
 use Rattle.bag_renew.specs.Valid.{HasGoodInfo}
 use Rattle.bag_renew.proofs.AlikeFaults.{AreAlike, names_now}
-use Rattle.bag_renew.proofs.BetweenFaults.{IsBetween, IsTagManifestOf, named_by}
-use Rattle.bag_renew.proofs.BetweenFaults.{other_kind}
+use Rattle.bag_renew.proofs.BetweenFaults.{IsBetween, IsTagManifestOf, named_by, other_kind}
 use Rattle.bag_renew.proofs.Contents.{these_files}
 use Rattle.bag_renew.proofs.InChanges.{open_in}
 use Rattle.bag_renew.proofs.ManyChanges.{not_named}

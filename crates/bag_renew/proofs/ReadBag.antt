@@ -32,8 +32,7 @@ use Rattle.bag_renew.specs.NewInfo.{IsInfoRefusal}
 use Rattle.bag_renew.specs.NewManifests.{HasChecked, OpensRead}
 use Rattle.bag_renew.specs.Obstacles.{HasNoObstacle, IsObstacle}
 use Rattle.bag_renew.specs.Reading.{AllowsRenewal, HasNoEarlyFault, HasReadBag, IsRefusalOf, IsRefusalOfStop}
-use Rattle.bag_renew.specs.Reading.{IsRefusedByFacts}
-use Rattle.bag_renew.specs.Reading.{MayRefuseReading, MayStopReadingBag}
+use Rattle.bag_renew.specs.Reading.{IsRefusedByFacts, MayRefuseReading, MayStopReadingBag}
 use Rattle.bag_renew.specs.Renewed.{reads_payload}
 use Rattle.bag_renew.specs.Stops.{AreOpened, IsOfFile, IsRefusedAmong, MayStop, MayStopUnchecked, StopsAtFile}
 use Rattle.bag_renew.specs.Stops.{StopsChecking}

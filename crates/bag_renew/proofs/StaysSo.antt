@@ -3,9 +3,7 @@ use Rattle.bag_renew.proofs.Common.{◌≡◌, ◌&&◌, ℕ, Bool, true, not, L
 use Rattle.bag_renew.proofs.Common.{refl, sym, ap, ◌∙◌, and_from, and_parts, false≢true}
 use Rattle.bag_renew.proofs.Common.{bytes_eq, bytes_eq-Decides}
 use Rattle.bag_renew.proofs.Common.{is_payload_path, is_manifest_name, tag_path}
-use Rattle.bag_renew.proofs.Common.{Payload, Tag, Declaration, Info}
-use Rattle.bag_renew.proofs.Common.{begun_file}
-use Rattle.bag_renew.proofs.Common.{stays}
+use Rattle.bag_renew.proofs.Common.{Payload, Tag, Declaration, Info, begun_file, stays}
 
 -- what is known of a path that stays
 pub record Stays (path : List ℕ) : Type 0 where

@@ -3,8 +3,7 @@ use Rattle.bag_renew.proofs.Common.{◌≡◌, ◌<◌, ◌≤◌, ◌+◌, ◌+
 use Rattle.bag_renew.proofs.Common.{None, Option, contains_back, contains_cases, contains_either, contains_first}
 use Rattle.bag_renew.proofs.Common.{contains_front, contains_nothing, inl, inr, unwrap_or}
 use Rattle.bag_renew.proofs.Common.{sym, ap, ◌∙◌, subst, arith, append_assoc, append-nil, map-append, All-append, All-cons}
-use Rattle.bag_renew.proofs.Common.{All-nil, Alg, file}
-use Rattle.bag_renew.proofs.Common.{Bool, cond, true, false}
+use Rattle.bag_renew.proofs.Common.{All-nil, Alg, file, Bool, cond, true, false}
 use Rattle.std.proofs.lemmas.List.{take_all}
 use Rattle.std.proofs.lemmas.List.Elements.{filter-append}
 use Rattle.bag_facts.proofs.Mapped.{take_one_more}

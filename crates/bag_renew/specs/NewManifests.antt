@@ -1,6 +1,5 @@
 -- The payload manifests of further algorithms.
-use Rattle.std.specs.Prelude.{ℕ, ◌≡◌, ◌++◌, All, Bool, IsTrue, List, map}
-use Rattle.std.specs.Prelude.{true}
+use Rattle.std.specs.Prelude.{ℕ, ◌≡◌, ◌++◌, All, Bool, IsTrue, List, map, true}
 use Rattle.std.specs.List.Sorted.{IsStrictlySortedBy}
 use Rattle.bag_text.specs.Bytes.{Path}
 use Rattle.bag_text.specs.Text.{text_cmp}

@@ -1,6 +1,6 @@
 -- The manifest of one algorithm, as it is written.
 use Rattle.bag_renew_cli.proofs.Common.{◌≡◌, ◌∷◌, ◌∙◌, ℕ, List, [], inl, refl, ap, subst, Alg, OutState, Refused, Result}
-use Rattle.std.proofs.Common.{append-nil, IsTrue}
+use Rattle.std.proofs.Common.{append-nil, IsTrue, true}
 use Rattle.std.specs.Prelude.{flat_map, MatchResult}
 use Rattle.std.specs.Io.KnownBytes.{Appends}
 use Rattle.bag_text.specs.AlgList.{with_member}
@@ -13,7 +13,6 @@ use Rattle.bag_renew.specs.Openings.{OpensAllInTurn}
 use Rattle.bag_renew.specs.Renewed.{File, manifest}
 use Rattle.bag_report.specs.Valid.{HasNoFault}
 use Rattle.bag_renew_cli.specs.Printing.{IsPrinting, text_of}
-use Rattle.std.proofs.Common.{true}
 
 -- the set of one algorithm
 pub one_alg : (alg : Alg) → with_member [] alg ≡ alg ∷ []

@@ -1,6 +1,6 @@
 -- The statuses of what is done with bags.
 use Rattle.bag_renew_cli.proofs.Common.{ℕ, List, Ok, OutState, Result, arith, inl, inr}
-use Rattle.std.proofs.Common.{◌≤◌}
+use Rattle.std.proofs.Common.{◌≤◌, Err}
 use Rattle.bag_disk.specs.Disk.{DiskState}
 use Rattle.bag_store.specs.FileTree.{tree_state}
 use Rattle.bag_tree.specs.Tree.{TreeState}
@@ -12,7 +12,6 @@ use Rattle.bag_renew.specs.declared.checked.Unchecked.{Unchecked}
 use Rattle.bag_renew.specs.declared.checked.Unchecked.TheVariants.{Faulty, Stopped}
 use Rattle.bag_renew.specs.declared.fault.RenewFault.{RenewFault}
 use Rattle.bag_renew.specs.declared.fault.RenewFault.TheVariants as why
-use Rattle.std.proofs.Common.{Err}
 use Rattle.bag_renew_cli.specs.PlannedLines.{plan_status}
 use Rattle.bag_renew_cli.specs.Printing.{is_status_of}
 use Rattle.bag_renew_cli.specs.RenewalLine.{renewal_status}

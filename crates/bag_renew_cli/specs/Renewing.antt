@@ -1,6 +1,5 @@
 -- What is done with one bag, and what is reported of it.
-use Rattle.std.specs.Prelude.{ℕ, ◌≡◌, Bool, true, List, Result, MatchResult}
-use Rattle.std.specs.Prelude.{IfErr, IfOk}
+use Rattle.std.specs.Prelude.{ℕ, ◌≡◌, Bool, true, List, Result, MatchResult, IfErr, IfOk}
 use Rattle.std.specs.Io.KnownBytes.{Appends}
 use Rattle.bag_tree.specs.Out.{IsCut, OutState}
 use Rattle.bag_tree.specs.Tree.{Keeps, TreeState}

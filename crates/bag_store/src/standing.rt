@@ -8,8 +8,7 @@ ghost use Rattle.bag_disk.specs.WritableDisk.{HasFileNode};
 ghost use Rattle.bag_store.specs.Changing.{IsNameTaken, LacksFileThere};
 ghost use Rattle.bag_disk.specs.DiskBag.{bag_of};
 ghost use Rattle.bag_disk.specs.Refusal.{IsCounted};
-ghost use Rattle.bag_store.specs.Due.{IsDueInFinding, IsDueInLook, IsDueInMaking};
-ghost use Rattle.bag_store.specs.Due.{IsDueInRemoving};
+ghost use Rattle.bag_store.specs.Due.{IsDueInFinding, IsDueInLook, IsDueInMaking, IsDueInRemoving};
 ghost use Rattle.bag_store.specs.Standing.{IsStanding};
 ghost use Rattle.bag_store.specs.Writing.{is_none_or_file};
 

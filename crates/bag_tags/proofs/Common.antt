@@ -49,9 +49,8 @@ pub use Rattle.bag_text.specs.declared.code.Code.TheVariants.{InfoLine, NamedAga
 pub use Rattle.bag_text.specs.declared.rules.Rules.TheVariants.{V10}
 pub use Rattle.bag_tags.specs.Distinct.{TextsAscend, lent_texts}
 pub use Rattle.bag_tags.specs.Element.{NewElement, has_outer_blank, info_line, info_text, is_bad_element}
-pub use Rattle.bag_tags.specs.Entry.{NewEntry, entry_line}
+pub use Rattle.bag_tags.specs.Entry.{NewEntry, entry_line, manifest_text}
 pub use Rattle.bag_tags.specs.Writable.{NamesEachOnce, begins_with_mark, is_bad_digest}
 pub use Rattle.bag_tags.specs.Writable.{is_bad_entry, is_bad_path, is_lower_hex_digit}
 pub use Rattle.bag_tags.specs.Writable.{is_tag_manifest, may_name, paths}
-pub use Rattle.bag_tags.specs.Entry.{manifest_text}
 pub use Rattle.bag_tags.specs.ReadAgain.{DeclarationIsReadAgain, InfoIsReadAgain, ManifestIsReadAgain, StandsOn}

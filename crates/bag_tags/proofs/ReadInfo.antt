@@ -4,25 +4,23 @@ use Rattle.bag_tags.proofs.Common.{length, lit<, map, not, refl, subst, sym, tak
 use Rattle.bag_tags.proofs.Common.{AllByRecursion, list_any, or_false, is_line_end, line_feed, lines, lines_of_file}
 use Rattle.bag_tags.proofs.Common.{trim, IsText, IsUtf8, V10, has_outer_blank, is_blank, nat_tests, recursion_from_All}
 use Rattle.bag_text.specs.Laws.{Cut, IsEnd}
-use Rattle.bag_text.specs.Lines.{carriage_return}
+use Rattle.bag_text.specs.Lines.{carriage_return, lines_of_text}
 use Rattle.bag_text.proofs.LineLaws.{IsPlain, only_cut}
 use Rattle.bag_tags.proofs.CutTexts.{after_ascii, before_ascii}
 use Rattle.bag_tags.proofs.TrimmedTexts.{stays_trimmed, trim_begins, trim_ends, trim_some}
-use Rattle.std.proofs.lemmas.Bool.{or_from}
+use Rattle.std.proofs.lemmas.Bool.{or_from, ltb-false, ltb-true}
 use Rattle.bag_tags.proofs.Common.{All-from_recursion, All-take, IsElement, IsLine, IsUtf8-append, IsUtf8-from_is_utf8, IsUtf8-nil}
 use Rattle.bag_tags.proofs.Common.{after_first, before_first, begins_element, both_true, bytes_eq-Decides, continuations}
 use Rattle.bag_tags.proofs.Common.{empty_test, ends_with_blank, get_or, has_mark, is_colon, is_label, is_utf8-from_IsUtf8}
 use Rattle.bag_tags.proofs.Common.{list_any-append, nat_lt, not_empty, not_true, position_or_len, prefix_len, suc}
 use Rattle.bag_tags.proofs.Common.{suffix_len, true≢false, value_of_parts, zero, ◌&&◌, ◌-◌, eqb-true}
 use Rattle.std.proofs.Common.{cond, ◌||◌}
-use Rattle.std.specs.Prelude.{All, filter, take_while, ◌==◌}
+use Rattle.std.specs.Prelude.{All, filter, take_while, ◌==◌, nat_eq}
 use Rattle.std.specs.List.{join_with_byte}
 use Rattle.std.specs.Char.{encode_utf8}
-use Rattle.std.specs.Prelude.{nat_eq}
 use Rattle.std.specs.Str.{is_utf8}
 use Rattle.std.proofs.lemmas.Slice.Eq.{starts_is}
 use Rattle.std.proofs.lemmas.Bool.Decides.{Decides-eqb}
-use Rattle.std.proofs.lemmas.Bool.{ltb-false, ltb-true}
 use Rattle.std.proofs.lemmas.List.{get_or-take, length-take, take_all}
 use Rattle.std.proofs.lemmas.List.Folds.{list_any_none}
 use Rattle.std.proofs.lemmas.List.Splits.{slice_split_at, slice_split_none}
@@ -36,7 +34,6 @@ use Rattle.bag_tags.specs.Element.{is_bad_label, is_bad_value}
 use Rattle.bag_tags.specs.OnLines.{is_bad_long_element, is_bad_long_value, value_lines}
 use Rattle.bag_tags.specs.ReadAgain.{ReadInfoCanBeWritten}
 use Rattle.bag_text.proofs.Blanks.{leading_boundary, trailing_boundary}
-use Rattle.bag_text.specs.Lines.{lines_of_text}
 use Rattle.bag_text.specs.Rules.{label_of, may_follow_colon}
 use Rattle.bag_text.specs.Text.{begins_with_blank, is_blank_line, without_mark, byte_order_mark}
 use Rattle.bag_text.specs.declared.rules.Rules.{Rules}

@@ -12,8 +12,7 @@ impl WritableDisk for MemoryDisk {
     ghost use Rattle.std.specs.Prelude.{OnErr, OnOk, Some, is_some, length, take, ℕ};
     ghost use Rattle.bag_text.specs.Path.{is_path};
     ghost use Rattle.bag_disk.specs.DiskNodes.{Has, IsFolder, IsReachedByFolders, OnlyLooks};
-    ghost use Rattle.bag_disk.specs.DiskNodes.{OnlySyncs};
-    ghost use Rattle.bag_disk.specs.DiskNodes.{node};
+    ghost use Rattle.bag_disk.specs.DiskNodes.{OnlySyncs, node};
     ghost use Rattle.bag_disk.specs.WritableDisk.{Appends, ClosesOpenFile, HasFileNode, MakesFile};
     ghost use Rattle.bag_disk.specs.WritableDisk.{MakesFolderNode, Moves, Notes};
     ghost use Rattle.bag_tree.specs.MovesAll.{KeepsOthers};

@@ -174,8 +174,7 @@ impl Disk for MemoryDisk {
     ghost use Rattle.bag_tree.specs.FileReads.{ReadsNext};
     ghost use Rattle.bag_disk.specs.DiskNodes.{AreNamesIn, HasUnnamed, IsFileWith, IsFolder};
     ghost use Rattle.bag_disk.specs.DiskNodes.{IsReachedByFolders, OnlyLooks, SameDisk};
-    ghost use Rattle.bag_disk.specs.DiskNodes.{entry_of_node};
-    ghost use Rattle.bag_disk.specs.DiskNodes.{node};
+    ghost use Rattle.bag_disk.specs.DiskNodes.{entry_of_node, node};
     ghost use Rattle.bag_disk.specs.Refusal.{IsCountedAs, at_known, of_name, refusal_at_path};
     ghost use Rattle.bag_disk.specs.declared.disk.DiskFault.TheVariants.{Memory, Name, NotFound};
     ghost use Rattle.test_disk.specs.MemoryDisk.{IsEntry, MayRefuse, barred_of, content_of};
