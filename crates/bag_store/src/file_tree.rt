@@ -195,6 +195,7 @@ impl<D: ReplaceDisk + Drop> ReplaceTree for FileTree<D> {
     ghost use Rattle.bag_text.specs.Path.{is_base_name};
     ghost use Rattle.bag_tree.specs.ReplaceCalls.{Removes, Replaces};
     ghost use Rattle.bag_store.specs.FileTreeCalls.{ReportsDisk, disk_of, state_of};
+    ghost use Rattle.bag_store.specs.Writing.{LooksFirst};
 
     fn replace(&mut self, beside: &str, name: &str, bytes: &[u8]) -> Result<(), TreeFault>
         requires beside { IsTrue (is_base_name beside.now) }
@@ -204,6 +205,7 @@ impl<D: ReplaceDisk + Drop> ReplaceTree for FileTree<D> {
             (state_of D.state self.old) (state_of D.state self.new) result }
         ensures cause { IfErr result (
             ReportsDisk ⊥ (D.state (disk_of self.old)) (D.state (disk_of self.new))) }
+        ensures looks_first { LooksFirst (D.state (disk_of self.old)) (D.state (disk_of self.new)) name.now }
     {
         self.is_synced = false;
         let done = replacing::replace(&mut self.disk, beside, name, bytes);

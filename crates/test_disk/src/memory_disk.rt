@@ -166,17 +166,9 @@ impl MemoryDisk {
 }
 
 impl Disk for MemoryDisk {
-    ghost use Rattle.std.specs.Prelude.{◌≡◌, ◌<◌, ◌≤◌, ◌++◌, ◌∷◌, [], IfErr, IfOk, IsErrOf, IsTrue};
-    ghost use Rattle.std.specs.Prelude.{List, MatchOption, None, OnErr, OnOk, Some, is_some};
-    ghost use Rattle.std.specs.Prelude.{length, ℕ, ⊤};
-    ghost use Rattle.std.specs.Option.{option_map};
-    ghost use Rattle.bag_text.specs.Path.{is_path};
-    ghost use Rattle.bag_tree.specs.FileReads.{ReadsNext};
-    ghost use Rattle.bag_disk.specs.DiskNodes.{AreNamesIn, HasUnnamed, IsFileWith, IsFolder};
-    ghost use Rattle.bag_disk.specs.DiskNodes.{IsReachedByFolders, OnlyLooks, SameDisk};
-    ghost use Rattle.bag_disk.specs.DiskNodes.{entry_of_node, node};
-    ghost use Rattle.bag_disk.specs.Refusal.{IsCountedAs, at_known, of_name, refusal_at_path};
-    ghost use Rattle.bag_disk.specs.declared.disk.DiskFault.TheVariants.{Memory, Name, NotFound};
+    ghost use Rattle.std.specs.Prelude.{◌≡◌, IfErr, IsTrue, None, OnOk};
+    ghost use Rattle.bag_disk.specs.DiskNodes.{node};
+    ghost use Rattle.test_disk.specs.DiskCalls.{Enters, LooksAt, LooksAtNamed, NamesNext, Opens};
     ghost use Rattle.test_disk.specs.MemoryDisk.{IsEntry, MayRefuse, barred_of, content_of};
     ghost use Rattle.test_disk.specs.MemoryDisk.{is_barred, state_of};
     ghost use Rattle.test_disk.specs.PlacingLaw.{passing_is_disk};
@@ -186,17 +178,7 @@ impl Disk for MemoryDisk {
     ghost is_disk = { λ disk. passing_is_disk (nodes_of disk.nodes.entries) disk.passes };
 
     fn entry_at(&mut self, path: &str) -> Result<Entry, DiskFault>
-        ensures looks { OnlyLooks (state_of self.old) (state_of self.new) }
-        ensures names { (state_of self.new).names ≡ (state_of self.old).names }
-        ensures found { IfOk result (λ entry.
-            IsTrue (state_of self.old).honest
-            → IsReachedByFolders (state_of self.old).nodes path.now
-            → option_map entry_of_node (node (state_of self.old).nodes path.now) ≡ Some entry) }
-        ensures absent { IsErrOf result NotFound → IsTrue (state_of self.old).honest
-            → IsReachedByFolders (state_of self.old).nodes path.now
-            → node (state_of self.old).nodes path.now ≡ None }
-        ensures failures { IsCountedAs refusal_at_path result (state_of self.old).failures
-            (state_of self.new).failures }
+        ensures looks { LooksAt (state_of self.old) (state_of self.new) path.now result }
         ensures barred { barred_of self.new ≡ barred_of self.old }
         ensures exact { IsEntry (node (state_of self.old).nodes path.now) result }
     {
@@ -207,14 +189,7 @@ impl Disk for MemoryDisk {
     }
 
     fn named_entry(&mut self, path: &str) -> Result<Entry, DiskFault>
-        ensures looks { OnlyLooks (state_of self.old) (state_of self.new) }
-        ensures names { (state_of self.new).names ≡ (state_of self.old).names }
-        ensures found { IfOk result (λ entry.
-            IsTrue (state_of self.old).honest
-            → IsReachedByFolders (state_of self.old).nodes path.now
-            → option_map entry_of_node (node (state_of self.old).nodes path.now) ≡ Some entry) }
-        ensures failures { IsCountedAs at_known result (state_of self.old).failures
-            (state_of self.new).failures }
+        ensures looks { LooksAtNamed (state_of self.old) (state_of self.new) path.now result }
         ensures barred { barred_of self.new ≡ barred_of self.old }
         ensures exact { IsEntry (node (state_of self.old).nodes path.now) result }
     {
@@ -228,12 +203,7 @@ impl Disk for MemoryDisk {
     }
 
     fn enter(&mut self, folder: &str) -> Result<(), DiskFault>
-        ensures looks { OnlyLooks (state_of self.old) (state_of self.new) }
-        ensures honest { OnOk result
-            (IsTrue (state_of self.old).honest → IsFolder (state_of self.old).nodes folder.now
-            → AreNamesIn (state_of self.old).nodes folder.now (state_of self.new).names) }
-        ensures failures { IsCountedAs at_known result (state_of self.old).failures
-            (state_of self.new).failures }
+        ensures enters { Enters (state_of self.old) (state_of self.new) folder.now result }
         ensures barred { barred_of self.new ≡ barred_of self.old }
         ensures shut { OnOk result (IsTrue (is_barred self.old folder.now) → ⊥) }
         ensures refused { IfErr result (MayRefuse (IsTrue (is_barred self.old folder.now))) }
@@ -248,15 +218,7 @@ impl Disk for MemoryDisk {
     }
 
     fn next_name(&mut self) -> Result<Option<Text>, DiskFault>
-        ensures looks { OnlyLooks (state_of self.old) (state_of self.new) }
-        ensures unnamed { IsErrOf result Name → IsTrue (state_of self.old).honest
-            → HasUnnamed (state_of self.old).names }
-        ensures honest { IfOk result (λ next. IsTrue (state_of self.old).honest
-            → MatchOption next ((state_of self.old).names ≡ []) (λ name.
-            (state_of self.old).names ≡ name ∷ (state_of self.new).names)) }
-        ensures path { IfOk result (λ next. MatchOption next ⊤ (λ name. IsTrue (is_path name))) }
-        ensures failures { IsCountedAs of_name result (state_of self.old).failures
-            (state_of self.new).failures }
+        ensures names { NamesNext (state_of self.old) (state_of self.new) result }
         ensures barred { barred_of self.new ≡ barred_of self.old }
     {
         let Some(name) = self.names.as_slice().get(self.named) else {
@@ -272,23 +234,7 @@ impl Disk for MemoryDisk {
     }
 
     fn open(&mut self, path: &str) -> Result<(), DiskFault>
-        ensures same { SameDisk (state_of self.old) (state_of self.new) }
-        ensures opened { OnOk result
-            ((state_of self.new).openings ≡ (state_of self.old).openings ++ path.now ∷ []) }
-        ensures file_open { OnOk result (IsTrue (is_some (state_of self.new).rest)) }
-        ensures honest { OnOk result
-            (IsTrue (state_of self.old).honest
-            → IsReachedByFolders (state_of self.old).nodes path.now
-            → (bytes : List ℕ) → IsFileWith (state_of self.old).nodes path.now bytes
-            → (state_of self.new).rest ≡ Some bytes) }
-        ensures absent { IsErrOf result NotFound → IsTrue (state_of self.old).honest
-            → IsReachedByFolders (state_of self.old).nodes path.now
-            → node (state_of self.old).nodes path.now ≡ None }
-        ensures closed { OnErr result ((state_of self.new).rest ≡ None) }
-        ensures not_opened { OnErr result
-            ((state_of self.new).openings ≡ (state_of self.old).openings) }
-        ensures failures { IsCountedAs refusal_at_path result (state_of self.old).failures
-            (state_of self.new).failures }
+        ensures opens { Opens (state_of self.old) (state_of self.new) path.now result }
         ensures barred { barred_of self.new ≡ barred_of self.old }
         ensures content { OnOk result ((state_of self.new).rest ≡ content_of self.old path.now) }
         ensures refused { IfErr result (MayRefuse (content_of self.old path.now ≡ None)) }

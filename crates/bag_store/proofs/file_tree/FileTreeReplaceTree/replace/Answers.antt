@@ -28,3 +28,6 @@ returns-clause-replaces g c =
 pub returns-clause-cause : goal.returns-clause-cause
 returns-clause-cause g c =
     told (g.D.Disk.state c.args.self.now.disk) (g.D.Disk.state c.replace-done.new.disk) ⊥ _ c.replace-done.result c.to.result c.to.ensures.answer c.replace-done.ensures.failures c.replace-done.ensures.refused
+
+pub returns-clause-looks_first : goal.returns-clause-looks_first
+returns-clause-looks_first g c = c.replace-done.ensures.looks_first
