@@ -1,5 +1,5 @@
 #!/usr/bin/env bash
-# How long bagit-check-many takes over 200 bags, by one, two and four processes at a time: by the clock, the least of
+# How long `bagit-keep round` takes over 200 bags, by one, two and four processes at a time: by the clock, the least of
 # several runs, with the files in the page cache. Each bag has 20 files of 256 KiB, with manifests of SHA-256 and
 # SHA-512.
 #
@@ -27,14 +27,14 @@ done
 check_all() {
     rm -rf round
     find bags -mindepth 1 -maxdepth 1 -type d -print0 |
-        BAGIT=$program "$root/packaging/bagit-check-many" round --list - --jobs "$1"
+        BAGIT=$program "$root/companions/bagit-keep" round round --list - --jobs "$1"
 }
 
 one=
 for processes in 1 2 4; do
     took=
     for ((run = 0; run < runs; run++)); do took=$(least "$took" "$(elapsed check_all "$processes")"); done
-    [[ $("$root/packaging/bagit-check-many" round --table | grep -c $'^0\t') == 200 ]]
+    [[ $("$root/companions/bagit-keep" round round --table | grep -c $'^0\t') == 200 ]]
     one=${one:-$took}
     awk -v processes="$processes" -v took="$took" -v one="$one" 'BEGIN {
         printf "200 bags, %d at a time: %d ms, %.2f times as fast as one at a time\n", processes, took, one / took

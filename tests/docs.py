@@ -25,14 +25,14 @@ KINDS += ["public function", "law", "public call", "clause of a call", "list of 
 KINDS += ["page", "answer", "length", "count", "line", "first paragraph", "file of cases", "quotation"]
 KINDS += ["length of the adaptors"]
 KIT_KINDS = ["number of the kit"]
-FOLDERS = r"docs|tests|bench|packaging|tools|crates|\.ci|\w+(?=/(?:src|specs|proofs|must-fail)/)"
+FOLDERS = r"docs|tests|bench|packaging|companions|tools|crates|\.ci|\w+(?=/(?:src|specs|proofs|must-fail)/)"
 FILE = re.compile(rf"(?<![\w/.~-])((?:{FOLDERS})/[\w./*-]*|[A-Z]+\.md|crates\.txt)")
 NAMES = r"`[^`\n]+`(?:(?:,| and|, and)\s+`[^`\n]+`)*"
 CITATION = re.compile(rf"`([\w/]+\.(?:rt|antt))`:\s+({NAMES})")
 LINKED = re.compile(r"\[(`[^\]]+`)\]\(\.\./crates/([^)#\s]+)\)")
 QUOTED = re.compile(r"\]\(\.\./crates/([^)#\s]+)\)\):\n\n((?:    .*\n)+)")
 ADAPTORS = ["bag_disk/src/system_disk.rt", "bag_disk/src/base_folder.rt", "bag_disk/src/system_fault.rt"]
-ADAPTORS += ["bag_cli/src/system_file.rt"]
+ADAPTORS += ["bag_cli/src/system_file.rt", "bag_disk/src/ownership.rt"]
 MODULES = re.compile(rf"`(\w+)`'s ({NAMES})")
 ANSWERS = {  # what a reader looks for: the page, and what stands there
     "how to undo a making that failed": ("docs/NOT_MADE.md", r"^# If making a bag failed.*^      rmdir \.bagit-new$"),
@@ -239,14 +239,18 @@ def renewing_options():
     return {f"--{name}" for name in names} | {"-h", "--help"}
 
 
-def companion_options(name):
-    """The options of a program that is installed beside bagit, as its --help lists them."""
-    return options_in("\n".join(re.findall(r"^  (-.*?)(?:  |$)", output_of(root / "packaging" / name, "--help"), re.M)))
+def companion_options(program, *words):
+    """The options of a program that is installed beside bagit, or of a command of it, as its --help lists them."""
+    return options_in("\n".join(re.findall(r"^  (-.*?)(?:  |$)", output_of(program, *words, "--help"), re.M)))
 
 
 def compare_options():
     """The options of README and of each manual page are those of the sources; a companion's are those of its --help."""
-    companions = {path.name: companion_options(path.name) for path in sorted((root / "packaging").glob("bagit-*"))}
+    companions = {path.name: companion_options(path) for path in sorted((root / "packaging").glob("bagit-*"))}
+    keep = root / "companions" / "bagit-keep"
+    companions["bagit-keep"] = companion_options(keep)
+    for command in re.findall(r"^  ([a-z]+) ", output_of(keep, "--help"), re.M):
+        companions[f"bagit-keep-{command}"] = companion_options(keep, command)
     for name, options in {"bagit": program_options(), "bagit-renew": renewing_options(), **companions}.items():
         page = root / "docs" / f"{name}.1"
         listed = options_in(text_of(page).partition("\n.SH OPTIONS")[2].split("\n.SH ")[0])
@@ -395,9 +399,9 @@ def compare_lengths(page, text):
 
 
 def compare_adaptors(page, text):
-    """How many lines the four adaptors over the system's calls have."""
+    """How many lines the five adaptors over the system's calls have."""
     right = sum(len(text_of(crates / name).splitlines()) for name in ADAPTORS)
-    for lines in re.findall(r"(\d+)\s+lines\s+in\s+four\s+files", text):
+    for lines in re.findall(r"(\d+)\s+lines\s+in\s+five\s+files", text):
         compare("length of the adaptors", page, f"is {lines} lines, and should be {right}", int(lines) == right)
 
 

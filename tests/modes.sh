@@ -3,12 +3,17 @@
 # folder that was made a bag, and tag files have its owner and group, as far as the system lets it; who may read the folder may read the
 # bag. Where the system refuses that, the bag is made all the same. A folder that somebody links in the place of the new one keeps its own.
 #
-# usage: tests/modes.sh [PROGRAM]
+# Then it renews bags: a tag file that is put has the mode, the owner and the group of the file in whose place it comes, a new one those of
+# bagit.txt, and until it has its name nobody else can open it. Where the system refuses a mode, nothing is put; where it refuses an owner or
+# a group, nobody can read what he couldn't before.
 #
-# PROGRAM is crates/bagit/out/bagit by default, which `rt run` and `rt ci` leave there. It needs strace. Only root can give owners, and
-# work as several users (by setpriv): without root that is left out, and said.
+# usage: tests/modes.sh [BAGIT [BAGIT_RENEW]]
+#
+# BAGIT is crates/bagit/out/bagit by default, and BAGIT_RENEW what stands in crates/bagit_renew/out; `rt run` and `rt ci` leave them there.
+# It needs strace. Only root can give owners, and work as several users (by setpriv): without root that is left out, and said.
 set -euo pipefail
 source "$(dirname "$0")/common.sh"
+take_renew "${2:-}"
 take_program bagit "${1:-}"
 needs strace
 enter modes
@@ -75,6 +80,57 @@ wait $! || status=$?
     give_up "the folder that was linked was $before, and is $(stat -c '%a %u:%g' other)"
 echo "a bag is made where a mode can't be given, and a folder that is linked in the place of data keeps its own"
 
+# A bag, of whose tag files each has another mode; that of bagit.txt is given.
+new_bag() {
+    new_folder 755
+    "$program" --md5 --sha1 --contact-name Ann folder >output
+    chmod "$1" folder/bagit.txt
+    chmod 600 folder/bag-info.txt
+    chmod 640 folder/manifest-md5.txt
+    chmod 400 folder/tagmanifest-md5.txt
+    chmod 664 folder/tagmanifest-sha1.txt
+}
+
+for mask in 022 077 000; do
+    for mode in 644 600; do
+        new_bag "$mode"
+        (umask "$mask" && "$renew" --add sha512 --set Contact-Name=Bob folder >output) || give_up "umask $mask: $(<output)"
+        diff - <(stat -c '%n %a' folder/*.txt) <<END || give_up "renewed with umask $mask: tag files have other modes"
+folder/bag-info.txt 600
+folder/bagit.txt $mode
+folder/manifest-md5.txt 640
+folder/manifest-sha1.txt 644
+folder/manifest-sha512.txt $mode
+folder/tagmanifest-md5.txt 400
+folder/tagmanifest-sha1.txt 664
+folder/tagmanifest-sha512.txt $mode
+END
+        [[ $("$program" --validate folder) == 'folder is valid' ]] || give_up "renewed with umask $mask: it isn't valid"
+    done
+done
+
+# Each file is begun with mode 600, and another one is given, and synced, before it gets its name.
+new_bag 644
+strace -qq -y -o calls -e trace=openat,fchmod,fsync,rename "$renew" --set Contact-Name=Bob folder >output
+grep -F .bagit-begun calls >begun
+[[ $(grep -c 'O_CREAT.*, 0600)' begun) == 3 ]] || give_up "a file isn't begun with mode 600: $(<begun)"
+awk '/^fchmod/ { given++; unsynced = 1 } /^fsync/ { unsynced = 0 } /^rename/ { wrong += unsynced } END { exit wrong || given != 2 }' begun ||
+    give_up "a mode isn't synced before the name: $(<begun)"
+echo 'tag files of renewed bags have the modes that they had, and new ones that of bagit.txt'
+
+# Where the system refuses a mode, nothing is put, and nothing is open to others; the same command renews the bag then.
+for error in EPERM EACCES EIO ENOSPC; do
+    new_bag 644
+    status=0
+    strace -qq -o calls -e trace=fchmod -e inject=fchmod:error=$error:when=1 "$renew" --set Contact-Name=Bob folder >output 2>errors || status=$?
+    grep -q INJECTED calls || give_up 'there was no fchmod to refuse'
+    [[ $status == 3 && $(<output) == 'folder not renewed: put tagmanifest-md5.txt device' ]] || give_up "$error of a mode: $status, $(<output)"
+    [[ $(stat -c %a folder/bag-info.txt folder/.bagit-begun | sort -u) == 600 ]] || give_up "$error of a mode: what was put is open to others"
+    [[ $("$program" --validate folder) == 'folder is valid' ]] || give_up "$error of a mode: no valid bag is left"
+    "$renew" --set Contact-Name=Bob folder >output || give_up "after $error of a mode: $(<output)"
+done
+echo 'where a mode is refused, nothing is put'
+
 if [[ $is_root == no ]]; then
     echo "skipped: owners, and other users, since this isn't root"
     exit
@@ -106,3 +162,46 @@ done <<'END'
 END
 ((bags == 6)) || give_up "only $bags bags of other users"
 echo "data and tag files have the owner and the group that the maker of the bag may give, in $bags bags"
+
+# Root renews a bag whose tag files have several owners and groups: they keep them.
+new_bag 604
+chown 1234:2000 folder folder/bagit.txt
+chown 1235:2001 folder/bag-info.txt folder/tagmanifest-md5.txt
+"$renew" --add sha512 --set Contact-Name=Bob folder >output || give_up "renewed by root: $(<output)"
+diff - <(stat -c '%n %a %u:%g' folder/*.txt) <<END || give_up 'renewed by root: tag files have other modes or owners'
+folder/bag-info.txt 600 1235:2001
+folder/bagit.txt 604 1234:2000
+folder/manifest-md5.txt 640 0:0
+folder/manifest-sha1.txt 644 0:0
+folder/manifest-sha512.txt 604 1234:2000
+folder/tagmanifest-md5.txt 400 1235:2001
+folder/tagmanifest-sha1.txt 664 0:0
+folder/tagmanifest-sha512.txt 604 1234:2000
+END
+
+# Each line: the groups of a user who renews a bag of another one and of the group 2000; the mode of its tag files; and the group and the
+# mode of those that he puts. If he may not give the group, his file is open to no group and to no others but those who could all open it.
+install -m 755 "$renew" bagit-renew
+renewed=0
+while read -r groups mode wanted; do
+    what="of mode $mode, renewed by 1235 of $groups"
+    new_bag 644
+    chown -R 1234:2000 folder
+    chmod 777 folder
+    chmod "$mode" folder/*.txt
+    as 1235 "$groups" ./bagit-renew --set Contact-Name=Bob folder >output || give_up "$what: $(<output)"
+    found=$(stat -c '%u %g %a' folder/bag-info.txt folder/tagmanifest-*.txt | sort -u)
+    [[ $found == "1235 $wanted" ]] || give_up "$what: not 1235 $wanted, but $found"
+    [[ $(stat -c '%u %g %a' folder/bagit.txt folder/manifest-*.txt | sort -u) == "1234 2000 $mode" ]] || give_up "$what: others were touched"
+    [[ $("$program" --validate folder) == 'folder is valid' ]] || give_up "$what: it isn't valid"
+    renewed=$((renewed + 1))
+done <<'END'
+1235,2000 640 2000 640
+1235,2000 664 2000 664
+1235 644 1235 644
+1235 664 1235 644
+1235 604 1235 600
+1235 666 1235 666
+END
+((renewed == 6)) || give_up "only $renewed renewed bags of another user"
+echo "tag files that another user puts have their group, if he may give it, and are open to nobody else, in $renewed bags"

@@ -25,10 +25,11 @@ dpkg-deb --info "$package" control | grep -qx "Version: $(<"$root/VERSION")" || 
 dpkg-deb --control "$package" control
 (cd tree && md5sum --check --quiet ../control/md5sums)
 
-# The programs: bagit, bagit-renew, and each script beside them.
-export PATH=$work/tree/usr/bin:$PATH
+# The programs: bagit, bagit-renew, each script beside them, and bagit-keep.
+export PATH=$work/tree/usr/bin:$PATH PYTHONDONTWRITEBYTECODE=1
 programs=$(ls tree/usr/bin)
-diff <(cd "$root/packaging" && printf '%s\n' bagit bagit-renew bagit-* | sort) <(sort <<<"$programs") || give_up 'it has other programs'
+diff <(cd "$root/packaging" && printf '%s\n' bagit bagit-keep bagit-renew bagit-* | sort) <(sort <<<"$programs") ||
+    give_up 'it has other programs'
 ! grep -rl @VERSION@ tree || give_up 'a version is missing'
 
 # The program, the one that renews what it has made, and the one that checks large bags by it.
@@ -47,6 +48,13 @@ status=0
 cp tree/usr/bin/bagit-check-large alone
 ./alone deposit unwritten 2>printed || status=$?
 [[ $status == 3 && ! -e unwritten ]] || give_up "bagit-check-large ends with $status without its modules"
+
+# bagit-keep, and its package.
+diff <(cd "$root/companions/bagitkeep" && ls *.py) <(ls tree/usr/lib/python3/dist-packages/bagitkeep) || give_up 'it has another package'
+[[ $(bagit-keep --version) == "bagit-keep $(<"$root/VERSION")" ]] || give_up 'bagit-keep has another version'
+bagit-keep round round deposit >printed
+[[ $(bagit-keep report --round round) == "{\"bag\": \"$work/deposit\", \"ended\": \"is valid\"}" ]] || give_up 'bagit-keep makes no round'
+for command in info report round; do programs+=" bagit-keep-$command"; done
 
 # If the program is killed in the middle of a piece, no report is closed; started again, it goes on. A report that can't
 # be written doesn't end as one with faults.
@@ -99,18 +107,27 @@ manual man7/bagit-faults | sed -n 's/^\.B \([1-8][0-9][0-9] [a-z0-9-]*\)$/\1/p' 
 
 # The options of each program.
 bash=$share/bash-completion/completions zsh=$share/zsh/vendor-completions fish=$share/fish/vendor_completions.d
+# The blocks of a file, each from a line that doesn't begin with a blank or `}` to the next, whose first line has this.
+blocks() { awk -v form="$1" '/^[^ }]/ { inside = $0 ~ form } inside' "$2"; }
 all_options=0
-for name in $programs; do
-    "$name" --help | sed -nE 's/^ {2,}(-[a-z], )?(--[a-z0-9.-]+) ?.*/\1\2/p' | sed 's/, /\n/' | sort >in_help
-    (($(wc -l <in_help) > 5)) || give_up "$name --help has no options"
-    manual "man1/$name" | sed -n '/^\.SH OPTIONS/,/^\.SH/p' | grep -oE -- '(^|[^a-z0-9-])(--[a-z]([.]?[a-z0-9-])*|-h)\b' |
-        grep -oE -- '--?[a-z0-9.-]+' | sort -u | diff in_help - || give_up "$name(1) has other options than --help"
-    sed -n "s/.*compgen -W '\(.*\)' -- .*/\1/p" "$bash/$name" | tr ' ' '\n' | sort | diff in_help - ||
-        give_up "bash completes other options of $name"
-    sed -n "s/^ *'[*]\{0,1\}\(-[a-z0-9.-]*\)=\{0,1\}\[.*/\1/p" "$zsh/_$name" | sort | diff in_help - ||
-        give_up "zsh completes other options of $name"
-    sed -nE 'h; s/.* -l ([a-z0-9.-]+).*/--\1/p; g; s/.* -s ([a-z]) .*/-\1/p' "$fish/$name.fish" | sort |
-        diff in_help - || give_up "fish completes other options of $name"
+for page in $programs; do
+    name=$page part=. of_fish=. words=("$page")
+    # The completions of a command are a part of those of bagit-keep.
+    if [[ $page == bagit-keep-* ]]; then
+        name=bagit-keep words=(bagit-keep "${page##*-}") part=_${page##*-} of_fish="from ${page##*-}'"
+    elif [[ $page == bagit-keep ]]; then
+        part='keep[(][)]|CURRENT' of_fish=use_subcommand
+    fi
+    "${words[@]}" --help | sed -nE 's/^ {2,}(-[a-z], )?(--[a-z0-9.-]+) ?.*/\1\2/p' | sed 's/, /\n/' | sort >in_help
+    (($(wc -l <in_help) > 2)) || give_up "${words[*]} --help has no options"
+    manual "man1/$page" | sed -n '/^\.SH OPTIONS/,/^\.SH/p' | grep -oE -- '(^|[^a-z0-9-])(--[a-z]([.]?[a-z0-9-])*|-h)\b' |
+        grep -oE -- '--?[a-z0-9.-]+' | sort -u | diff in_help - || give_up "$page(1) has other options than --help"
+    blocks "$part" "$bash/$name" | sed -n "s/.*compgen -W '\(.*\)' -- .*/\1/p" | tr ' ' '\n' | grep ^- | sort | diff in_help - ||
+        give_up "bash completes other options of $page"
+    blocks "$part" "$zsh/_$name" | sed -n "s/^ *'[*]\{0,1\}\(-[a-z0-9.-]*\)=\{0,1\}\[.*/\1/p" | sort | diff in_help - ||
+        give_up "zsh completes other options of $page"
+    grep -e "$of_fish" "$fish/$name.fish" | sed -nE 'h; s/.* -l ([a-z0-9.-]+).*/--\1/p; g; s/.* -s ([a-z]) .*/-\1/p' | sort |
+        diff in_help - || give_up "fish completes other options of $page"
     all_options=$((all_options + $(wc -l <in_help)))
 done
 
@@ -140,17 +157,22 @@ completes 'photographs plans' bagit -- --validate p
 completes '--to-1.0' bagit-renew --t
 completes 'photographs plans' bagit-renew --to-1.0 p
 completes '' bagit-renew --set p
-completes 'photographs plans profile.json' bagit-report p
-completes '--files' bagit-report --fi
-completes '' bagit-report --files 6
-completes '' bagit-report -- --fi
+completes 'photographs plans profile.json' bagit-keep report p
+completes '--files' bagit-keep report --fi
+completes '' bagit-keep report --files 6
+completes '' bagit-keep report -- --fi
+completes 'report round' bagit-keep r
+completes 'photographs plans' bagit-keep info p
+completes '--version' bagit-keep --v
+completes '' bagit-keep p
+completes '' bagit-keep other p
 completes 'photographs plans profile.json' bagit-check-large --profile = p
 completes 'photographs plans profile.json' bagit-check-large photographs p
 completes '' bagit-check-large -- --p
-completes 'photographs plans' bagit-check-many round p
-completes 'photographs plans profile.json' bagit-check-many round --list = p
-completes 'photographs plans' bagit-check-many --since p
-completes '' bagit-check-many --jobs p
+completes 'photographs plans' bagit-keep round round p
+completes 'photographs plans profile.json' bagit-keep round round --list = p
+completes 'photographs plans' bagit-keep round --since p
+completes '' bagit-keep round --jobs p
 
 # What fish completes: the arguments in the first column.
 if type -P fish >/dev/null; then
@@ -163,8 +185,8 @@ if type -P fish >/dev/null; then
     fish_completes '--profile=photographs/ --profile=plans/ --profile=profile.json' 'bagit --profile=p'
     fish_completes '' 'bagit -- --v'
     fish_completes 'photographs/ plans/' 'bagit -- p'
-    fish_completes 'photographs/ plans/ profile.json' 'bagit-report p'
+    fish_completes 'photographs/ plans/ profile.json' 'bagit-keep report p'
 fi
 
-echo "the package is built twice the same, and has $(wc -w <<<"$programs") programs, $all_options options" \
+echo "the package is built twice the same, and has $(wc -w <<<"$programs") programs and commands, $all_options options" \
     "and $(wc -l <written) codes in all its pages; $pages pages were rendered"

@@ -3,6 +3,9 @@ call. tests/power_cut_renewals.sh calls it; the disks are those of power_cut.py,
 
 usage: power_cut_renewals.py BAGIT BAGIT_RENEW
 
+Then it kills the program after each of these calls, has the bag renewed again by the same command, and cuts the power
+after each call of that; the disk lost nothing by the kill, and had still to keep what the first one did.
+
 What is left is a loss where it isn't a valid bag, by the program or by renew.py; where a payload file isn't what it
 was; where the same command doesn't make the renewed bag of it; and, once `renewed` was written, where it isn't that.
 """
@@ -15,8 +18,9 @@ from pathlib import Path
 
 import power_cut
 import renew
-from power_cut import MADE, cuts_of, done, tree_of
-from refused_renewals import cases
+from power_cut import FOLDER, MADE, cuts_of, done, tree_of
+from refused_renewals import Case, cases, make_bag
+from renew import Options
 from renewals import Programs, Wrong, demand
 
 PAYLOAD = "d/data/"
@@ -90,9 +94,15 @@ class Judge:
 DISKS = (("strict disk", power_cut.strict_disk), ("disk with a journal", power_cut.disk_with_journal))
 
 
+def all_cases():
+    """The bags; of the last one the first change of a second renewal removes a manifest."""
+    yield from cases()
+    make_bag("one", "1.0", ["md5"], ["md5"])
+    yield Case("SHA-512 in place of MD5", "one", Options(add=("sha512",), drop=("md5",)), True)
+
+
 def trail_of(programs, case, work):
     """Has the bag `d` in a folder renewed, and gives what it was and is, and the calls that changed it."""
-    shutil.copytree(case.top, work / "d")
     first = tree_of(str(work / "d"))
     words = ["strace", "-f", "-y", "-s", "100000", "-e", "trace=!read", "-o", "calls", programs.renewing]
     ended = subprocess.run([*words, *case.options.words(), "d"], cwd=work, capture_output=True, check=False)
@@ -114,10 +124,55 @@ def unmissed(judge, trail):
                 yield f"{path} on the {name}"
 
 
+class Killed:
+    """Renewals that were killed after each call of the first, and then were asked for again."""
+
+    def __init__(self, programs, case, judge, trail):
+        self.programs, self.case, self.judge, self.again = programs, case, judge, {}
+        calls = [event for event in trail if event != MADE]
+        self.fronts = [calls[:end] for end in range(len(calls) + 1)]
+
+    def second(self, front):
+        """The calls of the second renewal."""
+        there = reduce(lambda tree, event: done(event, tree), front, self.judge.first)
+        if there not in self.again:
+            with tempfile.TemporaryDirectory(dir=".") as work:
+                write(there, f"{work}/{FOLDER}")
+                _, bag, self.again[there] = trail_of(self.programs, self.case, Path(work))
+            demand(bag == self.judge.bag, f"{self.case.name}: asked again it makes another bag")
+        return self.again[there]
+
+    def cuts(self, without=None):
+        """What the strict disk may be left with after each cut; where this isn't the first event of a second renewal."""
+        for front in self.fronts:
+            second = self.second(front)
+            trail = front + (second[1:] if second[0] == without else second)
+            for end in range(len(front), len(trail) + 1):
+                try:
+                    yield from ((trail[:end], tree) for tree in power_cut.strict_disk(trail[:end], self.judge.first))
+                except OverflowError:
+                    yield trail[:end], None
+                    break
+
+
+def try_killed(programs, case, judge, trail):
+    """How much is wrong where a renewal was killed."""
+    killed = Killed(programs, case, judge, trail)
+    losses = list(judge.losses(killed.cuts()))
+    for before, loss in losses[:3]:
+        last = (word for event in before[-1:] for word in event if isinstance(word, str))
+        print("killed, asked again, and cut after", *last, "-", loss)
+    print(f"{case.name}: killed {len(killed.fronts)} times and asked again, {len(losses)} losses")
+    if case.top == "one" and not losses and not any(judge.losses(killed.cuts(("fsync", FOLDER)))):
+        print(f"{case.name}: nothing is wrong without the first sync of a second renewal")
+        return 1
+    return len(losses)
+
+
 def try_case(programs, case):
     """How much is wrong."""
-    work = Path(f"{case.top}-cut")
-    work.mkdir()
+    work = Path(tempfile.mkdtemp(prefix=f"{case.top}-cut.", dir="."))
+    shutil.copytree(case.top, work / FOLDER)
     first, bag, trail = trail_of(programs, case, work)
     judge, count = Judge(programs, case, first, bag), 0
     for name, disk in DISKS:
@@ -130,12 +185,12 @@ def try_case(programs, case):
     for path in [] if count else unmissed(judge, trail):
         print(f"{case.name}: nothing is wrong without the syncs of {path}")
         count += 1
-    return count
+    return count + try_killed(programs, case, judge, trail)
 
 
 def main(bagit, renewing):
     programs = Programs(bagit, renewing)
-    wrong = sum(try_case(programs, case) for case in cases())
+    wrong = sum(try_case(programs, case) for case in all_cases())
     print(f"{wrong} wrong")
     sys.exit(wrong > 0)
 

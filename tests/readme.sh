@@ -1,8 +1,9 @@
 #!/usr/bin/env bash
 # Follows the pages for users as they are written: README's sessions, with what they say that is printed, and its
-# commands; the ways back of docs/NOT_MADE.md, over folders as a making leaves them; the commands of docs/RENEWING.md,
-# of good bags and damaged ones; the scripts of docs/LARGE_BAGS.md over 40 bags of which five are bad; the commands of
-# docs/FAULTS.md, which mend no damage away and run no name; the keys of docs/PROFILES.md; what docs/LIBRARY.md quotes.
+# commands; the ways back of docs/NOT_MADE.md, over folders as a making leaves them, and in others; the commands of
+# docs/RENEWING.md, of good bags and damaged ones; the scripts of docs/LARGE_BAGS.md over 40 bags of which five are bad;
+# the commands of docs/FAULTS.md, which mend no damage away, replace no better file and run no name; the keys of
+# docs/PROFILES.md; what docs/LIBRARY.md quotes.
 #
 # usage: tests/readme.sh [PROGRAM [RENEWING]]
 #
@@ -19,7 +20,7 @@ enter pages
 mkdir bin
 ln -s "$program" bin/bagit
 ln -s "$renewing" bin/bagit-renew
-ln -s "$root"/packaging/bagit-* bin/
+ln -s "$root"/packaging/bagit-* "$root"/companions/bagit-keep bin/
 export PATH=$work/bin:$PATH
 followed=0
 
@@ -144,7 +145,7 @@ wrong() {
 
 # A folder, and what a making that was cut off leaves of it.
 new_folder() {
-    rm -rf photographs whole
+    rm -rf photographs* whole
     mkdir -p photographs/inner photographs/data
     echo a >photographs/a
     echo b >photographs/inner/b
@@ -153,15 +154,25 @@ new_folder() {
     cp -a photographs whole
 }
 
-# Follows a way back in a shell of its own, and sees that the folder is again what it was.
+# Follows a way back in a shell of its own, and sees that the folder is again what it was, with the tag files beside it;
+# followed once more, or in a bag where no folder has the name, it changes nothing.
 goes_back() { # NUMBER WHAT-IS-THERE
+    local count=$(ls photographs | grep -c 'txt$')
     block docs/NOT_MADE.md 'If making a bag failed or was interrupted' "$1" >way
     [[ -s way ]] || give_up "docs/NOT_MADE.md: no way back $1"
-    [[ $2 != 'a bag' ]] || sed -i 's/^rm -f/rm -i/' way
-    bash -e way >printed 2>&1 < <(yes 2>/dev/null) || wrong "docs/NOT_MADE.md: way back $1 ended with an error"
+    bash way >printed 2>&1 || wrong "docs/NOT_MADE.md: way back $1 ended with an error"
     diff -r whole photographs || give_up "docs/NOT_MADE.md: way back $1 leaves something else ($2)"
+    [[ $1 == 1 || $(ls photographs.kept | wc -l) == "$count" ]] || give_up "docs/NOT_MADE.md: tag files are lost ($2)"
+    fails "docs/NOT_MADE.md: way back $1, once more" bash way
+    diff -r whole photographs || give_up "docs/NOT_MADE.md: way back $1, once more, changes the folder ($2)"
+    fails "docs/NOT_MADE.md: way back $1, elsewhere" env -C letters bash ../way
+    diff -r letters other || give_up "docs/NOT_MADE.md: way back $1, in a bag, changes it"
     followed=$((followed + 1))
 }
+mkdir -p letters/data
+echo letter >letters/data/a
+bagit --quiet letters
+cp -a letters other
 
 for moved in '' a 'a inner' 'a inner data .hidden'; do
     new_folder
@@ -182,6 +193,7 @@ cp -a photographs whole
 bagit photographs >printed
 goes_back 2 'a bag'
 (cd photographs && [[ $(bagit --validate .) == '. is valid' ]]) || give_up 'the inner bag is not what it was'
+rm -r letters other
 
 # The picture: stopped at the step of a tag file, a folder is as the row above says.
 pictured() { # TAG-FILE ANSWER ROW
@@ -290,6 +302,22 @@ is_changed_by "${changes[3]}"
 manifests=$(cd photographs && echo manifest-*.txt)
 [[ $manifests == 'manifest-md5.txt manifest-sha1.txt manifest-sha256.txt manifest-sha512.txt' ]] ||
     give_up "docs/NOT_MADE.md: a changed bag has $manifests"
+
+# No path leads out of the bag.
+new_bag
+bagit --quiet scans
+mkdir held
+cp -a photographs letters scans held/
+for path in 'remove ../letters' 'remove ../photographs/data/2024/a' 'remove 2024/..' 'add letters ../scans/data' \
+    'add letters 2024/../../scans/data/'; do
+    fails docs/NOT_MADE.md ./renew photographs $path
+    for name in photographs letters scans; do
+        diff -r "$name" "held/$name" || give_up "docs/NOT_MADE.md: $path changes $name"
+    done
+    [[ ! -e photographs.new ]] || give_up "docs/NOT_MADE.md: $path is begun"
+    followed=$((followed + 1))
+done
+rm -r held
 
 # Damage that comes at the Nth call of bagit stops the change, and the bag stays where it is.
 stops() { # CHANGE MESSAGE N before|after COMMAND
@@ -412,6 +440,7 @@ receives() { # KIND WHAT-IS-WRONG
     local way
     rm -rf unpacked
     way=$(block docs/RECEIVING.md 'Archive files' 1)
+    [[ $1 == tar ]] || way=mkdir\ unpacked${way#*mkdir unpacked}
     [[ $1 == tar ]] || way=${way/tar --no-same-owner -xf deposit.tar -C unpacked/$unzips}
     [[ $way == *"deposit.$1"* ]] || give_up "docs/RECEIVING.md: no way to unpack a .$1: $way"
     tells_damage "docs/RECEIVING.md: a .$1" "$2" "$way"
@@ -440,11 +469,36 @@ for kind in "${kinds[@]}"; do
     pack "$kind" deposit
     receives "$kind" 'a damaged bag'
 done
+# A .tar that is cut off anywhere, also between two files or after zeros, isn't received.
+new_deposit
+rm -r deposit
+mkdir -p deposit/more
+for name in a more/b; do head -c 2048 /dev/zero >"deposit/$name"; done
+bagit --quiet --md5 deposit
+tar -b 1 -cf whole.tar deposit/{bagit.txt,bag-info.txt,manifest-md5.txt,data,tagmanifest-md5.txt}
+size=$(stat -c %s whole.tar)
+for ((cut = size % 512 + 512; cut < size; cut += 512)); do
+    head -c "$cut" whole.tar >deposit.tar
+    receives tar "$cut of $size bytes"
+    [[ -s printed ]] || give_up "docs/RECEIVING.md: nothing is said of $cut bytes of $size"
+done
+for ((cut = 1; cut < 1024; cut += 333)); do
+    head -c -"$cut" whole.tar >deposit.tar
+    receives tar "$cut bytes lost"
+done
+mv whole.tar deposit.tar
+receives tar true
+rm deposit.tar
 for damage in true 'sed -i "s/as it is/as it wa/" deposit.tar'; do
     new_deposit
+    rm -f deposit.tar
     between tar 1 after "$damage"
     tells_damage 'docs/RECEIVING.md: a bag that is sent' "$damage" "$(block docs/RECEIVING.md 'Archive files' 2)"
 done
+new_deposit
+echo 'as it was received' >deposit.tar
+tells_damage 'docs/RECEIVING.md: a bag that is sent' 'a file is there' "$(block docs/RECEIVING.md 'Archive files' 2)"
+[[ $(<deposit.tar) == 'as it was received' ]] || give_up 'docs/RECEIVING.md: packing replaces a file'
 
 # RECEIVING: files are fetched to the paths that fetch.txt spells, and nothing of it is run or written elsewhere.
 new_holey() { # fetch.txt, with @ in place of the server
@@ -478,7 +532,15 @@ server.serve_forever()' >port 2>>requests &
     fetches true
     [[ $(grep -c GET requests) == 2 ]] || give_up 'docs/RECEIVING.md: what is there is fetched again'
     new_holey "${good/'/b\t'/'/{1,2}[a]\t'}"
+    echo mine >holey.part
     fetches 'another file'
+    [[ $(find holey/data -type f) == *'{1,2}' && $(<holey.part) == mine ]] || give_up 'docs/RECEIVING.md: other bytes are kept'
+    rm holey.part
+    new_holey "@/b 1 data/x/%%250A\$(touch pwned) {1,2}\n@/none 1 data/line%%0Aend \n"
+    fetches 'other bytes, and no file'
+    printf "${good//@/http://127.0.0.1:$port}" >holey/fetch.txt
+    fetches true
+    [[ ! $(compgen -G 'holey.*') ]] || give_up 'docs/RECEIVING.md: fetching leaves something'
     new_holey "$good"
     sed -i 's/1\.0/0.97/' holey/bagit.txt
     fetches true
@@ -524,7 +586,7 @@ new_deposit() {
     bagit --quiet --md5 deposit bags/*
 }
 renewing_block() { follow docs/RENEWING.md "$1" "$2" >printed 2>&1; }
-first='Renewing a bag' drops='Check before you drop an algorithm' keeps='Keeping the old bag'
+first='Renewing a bag' drops='What is dropped is compared' keeps='Keeping the old bag'
 new_deposit
 renewing_block "$first" 1 || wrong 'docs/RENEWING.md: its first commands fail'
 diff printed <(printf '%s renewed\n' deposit deposit renewed)
@@ -534,13 +596,17 @@ new_deposit
 bagit-renew --dry-run --add sha512 --set A=b deposit | diff - <(block docs/RENEWING.md 'What is changed, and in which order' 1)
 renewing_block "$drops" 1 || wrong 'docs/RENEWING.md: an algorithm is not dropped'
 [[ -e deposit/manifest-sha256.txt && ! -e deposit/manifest-md5.txt ]] || give_up 'docs/RENEWING.md: another algorithm is dropped'
+new_deposit
+bagit-renew --quiet --add sha256 deposit
+renewing_block "$drops" 2 || wrong 'docs/RENEWING.md: an algorithm is not dropped unchecked'
+[[ -e deposit/manifest-sha256.txt && ! -e deposit/manifest-md5.txt ]] || give_up 'docs/RENEWING.md: unchecked another is dropped'
 for number in 1 2; do
     new_deposit
     renewing_block "$keeps" "$number" || wrong "docs/RENEWING.md: keeping, block $number fails"
 done
 (cd deposit && sha512sum data/first.txt) | diff - deposit.sha512
 renewing_block 'Many bags' 1 && [[ $(<printed) == 'greatest status: 0' && ! -s not-renewed ]] || wrong 'docs/RENEWING.md: many bags'
-followed=$((followed + 6))
+followed=$((followed + 7))
 for damaged in "$first 1" "$drops 1" "$keeps 1" "$keeps 2" 'Many bags 1'; do
     new_deposit
     flip deposit/data/first.txt
@@ -556,7 +622,7 @@ done
 rm -rf deposit* renewed not-renewed bags said
 
 # LARGE_BAGS: forty bags, of which five are bad, by one command and by a job array, whose Slurm is played here.
-for companion in "$root"/packaging/bagit-*; do ln -sf "$companion" bin/; done
+for companion in "$root"/packaging/bagit-* "$root"/companions/bagit-keep; do ln -sf "$companion" bin/; done
 for ((bag = 10; bag < 50; bag++)); do
     mkdir -p "bags/bag $bag"
     echo "$bag" >"bags/bag $bag/file"
@@ -662,9 +728,33 @@ for day in 07 08; do
     night "$day" 3
     mails '^3\t.*/bags/the%20other is not there\t'
 done
-mv srv/rounds away
-mkdir srv/rounds
+
+# A bag leaves the list by the page's command, which changes nothing where it isn't in the list or the rounds aren't there.
+leave() { # NAME
+    block docs/LARGE_BAGS.md 'Each night' 1 | sed "s#/srv/#$work/srv/#g; s#NAME#$1#" | bash >printed 2>&1 || return
+    followed=$((followed + 1))
+}
+cp srv/rounds/bags listed
+leave 'another'
+cmp srv/rounds/bags listed || give_up 'docs/LARGE_BAGS.md: another bag leaves the list'
+leave "'the other'"
+tr '\0' '\n' <srv/rounds/bags | diff - <(printf '%s\n' "$work/srv/bags/it's" "$work/srv/bags/one")
 night 09 3
+mails '^3\tnot in this round\t.*/bags/the%20other\t.*\tgone\t'
+night 10 0
+
+# What the pages leave beside a bag isn't listed, also if it once was; without that bag it is.
+for beside in old new kept kept.aB3dE6 part.aB3dE6; do
+    mkdir "srv/bags/one.$beside" "srv/bags/lone.$beside"
+done
+mkdir srv/bags/{lost+found,one.kept.aB3dE6x,older}
+printf '%s\0' "$work/srv/bags/one.kept.aB3dE6" "$work/srv/bags/lost+found" >>srv/rounds/bags
+night 11 1
+tr '\0' '\n' <srv/rounds/bags | sed 's#.*/##' | diff - <(printf '%s\n' it\'s lone.{kept,kept.aB3dE6,new,old,part.aB3dE6} older one one.kept.aB3dE6x)
+mv srv/rounds away
+! leave "'one'" || give_up 'docs/LARGE_BAGS.md: a bag leaves a list that is not there'
+mkdir srv/rounds
+night 12 3
 rm bin/date bin/mail
 hash -r
 
@@ -713,8 +803,7 @@ chmod 644 closed/*.txt closed/data/*
 chmod 000 "closed/data/$hostile"
 chmod 777 .
 reads() { if ((EUID)); then "$@"; else setpriv --reuid 65534 --regid 65534 --clear-groups "$@"; fi; }
-fails 'a file of mode 000' reads ./bagit --validate closed
-mv printed report
+! reads ./bagit --validate closed >report || give_up 'a file of mode 000 is read'
 way=$(block docs/FAULTS.md "Going on after a file that can't be read" 1 | sed 's/^bagit/.\/&/; s/DIR/closed/')
 fails docs/FAULTS.md reads bash -c "$way"
 [[ $(cut -d ' ' -f 1-3 printed) == $'701 payload-sum-differs data/z\nclosed rest done,' ]] ||
@@ -724,6 +813,60 @@ way=$(block docs/FAULTS.md "\`unread\`: what couldn't be read" 1)
     give_up "docs/FAULTS.md: $way gives another path"
 runs_nothing docs/FAULTS.md
 followed=$((followed + 2))
+
+# FAULTS: a file comes back only if the copy's has the right digests, and what was there is kept, whatever the names are.
+new_lost() {
+    rm -rf lost* copy
+    mkdir -p lost/-s lost/sub
+    for name in "$hostile" -s/$'a\nb' sub/-n 'two words' better gone; do echo "$name" >"lost/$name"; done
+    bagit --quiet --md5 --sha512 lost
+    echo tag >lost/-t
+    for algorithm in md5 sha512; do (cd lost && "${algorithm}sum" -- -t >>"tagmanifest-$algorithm.txt"); done
+    cp -a lost copy
+}
+restores() { # ANSWER COPY: by the page's last line
+    follow docs/FAULTS.md 'Restoring files from another copy' 1 DIR lost COPY "$2" >printed 2>&1 || true
+    [[ $(tail -n 1 printed) == "$work/lost $1" ]] || wrong "docs/FAULTS.md: a bag isn't restored: $1"
+    runs_nothing docs/FAULTS.md
+    followed=$((followed + 1))
+}
+new_lost
+find lost/data -type f -exec sh -c 'for file; do echo x >>"$file"; done' sh {} +
+rm lost/data/gone lost/manifest-md5.txt
+echo x | tee -a lost/-t >>lost/bag-info.txt
+cp -a lost before
+restores 'is valid' copy
+diff -r lost copy
+kept=$(cd lost.kept.*/old && find . -type f -exec cmp {} ../../before/{} \; -printf .)
+[[ $kept == ....... ]] || give_up "docs/FAULTS.md: of 7 files that were replaced ${#kept} are kept"
+restores 'is valid' copy
+rm -r before
+new_lost
+echo bettex >lost/data/better
+: >copy/data/better
+rm lost/data/gone
+cp -a lost before
+restores 'has faults: 2' copy
+diff <(diff -rq before lost) - <<<'Only in lost/data: gone' || give_up 'docs/FAULTS.md: a better file is replaced'
+restores 'has faults: 2' lost
+ln -sf /proc/version copy/data/better
+for names in 'lost copy' 'lost nowhere' 'nowhere copy'; do
+    fails docs/FAULTS.md follow docs/FAULTS.md 'Restoring files from another copy' 1 DIR "${names% *}" COPY "${names#* }"
+done
+diff <(diff -rq before lost) - <<<'Only in lost/data: gone' || give_up 'docs/FAULTS.md: a bag is restored from nowhere'
+[[ ! $(compgen -G 'nowhere*') ]] || give_up 'docs/FAULTS.md: something is made where no bag is'
+rm -r lost* copy before
+new_lost
+mkdir elsewhere
+mv copy elsewhere/
+for bag in lost elsewhere/copy; do
+    rm $bag/tagmanifest-*.txt
+    printf '%s  data/../../evil\n' "$ma" | tee -a $bag/manifest-md5.txt >>$bag/manifest-sha512.txt
+done
+printf a >elsewhere/evil
+restores 'has faults: 2' elsewhere/copy
+[[ ! -e evil ]] || give_up 'docs/FAULTS.md: a file is restored outside the bag'
+rm -r lost* elsewhere
 
 # FAULTS: a tag file is changed or removed together with its lines, also one whose name is spelled otherwise in them.
 note=$'notes/-'$hostile$'\nend'
@@ -812,6 +955,7 @@ title="What a check can't show"
 for alters in true 'rm kept/tagmanifest-*.txt; echo X: y >>kept/bag-info.txt' \
     'rm -r kept/tagmanifest-*.txt kept/data/* kept/bag-info.txt; truncate -s 0 kept/manifest-*.txt'; do
     new_hostile kept
+    rm -f kept.sha256
     follow docs/FAULTS.md "$title" 1 DIR kept
     eval "$alters"
     [[ $(bagit --validate kept) == 'kept is valid' ]] || give_up "a bag isn't valid after $alters"
@@ -821,6 +965,38 @@ for alters in true 'rm kept/tagmanifest-*.txt; echo X: y >>kept/bag-info.txt' \
         give_up "docs/FAULTS.md: what is kept elsewhere ends with $status after $alters"
     followed=$((followed + 1))
 done
+cp kept.sha256 written
+echo X: y >>kept/bag-info.txt
+for gone in true 'mv kept elsewhere' 'mkdir kept'; do # written again, the bag gone, an empty folder in its place
+    $gone
+    fails "$title" follow docs/FAULTS.md "$title" 1 DIR kept
+    cmp kept.sha256 written || give_up "docs/FAULTS.md: digests that were kept are lost after $gone"
+done
+rm kept.sha256
+fails "$title" follow docs/FAULTS.md "$title" 1 DIR kept
+[[ ! -e kept.sha256 ]] || give_up 'docs/FAULTS.md: no digests are kept'
+
+# FAULTS: a % is spelled anew in a bag of version 1.0, and not in an older one, which has a 105, as the row of 503 says.
+row=$(grep '^| 503 ' "$root/docs/FAULTS.md")
+for version in 1.0 0.96 0.93; do
+    rm -rf older
+    mkdir -p older/data
+    declare_bag | sed "s/1\.0/$version/" >older/bagit.txt
+    printf a >older/data/100%
+    printf '%s  data/100%%\n' "$ma" >older/manifest-md5.txt
+    fails "a bag of $version" bagit --validate older
+    grep -q '^503 ' printed || wrong "a bag of $version has no 503"
+    ! grep -q '^105 ' printed || [[ $row == *'With a 105 of 0.93 to 0.96 leave it'* ]] || wrong 'docs/FAULTS.md: 503 in an old bag'
+done
+compares=$(grep -o '(cd DIR && md5sum [^`]*' <<<"$row")
+bash <<<"${compares/DIR/older}" || give_up "docs/FAULTS.md: '$compares' finds a fault in an old bag"
+echo >>older/data/100%
+fails docs/FAULTS.md bash <<<"${compares/DIR/older}"
+printf a >older/data/100%
+declare_bag >older/bagit.txt
+[[ $row == *'Else write `%25` for a `%`'* ]] && sed -i 's/%/%25/' older/manifest-md5.txt
+[[ $(bagit --validate older) == 'older is valid' ]] || give_up 'docs/FAULTS.md: what 503 says does not help'
+followed=$((followed + 4))
 
 # PROFILES: of the keys with a wrong value the first of its table is named, and the archive file's way round lets a bag pass.
 mapfile -t keys < <(sed -n '/^## The keys$/,/^## /s/^| `\([^`]*\)` .*/\1/p' "$root/docs/PROFILES.md")

@@ -83,7 +83,7 @@ is_whole_bag() {
         [[ $(wc -l <d/manifest-sha256.txt) == $(wc -l <files) && $(wc -l <d/tagmanifest-md5.txt) == 4 ]]
 }
 
-# Moves back what a making that didn't end has moved, as docs/NOT_MADE.md says it.
+# Moves back what a making that didn't end has moved, as docs/NOT_MADE.md says it, but that the tag files aren't kept.
 move_back() {
     if [[ ! -e d/.bagit-new && -e d/w ]]; then return; fi
     (

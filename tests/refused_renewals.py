@@ -8,6 +8,7 @@ import re
 import shutil
 import subprocess
 import sys
+import tempfile
 import threading
 from concurrent.futures import ThreadPoolExecutor
 from pathlib import Path
@@ -23,6 +24,7 @@ LEFT_ALONE = ("execve", "exit", "exit_group")
 CAUSES = "device|special|name|not-found|changed|too-many|exists|memory"
 NOT_RENEWED = re.compile(rf"d not renewed: (?:(read|put|remove) (\S+) (?:{CAUSES})|out of memory)\n")
 COMPLAINT = re.compile(r"bagit-renew: (out of memory|output refused)\n")
+INFO, PRIVATE = b"bag-info.txt", 0o100600
 PAYLOAD = {"data/first.txt": b"one", "data/letters/50%.txt": b"two", "data/empty": b"", "data/large": b"x" * 200_000}
 
 
@@ -47,6 +49,7 @@ def make_bag(top, version, algorithms, tag_algorithms):
         files[renew.manifest_path(algorithm)] = renew.manifest_of(algorithm, payload)
     tags = {renew.tag_manifest_path(algorithm): renew.manifest_of(algorithm, files) for algorithm in tag_algorithms}
     renew.write({**payload, **files, **tags}, top)
+    os.chmod(f"{top}/{INFO.decode()}", 0o600)
     demand(renew.is_valid(top), renew.why_invalid(top))
 
 
@@ -57,7 +60,9 @@ def cases():
     (Path("two") / BEGUN.decode()).write_bytes(b"begun")
     element = (("Contact-Name", "Bob"), ("External-Identifier", "A 2026/17"))
     yield Case("SHA-512 beside MD5", "md5", Options(add=("sha512",)), True)
-    yield Case("elements, and without MD5", "two", Options(drop=("md5",), unset=("bag-size",), set=element), False)
+    without_md5 = Options(drop=("md5",), unset=("bag-size",), set=element)
+    yield Case("elements, and without MD5", "two", without_md5, True)
+    yield Case("the same unchecked", "two", without_md5._replace(unchecked=True), False)
     to_1_0 = Options(add=("sha256",), drop=("md5",), set=element, to_1_0=True)
     yield Case("0.97 with MD5 to 1.0 with SHA-256", "old", to_1_0, True)
 
@@ -129,6 +134,7 @@ class Judge:
 
     def check(self, before, after, ended, injection):
         self.check_files(before, after)
+        self.check_modes(before, after)
         self.check_answer(after.files, ended, ":signal=KILL" in injection)
 
     def check_files(self, before, after):
@@ -141,6 +147,17 @@ class Judge:
         for path in before.files:
             may_go = path not in self.wanted.files or renew.is_tag_manifest(path)
             demand(path in after.files or may_go, f"{path} is lost")
+
+    def check_modes(self, before, after):
+        """A file has the mode of the one in whose place it is, or of bagit.txt; until then nobody else can open it."""
+        for path, stat in after.stats.items():
+            mode = before.stats.get(path, before.stats[b"bagit.txt"]).st_mode
+            content, info = after.files[path], self.wanted.files[INFO]
+            if path == BEGUN:
+                may_be = (PRIVATE,) if content and info.startswith(content) else (PRIVATE, mode)
+            else:
+                may_be = (mode,)
+            demand(stat.st_mode in may_be, f"{path} has the mode {stat.st_mode:o}")
 
     def check_answer(self, files, ended, is_killed):
         whole = "d renewed\n"
@@ -208,8 +225,7 @@ def try_injection(programs, judge, folder, injection):
 
 def try_case(programs, case, pool):
     """How many calls were refused, and what is wrong."""
-    judge, folder = Judge(programs, case), Path(case.top + "-work").absolute()
-    folder.mkdir()
+    judge, folder = Judge(programs, case), Path(tempfile.mkdtemp(prefix=f"{case.top}-work.", dir=".")).absolute()
     shutil.copytree(case.top, folder / "d")
     ended = run(programs, case, folder)
     demand(ended[:3] == (0, "d renewed\n", ""), f"{case.name}: without a refusal it ends with {ended[:3]}")

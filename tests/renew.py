@@ -39,6 +39,7 @@ class Refused(Exception):
 class Options(NamedTuple):
     add: tuple = ()
     drop: tuple = ()
+    unchecked: bool = False
     unset: tuple = ()
     set: tuple = ()  # pairs of a label and a value, and so are those appended
     append: tuple = ()
@@ -49,7 +50,8 @@ class Options(NamedTuple):
         lists = [f"--{name}={','.join(values)}" for name, values in (("add", self.add), ("drop", self.drop)) if values]
         unset = [f"--unset={label}" for label in self.unset]
         given = [f"--{name}={label}={value}" for name in ("set", "append") for label, value in getattr(self, name)]
-        return [*lists, *unset, *given, *["--to-1.0"] * self.to_1_0]
+        flags = [flag for flag, is_given in (("--unchecked", self.unchecked), ("--to-1.0", self.to_1_0)) if is_given]
+        return [*lists, *unset, *given, *flags]
 
     def has_elements(self):
         return bool(self.unset or self.set or self.append)
@@ -355,8 +357,11 @@ def field(path):
 
 
 def reads_payload(files, options):
-    """Whether the payload is read: an algorithm is added, or all manifests are written anew."""
-    return known_version(files) == "0.97" or not {*algorithms_left(files, options)} <= {*algorithms_of(files)}
+    """Whether the payload is read: an algorithm is added, all manifests are written anew, or one that is there is dropped
+    and not unchecked."""
+    there = {*algorithms_of(files)}
+    is_compared = not (options.unchecked or there.isdisjoint(options.drop))
+    return is_compared or known_version(files) == "0.97" or not {*algorithms_left(files, options)} <= there
 
 
 def is_named(files, path, version):
@@ -431,11 +436,12 @@ def options_of(words):
     parser.add_argument("--unset", action="append", default=[])
     for name in ("set", "append"):
         parser.add_argument(f"--{name}", action="append", default=[], type=pair)
+    parser.add_argument("--unchecked", action="store_true")
     parser.add_argument("--to-1.0", action="store_true", dest="to_1_0")
     parser.add_argument("directories", nargs="*")
     found = parser.parse_args(words)
     given = {name: tuple(getattr(found, name)) for name in ("add", "drop", "unset", "set", "append")}
-    return Options(**given, to_1_0=found.to_1_0), found.directories
+    return Options(**given, unchecked=found.unchecked, to_1_0=found.to_1_0), found.directories
 
 
 def pair(text):

@@ -88,6 +88,18 @@ first_fault d
 [[ $fault == '701 payload-sum-differs data/first.txt md5 - '* ]] || give_up "the damaged bag has another fault: $fault"
 leaves renews 1 --add sha512 d <<<"d not renewed: fault $fault"
 leaves renews 1 --add sha512 --drop md5 d <<<"d not renewed: fault $fault"
+# (MD5 alone tells it where SHA-256 came after it, and isn't dropped, unless that is asked for unchecked.)
+cp -a d damaged
+rm d/tagmanifest-md5.txt
+(cd d && sha256sum data/first.txt data/letters/50%.txt | sed s/%/%25/ >manifest-sha256.txt)
+for words in '--drop md5' '--drop sha256' '--add sha256 --drop md5' '--add sha512 --drop md5 --unchecked'; do
+    # shellcheck disable=SC2086
+    leaves renews 1 $words d <<<"d not renewed: fault $fault"
+done
+renews 0 --drop md5 --unchecked d <<<'d renewed'
+valid d
+rm -r d
+mv damaged d
 leaves renews 1 --dry-run --add sha512 d <<<"d not renewed: fault $fault"
 # (An element is corrected without reading the payload; the fault stays one.)
 renews 0 --set Contact-Name=Bob d <<<'d renewed'
@@ -261,7 +273,7 @@ refuses '--append takes LABEL=VALUE' --append '' d
 refuses '--print takes an algorithm, as sha512' --print sha d
 refuses '--print takes one directory' --print sha512 d d
 refuses "a word isn't UTF-8" $'\xff' d
-for words in '--add sha512' '--drop md5' '--set a=b' '--unset a' '--append a=b' --to-1.0 --dry-run; do
+for words in '--add sha512' '--drop md5' --unchecked '--set a=b' '--unset a' '--append a=b' --to-1.0 --dry-run; do
     # shellcheck disable=SC2086
     refuses '--print takes no other option but --quiet' --print sha512 $words d
 done
@@ -305,7 +317,7 @@ look next | diff before_next - || give_up 'it went on after its output refused'
 
 # Help.
 "$renew" --help >said
-for option in --add --drop --set --append --unset --to-1.0 --dry-run --print --quiet --help; do
+for option in --add --drop --unchecked --set --append --unset --to-1.0 --dry-run --print --quiet --help; do
     grep -q -- "$option" said || give_up "--help doesn't name $option"
 done
 

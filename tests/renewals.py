@@ -141,6 +141,7 @@ def draw_options(draw):
         set=tuple(element() for _ in range(draw.choice(counts))),
         append=tuple(element() for _ in range(draw.choice(counts))),
         to_1_0=draw.random() < 0.6,
+        unchecked=draw.random() < 0.4,
     )
 
 

@@ -48,13 +48,20 @@ def line_of(record):
     return f"{line}, faults: {record['faults']}" if record.get("faults") not in (None, "") else line
 
 
+def without_marks(record):
+    """A row without the `'` in front of what a spreadsheet would take for a formula."""
+    if any(value and re.match("[=+@\t\r-]", value) for value in record.values()):
+        sys.exit(f"a formula: {record}")
+    return {name: re.sub("^'(?='*[=+@\t\r-])", "", value) for name, value in record.items()}
+
+
 def print_report(form):
     if form == "json":
         records = map(json.loads, sys.stdin)
     else:
         sys.stdin.reconfigure(encoding="utf-8", newline="")
         lines = (line.replace("\0", NUL_READ) for line in sys.stdin)
-        records = csv.DictReader(lines, dialect="excel" if form == "csv" else "excel-tab", strict=True)
+        records = map(without_marks, csv.DictReader(lines, dialect="excel" if form == "csv" else "excel-tab", strict=True))
     for record in records:
         print(line_of(record))
 
@@ -137,7 +144,8 @@ def write_cases(folder, page, out):
             file.writelines(lines)
 
 
-if sys.argv[1] == "cases":
-    write_cases(*sys.argv[2:])
-else:
-    print_report(sys.argv[1])
+if __name__ == "__main__":
+    if sys.argv[1] == "cases":
+        write_cases(*sys.argv[2:])
+    else:
+        print_report(sys.argv[1])

@@ -1,5 +1,5 @@
 #!/usr/bin/env bash
-# Reads reports by bagit-report. Each line of a fault in the case files, decoded and encoded again, is that line, by
+# Reads reports by `bagit-keep report`. Each line of a fault in the case files, decoded and encoded again, is that line, by
 # JSON, CSV and tab-separated values, and each line that they call none is rejected; reports end with the status that
 # the cases want of bagit. Files of a bag that are damaged are restored from a copy, whatever their names are, and no
 # name runs a command.
@@ -12,15 +12,15 @@ source "$(dirname "$0")/common.sh"
 take_program bagit "${1:-}"
 needs python3
 enter report
-export PATH=$root/packaging:$PATH
+export PATH=$root/companions:$PATH
 data=$root/crates/test_cases/data
 
-# Runs bagit-report, sees its status, and leaves what it printed.
+# Runs bagit-keep report, sees its status, and leaves what it printed.
 ends_with() {
     local wanted=$1 status=0
     shift
-    bagit-report "$@" >printed 2>errors || status=$?
-    ((status == wanted)) || { cat errors; give_up "bagit-report $* ends with $status in place of $wanted"; }
+    bagit-keep report "$@" >printed 2>errors || status=$?
+    ((status == wanted)) || { cat errors; give_up "bagit-keep report $* ends with $status in place of $wanted"; }
 }
 
 # The data of a report, by each form, say what stands in it.
@@ -36,15 +36,15 @@ comes_back() {
 rejects_each_line() {
     ends_with 2 "$1"
     [[ ! -s printed ]] || give_up "something is written of $1"
-    sed -n "s/^bagit-report: $1: line \([0-9]*\) is no line of a report: .*/\1/p" errors |
+    sed -n "s/^bagit-keep: $1: line \([0-9]*\) is no line of a report: .*/\1/p" errors |
         diff <(seq "$(wc -l <"$1")") - || give_up "a line of $1 is taken"
 }
 
 # The codes and words are those of FAULTS.
 sed -n 's/^| \([1-8][0-9][0-9]\) | `\([a-z0-9-]*\)`.*/\1 \2/p' "$root/docs/FAULTS.md" >codes
 (($(wc -l <codes) > 40)) || give_up 'docs/FAULTS.md has no codes'
-sed -nE 's/^([1-8][0-9]{2} [a-z0-9-]+)(""".*)?$/\1/p' "$root/packaging/bagit-report" | diff codes - ||
-    give_up 'bagit-report has other codes or words than docs/FAULTS.md'
+sed -nE 's/^    ([1-8][0-9]{2}): "([a-z0-9-]+)",$/\1 \2/p' "$root/companions/bagitkeep/lines.py" | diff codes - ||
+    give_up 'bagit-keep report has other codes or words than docs/FAULTS.md'
 
 # The case files: their faults, the lines that are none, and whole reports.
 python3 "$tests/report.py" cases "$data" "$root/docs/FAULTS.md" .
@@ -126,7 +126,7 @@ printf '%s\n' "$two" >killed
 ends_with 3 killed several
 [[ $(head -n 1 printed) == '{"bag": null, "code": 601, '* && $(wc -l <printed) == 8 ]] ||
     give_up 'a report that was killed is left out'
-grep -qx "bagit-report: killed isn't finished: after 2 faults there is no closing line" errors ||
+grep -qx "bagit-keep: killed isn't finished: after 2 faults there is no closing line" errors ||
     give_up 'it says nothing of a killed report'
 printf '%s\nd has faults: 2' "$two" >part
 ends_with 3 part
@@ -135,7 +135,7 @@ ends_with 3 part
 ends_with 3 /dev/null
 ends_with 3 nowhere several
 [[ ! -s printed ]] || give_up 'something is written, though a report is missing'
-bagit-report several 2>/dev/null >/dev/full && give_up 'an output that is full is no failure'
+bagit-keep report several 2>/dev/null >/dev/full && give_up 'an output that is full is no failure'
 (($? == 3)) || give_up 'an output that is full has another status'
 
 # A line is missing, or those of another report are among them: a killed one in front of a good one, say.
@@ -160,27 +160,88 @@ reports by how they end:
         1 isn't finished
         1 has faults
         1 is valid
-faults by code:
+files by fault:
         1 201 no-payload-folder
         2 601 payload-file-missing
         7 603 payload-file-not-listed
-faults by bag and first folder:
-        3 d: data/x/
-        2 (no closing line): data/
-        1 d: data/
-        1 d: data/é\x1b/
-        1 d: notes/
-        1 d: ./
-        1 d: -
+files by bag, first folder and fault:
+        3 d: data/x/ 603 payload-file-not-listed
+        2 (no closing line): data/ 601 payload-file-missing
+        1 d: data/ 603 payload-file-not-listed
+        1 d: data/é\x1b/ 603 payload-file-not-listed
+        1 d: notes/ 603 payload-file-not-listed
+        1 d: ./ 603 payload-file-not-listed
+        1 d: - 201 no-payload-folder
 END
+
+# A file that has several faults of one code, by several algorithms or in several lines, is one file.
+{
+    for line in 1 2 7; do echo "501 manifest-line manifest-md5.txt md5 $line -"; done
+    for name in a b; do for algorithm in md5 sha1 sha512; do echo "601 payload-file-missing data/$name $algorithm - -"; done; done
+    echo "701 payload-sum-differs data/a sha256 - $ma:$mb"
+    echo 'd has faults: 10'
+} >long
+ends_with 1 --summary long long
+diff printed - <<'END' || give_up 'the summary counts lines'
+reports by how they end:
+        2 has faults
+files by fault:
+        2 501 manifest-line
+        4 601 payload-file-missing
+        2 701 payload-sum-differs
+files by bag, first folder and fault:
+        4 d: data/ 601 payload-file-missing
+        2 d: ./ 501 manifest-line
+        2 d: data/ 701 payload-sum-differs
+END
+
+# `unchecked made` is of a bag of that name where bags are made, and of a profile's key above a check.
+printf 'unchecked made\n' >made
+printf 'unchecked made\nd not made: bad value\n' >not_made
+printf 'unchecked made\nd is valid\n' >key
+ends_with 0 made
+diff printed <(echo '{"bag": "unchecked", "ended": "made"}')
+ends_with 3 not_made
+[[ $(head -n 1 printed) == '{"bag": "unchecked", "ended": "made"}' ]] || give_up 'a bag of the name unchecked is a key'
+ends_with 0 key made
+diff printed - <<'END' || give_up 'a key is a bag'
+{"word": "unchecked", "detail": "made"}
+{"bag": "d", "ended": "is valid"}
+{"bag": "unchecked", "ended": "made"}
+END
+
+# No cell is a formula, and each text comes back (tests/report.py takes the mark away, and finds none without).
+printf '809 tag-file-required %s - - -\n' =1+1 @SUM -1 +1 %09x %0Dx "'=1" "''=1" "'a" >formulas
+echo '=d has faults: 9' >>formulas
+comes_back 1 formulas
+
+# Streams that are closed, or full; a line of 20 MB; a process that is interrupted.
+bagit-keep report several >&- 2>errors && give_up 'an output that is closed is no failure'
+grep -q 'standard output is closed' errors || give_up 'it says nothing of a closed output'
+for way in '2>&-' '2>/dev/full'; do
+    status=0
+    eval "bagit-keep report wrong >printed $way" || status=$?
+    ((status == 2)) && [[ ! -s printed ]] || give_up "with $way a line of no report ends with $status"
+done
+head -c 20000000 /dev/zero | tr '\0' x >long
+ends_with 3 long
+(($(wc -c <errors) < 1000)) || give_up 'a long line is said whole'
+mkfifo pipe
+bagit-keep report pipe >printed 2>errors &
+exec 3>pipe
+kill -TERM "$!"
+status=0
+wait "$!" || status=$?
+exec 3>&-
+((status == 3)) && ! grep Traceback errors || { cat errors; give_up "interrupted it ends with $status"; }
 
 # On a terminal no name is obeyed.
 printf '802 label-required bag-info.txt - - %%1B[31m%%07\nd has faults: 1\n' >red
 printf '\033[31m\n' >redder
 if type -P script >/dev/null; then
     for words in '--csv red' '--tsv red' '--summary red' '--json red' redder; do
-        script -qc "bagit-report $words" /dev/null </dev/null >shown || true
-        [[ -s shown ]] && ! grep -q $'[\033\007]' shown || give_up "a terminal obeys what bagit-report $words shows"
+        script -qc "bagit-keep report $words" /dev/null </dev/null >shown || true
+        [[ -s shown ]] && ! grep -q $'[\033\007]' shown || give_up "a terminal obeys what bagit-keep report $words shows"
     done
 fi
 
@@ -236,7 +297,7 @@ damaged=$(find copy/data -type f ! -name plain -printf . | wc -c)
 restore() (
     set +o pipefail
     cd copy
-    bagit-report --files "$1" ../report | xargs -0 -r cp -a --parents -t ../archive
+    bagit-keep report --files "$1" ../report | xargs -0 -r cp -a --parents -t ../archive
 )
 ends_with 1 --files 601,701 report
 (($(tr -cd '\0' <printed | wc -c) == damaged && damaged > 15)) || give_up 'not each damaged file is named once'
@@ -253,7 +314,7 @@ diff -r archive copy
 seq -f "701 payload-sum-differs data/%.0f md5 - $ma:$mb" 100000 >many
 echo 'd has faults: 100000' >>many
 status=0
-(ulimit -v 60000 && bagit-report --csv many >printed) || status=$?
+(ulimit -v 60000 && bagit-keep report --csv many >printed) || status=$?
 ((status == 1 && $(wc -l <printed) == 100002)) || give_up "many lines end with $status"
 
 echo "$faults lines of faults, $(cat status-* | wc -l) lines of whole reports and $(wc -l <endings) endings come back" \

@@ -1,5 +1,6 @@
 """All parts of a check: several processes that check them, and the report that they come to."""
 import collections
+import contextlib
 import os
 import pathlib
 import secrets
@@ -104,9 +105,13 @@ def ranges_of(numbers):
 
 
 def refuse_arguments(asked):
-    """Refuses what bagit refuses before it looks at a bag, such as a profile that is none."""
+    """Refuses what bagit refuses before it looks at a bag, such as a profile that is none, and says what it said."""
     words = [os.environ.get("BAGIT") or "bagit", "--validate", "--part", "1/1", *asked.options, "--", os.devnull]
-    if subprocess.run(words, stdin=subprocess.DEVNULL, stdout=subprocess.DEVNULL, check=False).returncode == 2:
+    streams = {"stdin": subprocess.DEVNULL, "stdout": subprocess.DEVNULL, "stderr": subprocess.PIPE}
+    tried = subprocess.run(words, check=False, **streams)
+    if tried.returncode == 2:
+        with contextlib.suppress(OSError):
+            os.write(2, tried.stderr)
         raise Refusal("bagit rejects these arguments", 2)
 
 

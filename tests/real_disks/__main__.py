@@ -34,7 +34,7 @@ from os import access, X_OK
 from pathlib import Path
 
 from file_systems import FILE_SYSTEMS
-from machine import answer_to, missing_packages, starts, stop
+from machine import answer_to, missing_packages, stop, why_none_starts
 from renewing import RENEWALS
 
 FAILED, SKIPPED = 2, 77
@@ -158,8 +158,9 @@ def main():
     if missing:
         print("skipped: packages are missing; as root: apt-get install", *missing)
         return SKIPPED
-    if not starts():
-        print("skipped: user-mode Linux doesn't start here")
+    why = why_none_starts()
+    if why:
+        print(f"skipped: user-mode Linux doesn't start here: {why}")
         return SKIPPED
     answers = answers_to(jobs, chosen.jobs)
     kernels = {answer["kernel"] for answer in answers if "kernel" in answer}

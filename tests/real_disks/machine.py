@@ -1,6 +1,7 @@
 """A small virtual machine for each trial: user-mode Linux, which is a program and needs no root."""
 import json
 import os
+import re
 import shutil
 import subprocess
 import sys
@@ -12,7 +13,8 @@ from file_systems import FILE_SYSTEMS
 LINUX, MODULES = "linux.uml", "/usr/lib/uml/modules"
 WORDS = "mem=1000M root=/dev/root rootfstype=hostfs rootflags=/ ro quiet panic=-1 con=null con0=null,fd:1".split()
 PATH = os.environ.get("PATH", "") + ":/usr/sbin:/sbin"
-END_OF_FIRST_PROCESS = "Attempted to kill init"
+END_OF_FIRST_PROCESS = "Attempted to kill init! exitcode=0x00000000"
+REASONS = re.compile(r".*(?:panic|errno|registers|regs).*")
 machines = []
 
 
@@ -39,10 +41,14 @@ def stop():
         machine.terminate()
 
 
-def starts():
-    """Whether a machine comes as far as its first process, which ends at once."""
+def why_none_starts():
+    """None if a machine runs its first process to its end, else what its console says of it: user-mode Linux 6.1 can't
+    give a process its registers on a processor with AMX (`put_fp_registers`), and kills the first one."""
     with tempfile.TemporaryDirectory(prefix="real-disks-") as folder:
-        return END_OF_FIRST_PROCESS in boot(folder, "/bin/true")
+        console = boot(folder, sys.executable, "-c", "pass")
+    if END_OF_FIRST_PROCESS in console:
+        return None
+    return "; ".join(REASONS.findall(console)) or console[-500:] or "it says nothing"
 
 
 def answer_to(job):

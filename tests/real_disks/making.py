@@ -21,7 +21,7 @@ FOLDERS = ("no files here", "letters 1900/no files either")
 NEW_FOLDER, PAYLOAD = ".bagit-new", "data"
 TAG_FILES = ("bagit.txt", "bag-info.txt", "manifest-", "tagmanifest-")
 
-# docs/NOT_MADE.md, 'The way back'
+# docs/NOT_MADE.md, 'The way back', which keeps the tag files
 MOVE_BACK = "find .bagit-new -mindepth 1 -maxdepth 1 -exec mv -n -t . {} + && rmdir .bagit-new"
 FROM_NEW_FOLDER = f"rm -f bagit.txt && {MOVE_BACK}"
 FROM_DATA = f"mv data .bagit-new && rm -f bagit.txt bag-info.txt manifest-*.txt tagmanifest-*.txt && {MOVE_BACK}"

@@ -7,18 +7,26 @@ ghost use Rattle.bag_disk.specs.declared.disk.Entry.TheVariants.{File, Folder, O
 
 use crate::disk::{DiskFault, Entry};
 use crate::location::{is_location, location_below};
+use crate::ownership::{Access, PRIVATE, RemovedFiles, give_owner, take_after};
 use crate::system_fault::answer_of;
 use bag_text::Text;
 use bag_tree::Heard;
 use std::alloc::{AllocError, Global};
 use std::fs::{DirEntry, Metadata, OpenFile, OpenOptions, ReadDir};
+use std::io::ErrorKind;
 use std::os::fd::AsFd;
-use std::os::unix::fs::{MetadataExt, fchown};
+use std::os::unix::fs::{MetadataExt, OpenOptionsExt};
 use std::rt::Files;
 use std::{fs, io};
 
+/// The mode that a new file has, but for what the process's mask takes away.
+const USUAL: u32 = 0o666;
+
+/// The file that each bag has. (RFC 8493, 2.1.1)
+const DECLARATION: &str = "bagit.txt";
+
 /// A base folder of the system. Each call takes a path below it, and is one call of the system's
-/// where that path stands; what was made is then given the base folder's owner and group.
+/// where that path stands; what was made is then given an owner, a group and a mode.
 #[derive(Drop)]
 pub(crate) struct BaseFolder {
     alloc: Global,
@@ -106,7 +114,7 @@ impl BaseFolder {
     {
         let location = self.location(path)?;
         answer_of(fs::create_dir(rt, location.as_str()))?;
-        if let Ok(folder) = open_itself(rt, location.as_str()) {
+        if let Ok(folder) = open_folder(rt, location.as_str()) {
             if let Ok(base) = fs::metadata(rt, self.path.as_str()) {
                 give_owner(&folder, &base);
                 let _ = folder.set_permissions(base.permissions());
@@ -122,29 +130,97 @@ impl BaseFolder {
         answer_of(fs::rename(rt, from.as_str(), to.as_str()))
     }
 
-    /// Removes the file at a path.
-    pub(crate) fn remove<R: Files>(&self, rt: &R, path: &str) -> Result<(), DiskFault> {
+    /// Removes the file at a path, and notes what it was.
+    pub(crate) fn remove<R: Files>(
+        &self,
+        rt: &R,
+        path: &str,
+        removed: &mut RemovedFiles,
+    ) -> Result<(), DiskFault> {
         let location = self.location(path)?;
+        let metadata = answer_of(fs::symlink_metadata(rt, location.as_str()))?;
+        removed.note(path, Access::of(&metadata))?;
         answer_of(fs::remove_file(rt, location.as_str()))
     }
 
-    /// Makes a file at a path, open for writing, with the base folder's owner and group as far as
-    /// the system lets it. It replaces none.
+    /// Makes a file at a path, open for writing. It replaces none.
+    ///
+    /// One whose name begins with a dot is on its way to another name, by `replace`: nobody but
+    /// this process's user may open it until then. Any other has the base folder's owner and group,
+    /// as far as the system lets it.
     pub(crate) fn create<R: Files>(&self, rt: &R, path: &str) -> Result<R::File, DiskFault>
     where
         R::File: AsFd,
     {
-        let location = self.location(path)?;
-        let file = answer_of(
-            OpenOptions::new()
-                .write(true)
-                .create_new(true)
-                .open(rt, location.as_str()),
-        )?;
+        if path.starts_with('.') {
+            return self.create_with(rt, path, PRIVATE);
+        }
+        let file = self.create_with(rt, path, USUAL)?;
         if let Ok(base) = fs::metadata(rt, self.path.as_str()) {
             give_owner(&file, &base);
         }
         Ok(file)
+    }
+
+    /// Makes a file at a path, open for writing, with a mode. It replaces none.
+    fn create_with<R: Files>(&self, rt: &R, path: &str, mode: u32) -> Result<R::File, DiskFault> {
+        let location = self.location(path)?;
+        answer_of(
+            OpenOptions::new()
+                .write(true)
+                .create_new(true)
+                .mode(mode)
+                .open(rt, location.as_str()),
+        )
+    }
+
+    /// Gives the file at one path another, in place of any file that has it. Before that it takes
+    /// the owner, the group and the mode of the file that it replaces, or of the one that was
+    /// removed there, or else of `bagit.txt`, and they are synced. Where there is none of these it
+    /// keeps its own.
+    pub(crate) fn replace<R: Files>(
+        &self,
+        rt: &R,
+        from: &str,
+        to: &str,
+        removed: &RemovedFiles,
+    ) -> Result<(), DiskFault>
+    where
+        R::File: AsFd,
+    {
+        if let Some(model) = self.model(rt, to, removed)? {
+            let location = self.location(from)?;
+            let begun = answer_of(open_file(rt, location.as_str()))?;
+            answer_of(take_after(&begun, model))?;
+        }
+        self.rename(rt, from, to)
+    }
+
+    /// Who may open a file that is put at a path.
+    fn model<R: Files>(
+        &self,
+        rt: &R,
+        path: &str,
+        removed: &RemovedFiles,
+    ) -> Result<Option<Access>, DiskFault> {
+        if let Some(access) = self.access(rt, path)? {
+            return Ok(Some(access));
+        }
+        if let Some(access) = removed.find(path) {
+            return Ok(Some(access));
+        }
+        self.access(rt, DECLARATION)
+    }
+
+    /// Who may open the file at a path, where one stands there.
+    fn access<R: Files>(&self, rt: &R, path: &str) -> Result<Option<Access>, DiskFault> {
+        let location = self.location(path)?;
+        match fs::symlink_metadata(rt, location.as_str()) {
+            Ok(metadata) if metadata.is_file() => Ok(Some(Access::of(&metadata))),
+            Ok(_) => Ok(None),
+            Err(error) if error.kind() == ErrorKind::NotFound => Ok(None),
+            Err(error) => Err(DiskFault::of(&error)),
+        }
     }
 
     /// Syncs a folder, so that the names in it are durable.
@@ -176,23 +252,34 @@ impl BaseFolder {
     }
 }
 
-/// Gives what is open this owner and group, or where the system refuses the owner, the group alone:
-/// a member of a group may give that.
-fn give_owner<F: AsFd>(opened: &F, base: &Metadata) {
-    let group = Some(base.gid());
-    if fchown(opened, Some(base.uid()), group).is_err() {
-        let _ = fchown(opened, None, group);
+/// Opens the folder where this is for the system, and none that a link leads to.
+fn open_folder<R: Files>(rt: &R, location: &str) -> io::Result<R::File> {
+    let there = fs::symlink_metadata(rt, location)?;
+    if there.is_dir() {
+        open_seen(rt, location, &there)
+    } else {
+        Err(io::Error::from(ErrorKind::NotADirectory))
     }
 }
 
-/// Opens the folder where this is for the system, and none that a link leads to.
-fn open_itself<R: Files>(rt: &R, location: &str) -> io::Result<R::File> {
-    let folder = fs::open(rt, location)?;
-    let (opened, there) = (folder.metadata()?, fs::symlink_metadata(rt, location)?);
-    if there.is_dir() && (opened.dev(), opened.ino()) == (there.dev(), there.ino()) {
-        Ok(folder)
+/// Opens the regular file where this is for the system, and none that a link leads to.
+fn open_file<R: Files>(rt: &R, location: &str) -> io::Result<R::File> {
+    let there = fs::symlink_metadata(rt, location)?;
+    if there.is_file() {
+        open_seen(rt, location, &there)
     } else {
-        Err(io::Error::from(io::ErrorKind::NotADirectory))
+        Err(io::Error::from(ErrorKind::NotFound))
+    }
+}
+
+/// Opens what was seen where this is for the system, and nothing that took its place.
+fn open_seen<R: Files>(rt: &R, location: &str, seen: &Metadata) -> io::Result<R::File> {
+    let opened = fs::open(rt, location)?;
+    let found = opened.metadata()?;
+    if (found.dev(), found.ino()) == (seen.dev(), seen.ino()) {
+        Ok(opened)
+    } else {
+        Err(io::Error::from(ErrorKind::NotFound))
     }
 }
 

@@ -27,6 +27,7 @@ mod limit;
 mod listing;
 mod location;
 mod opening;
+mod ownership;
 mod path;
 mod path_order;
 mod refusal;

@@ -10,6 +10,7 @@ ghost use Rattle.bag_disk.specs.Refusal.{CountsAs, at_known};
 use crate::base_folder::{BaseFolder, Synced};
 use crate::disk::{Disk, DiskFault, Entry};
 use crate::failures::Failures;
+use crate::ownership::RemovedFiles;
 use crate::refusal::Subject;
 use crate::replace_disk::ReplaceDisk;
 use crate::system_fault::answer_of;
@@ -36,6 +37,7 @@ pub struct SystemDisk<R: Files> {
     /// What was named last.
     named: Option<DirEntry<R, Global>>,
     failures: Failures,
+    removed: RemovedFiles,
 }
 
 /// The name of what stands in a folder.
@@ -230,14 +232,14 @@ where
     R::File: AsFd,
 {
     fn replace(&mut self, from: &str, to: &str) -> Result<(), DiskFault> {
-        let replaced = self.base.rename(&self.rt, from, to);
+        let replaced = self.base.replace(&self.rt, from, to, &self.removed);
         self.failures.counted(Subject::Known, replaced)?;
         self.close_all();
         Ok(())
     }
 
     fn remove(&mut self, path: &str) -> Result<(), DiskFault> {
-        let removed = self.base.remove(&self.rt, path);
+        let removed = self.base.remove(&self.rt, path, &mut self.removed);
         self.failures.counted(Subject::Path, removed)?;
         self.close_all();
         Ok(())
@@ -262,6 +264,7 @@ impl<R: Files + AllocGlobal + Clone + Drop> SystemDisk<R> {
             entered: None,
             named: None,
             failures: Failures::none(),
+            removed: RemovedFiles::none(alloc),
         })
     }
 }

@@ -3,7 +3,7 @@ use Rattle.bag_renew.proofs.Common.{Bool, true, false, not, IsTrue, List, [], �
 use Rattle.bag_renew.proofs.Common.{◌+◌, ◌∙◌, ℕ, length, take, get_or, refl, sym, ap, arith, Contains, filter, list_any}
 use Rattle.bag_renew.proofs.Common.{algs, has_member, Alg}
 use Rattle.bag_renew.proofs.Common.{Bag, Renewal, has_payload_manifest, is_new_alg, keeps}
-use Rattle.bag_renew.specs.Renewed.{algs_where, is_kept_alg, new_algs, reads_payload}
+use Rattle.bag_renew.specs.Renewed.{algs_where, is_kept_alg, new_algs, writes_payload_manifest}
 use Rattle.std.proofs.Common.{◌↔◌}
 use Rattle.std.proofs.lemmas.List.{get_or_default, take_all}
 use Rattle.std.proofs.lemmas.List.Folds.{list_any-append}
@@ -121,7 +121,8 @@ module _ (bag : Bag) (renewal : Renewal) where
   -- a payload manifest is written where some new algorithm isn't kept
   pub writes_some : (set kept : List Alg) (r : Bool) → set ≡ new_algs bag renewal
       → kept ≡ algs_where (is_kept_alg bag renewal)
-      → r ≡ list_any (λ alg. has_member set alg && not (has_member kept alg)) algs → r ≡ reads_payload bag renewal
+      → r ≡ list_any (λ alg. has_member set alg && not (has_member kept alg)) algs
+      → r ≡ writes_payload_manifest bag renewal
   writes_some set kept r new keeping is =
       is ∙ (λ i. list_any (λ alg. has_member (new i) alg && not (has_member (keeping i) alg)) algs)
       ∙ (λ i. list_any (λ alg. has_member_where (is_new_alg bag renewal) alg i

@@ -51,7 +51,7 @@ respects_other a b same is =
     sym (ap (λ t. not (bytes_eq t (str_to_ascii_lowercase oxum_label))) same) ∙ is
 
 -- nothing is asked of Payload-Oxum, and no label of an element that is appended is set or unset
-record CanBeAsked (changes : ElementChanges) : Type 0 where
+pub record CanBeAsked (changes : ElementChanges) : Type 0 where
   pub set : list_any is_oxum changes.set ≡ false
   pub appended : list_any is_oxum changes.appended ≡ false
   pub unset : goes changes oxum_label ≡ false
@@ -62,7 +62,7 @@ not_refused xs none = false_from_ne_true _ (λ has.
     let m = from_any is_oxum xs has in
     false≢true (sym none ∙ any_from is_refused xs m.0 m.1 (or_right (is_bad_long_element m.0) (is_oxum m.0) m.2)))
 
-can_be_asked : (changes : ElementChanges) → is_bad_request changes ≡ false → CanBeAsked changes
+pub can_be_asked : (changes : ElementChanges) → is_bad_request changes ≡ false → CanBeAsked changes
 can_be_asked changes good =
     let by_appended = list_any is_refused changes.appended in
     let by_unset = list_any is_oxum_label changes.unset in
@@ -79,18 +79,18 @@ can_be_asked changes good =
 
 module _ (changes : ElementChanges) (asked : CanBeAsked changes) where
   -- nothing is asked of Payload-Oxum
-  oxum_plain : (x : NewElement) → AreSame x.0 oxum_label → IsPlain changes x
+  pub oxum_plain : (x : NewElement) → AreSame x.0 oxum_label → IsPlain changes x
   oxum_plain x same = (
     false_from_ne_true _ (λ has. false≢true (sym asked.set ∙ has_same changes.set x.0 oxum_label same has)),
     goes_same changes x.0 oxum_label same ∙ asked.unset,
   )
 
-  oxum_not_set : (label : List ℕ) → AreSame oxum_label label → IsSet changes label → ⊥
+  pub oxum_not_set : (label : List ℕ) → AreSame oxum_label label → IsSet changes label → ⊥
   oxum_not_set label same is_set =
       false≢true (sym asked.set ∙ has_same changes.set label oxum_label (sym same) is_set)
 
   -- nor of what is appended
-  appended_plain : (x : NewElement) → Contains changes.appended x → IsPlain changes x
+  pub appended_plain : (x : NewElement) → Contains changes.appended x → IsPlain changes x
   appended_plain x has =
       or_parts (some_has changes.set x.0) (goes changes x.0)
       (none_of (is_given_otherwise changes) changes.appended x asked.apart has)
@@ -115,7 +115,7 @@ module _ (changes : ElementChanges) (asked : CanBeAsked changes) where
     pub stands : (a : NewElement) → (AreSame a.0 oxum_label → ⊥) → Stands a (replaced changes [] old)
         → Stands a (replaced changes [] first) ⊎ Stands a (others_of before rest)
 
-  none_replaced : (xs : List NewElement) → list_any is_oxum xs ≡ false
+  pub none_replaced : (xs : List NewElement) → list_any is_oxum xs ≡ false
       → list_any is_oxum (replaced changes [] xs) ≡ false
   none_replaced xs none =
       false_from_ne_true _ (λ has. false≢true (sym none ∙ replaced_has changes xs [] oxum_label has))

@@ -9,10 +9,14 @@ pub mod CheckedBag
 pub mod Common
 pub mod Comparing
 pub mod ComposedChanges
+pub mod ComposedElements
 pub mod Contents
 pub mod CutAtOxum
 pub mod CutBags
 pub mod Digests
+pub mod DroppedManifests
+pub mod ElementLaws
+pub mod ElementPlaces
 pub mod ElementsAgain
 pub mod FirstFaults
 pub mod FirstOpened
@@ -50,6 +54,7 @@ pub mod RenewedAgain
 pub mod RenewedNames
 pub mod ReplacedAgain
 pub mod SamePayload
+pub mod SomeChanges
 pub mod Staying
 pub mod StaysSo
 pub mod Stopping

@@ -1,5 +1,5 @@
 -- Which files a renewal opens, also where it is refused.
-use Rattle.bag_renew.proofs.Common.{◌≡◌, ◌∙◌, ◌++◌, ◌∷◌, ◌&&◌, ◌||◌, inl, inr, ℕ, Bool, true, false, not, IsTrue}
+use Rattle.bag_renew.proofs.Common.{◌≡◌, ◌∙◌, ◌++◌, ◌∷◌, ◌&&◌, ◌||◌, ◌⊎◌, inl, inr, ℕ, Bool, true, false, not, IsTrue}
 use Rattle.bag_renew.proofs.Common.{List, [], All, All-append, All-contains, All-map, All-nil, Alg, Contains, ap}
 use Rattle.bag_renew.proofs.Common.{append-nil, append_assoc, arith, false≢true, false_from_ne_true, is_payload_path}
 use Rattle.bag_renew.proofs.Common.{keeps, map, new_algs, refl, subst, sym, take, has_member}
@@ -24,6 +24,7 @@ use Rattle.bag_tree.specs.declared.listing.FileEntry.{FileEntry}
 use Rattle.bag_tree.specs.declared.tree_fault.Stop.{Stop}
 use Rattle.bag_renew.proofs.AlgsMade.{kept_is}
 use Rattle.bag_renew.proofs.AlgsWhere.{passes}
+use Rattle.bag_renew.proofs.DroppedManifests.{none_dropped}
 use Rattle.bag_renew.proofs.CheckedBag.{deep, none_early, paths_to_read}
 use Rattle.bag_renew.proofs.GivenDigests.{read_are}
 use Rattle.bag_renew.proofs.NoPayload.{no_payload_tag}
@@ -33,7 +34,7 @@ use Rattle.bag_renew.specs.NewInfo.{IsInfoRefusal}
 use Rattle.bag_renew.specs.Openings.{AsksNoReading, IsEarly, IsOfSeventh, IsReadyFor, OpensAllInTurn, OpensBefore}
 use Rattle.bag_renew.specs.Openings.{OpensFirstToRead, OpensForRenewal, OpensInTurn, OpensNoPayload}
 use Rattle.bag_renew.specs.Reading.{AllowsRenewal, HasNoEarlyFault, IsRefusalOf, IsRefusalOfStop}
-use Rattle.bag_renew.specs.Renewed.{is_kept_alg, reads_payload}
+use Rattle.bag_renew.specs.Renewed.{drops_payload_manifest, is_kept_alg, reads_payload, writes_payload_manifest}
 use Rattle.bag_renew.specs.Summed.{files_to_read, is_to_read, to_read}
 use Rattle.bag_tree.specs.Listing.{entry_of_file}
 use Rattle.bag_report.specs.Valid.{full}
@@ -132,7 +133,7 @@ still_in_turn with_payload IsReady old mid new h same = record {
 
 -- ---- of the payload none
 
--- where no algorithm is added, each that a bag of 1.0 is to have is kept
+-- where no algorithm is added, each that a bag of 1.0 is to have is kept; and none is dropped, but unchecked
 module _ (bag : Bag) (renewal : Renewal) (asks : AsksNoReading renewal) where
   had : (b added dropped : Bool) → added ≡ false → ((b || added) && not dropped) ≡ true → (b && not dropped) ≡ true
   had true added dropped none new = new
@@ -144,12 +145,24 @@ module _ (bag : Bag) (renewal : Renewal) (asks : AsksNoReading renewal) where
       ∙ had (has_payload_manifest bag alg) (has_member renewal.added alg) (has_member renewal.dropped alg)
       (asks.added alg) new
 
-  none_written : keeps bag ≡ true → reads_payload bag renewal ≡ false
+  none_written : keeps bag ≡ true → writes_payload_manifest bag renewal ≡ false
   none_written is =
       let test = λ (alg : Alg). not (is_kept_alg bag renewal alg) in
       list_any_none test (new_algs bag renewal)
       (each_of (λ alg. test alg ≡ false) (new_algs bag renewal)
       (λ alg has. ap not (kept is alg (passes (is_new_alg bag renewal) alg has))))
+
+  neither : (writes unchecked drops : Bool) → writes ≡ false → (unchecked ≡ true) ⊎ (drops ≡ false)
+      → (writes || (not unchecked && drops)) ≡ false
+  neither true unchecked drops none h = absurd (false≢true (sym none))
+  neither false true drops none h = refl
+  neither false false drops none (inl is) = absurd (false≢true is)
+  neither false false drops none (inr is) = is
+
+  none_read : keeps bag ≡ true → reads_payload bag renewal ≡ false
+  none_read is =
+      neither (writes_payload_manifest bag renewal) renewal.unchecked (drops_payload_manifest bag renewal)
+      (none_written is) (elim asks.dropped [ inl un ↦ inl un | inr none ↦ inr (none_dropped bag renewal none) ])
 
   by_version : HasNoObstacle bag renewal → keeps bag ≡ true
   by_version free =
@@ -181,7 +194,7 @@ module _ (renewal : Renewal) (old new : TreeState)
   read_by asks [] is = All-nil (λ path. is_payload_path path ≡ false)
   read_by asks (x ∷ xs) is =
       let free = (h.ready (λ none. let clash : [] ≡ x ∷ xs = sym none ∙ is in cc)).no_obstacle in
-      let none = none_written h.bag renewal asks (by_version h.bag renewal asks free) in
+      let none = none_read h.bag renewal asks (by_version h.bag renewal asks free) in
       subst NoPayload
       (sym (h.first.1 ∙ ap (λ b. take h.first.0 (map (λ (e : File). e.0) (files_to_read b (files_of h.bag)))) none) ∙ is)
       (All-take (λ path. is_payload_path path ≡ false) h.first.0 _ (no_payload_file (files_of h.bag)))

@@ -19,6 +19,7 @@ use Rattle.bag_renew.specs.Summed.{AreSummed, files_to_read}
 use Rattle.bag_renew.specs.declared.fault.RenewFault.TheVariants.{Memory}
 use Rattle.bag_tags.specs.declared.summed.SummedFile.{SummedFile}
 use Rattle.bag_renew.proofs.ComposedChanges.{changes_of_bag, has_info}
+use Rattle.bag_renew.proofs.DroppedManifests.{read_to_drop}
 use Rattle.bag_renew.proofs.ReadForRenewal.{deep, new_info, read_for_renewal}
 
 module _ (renewal : Renewal) (old new : TreeState) (facts : Facts) (summed : List SummedFile) (read : List ℕ)
@@ -60,6 +61,7 @@ module _ (renewal : Renewal) (old new : TreeState) (facts : Facts) (summed : Lis
     planned good of_files = record {
       asked = good;
       read = read_for_renewal renewal old new facts summed read has info good is_info;
+      dropped = λ honest compared alg is. has.read.valid honest (read_to_drop old.bag renewal compared alg is);
       changes_are = of_bag;
       of_files = of_files;
       compared = compared;

@@ -29,6 +29,7 @@ use Rattle.bag_tags.specs.Element.{NewElement}
 use Rattle.bag_tags.specs.OnLines.{text_on_lines}
 use Rattle.bag_tree.specs.FileChanges.{IsAfterFirst}
 use Rattle.bag_renew.specs.Again.{RenewingAgainMakesTheSame}
+use Rattle.bag_renew.specs.WrittenElements.{WrittenElementsAreRead}
 use Rattle.bag_renew.specs.Elements.{asks_nothing, elements_of, renewed_elements}
 use Rattle.bag_renew.specs.OnTheWay.{CanRenewInPlace, HasNoPercent}
 use Rattle.bag_renew.specs.Renewed.{file_at, in_path_order, is_v10, renewed}
@@ -231,6 +232,12 @@ read_alike one other alike same =
     ∙ ap (map {B = NewElement} (λ e. (e.label, e.value)))
     (elements_alike (rules_in one) (rules_in other) (lines_in other bag_info_txt) 1 alike.metadata)
 
+pub written_are_read : WrittenElementsAreRead
+written_are_read bag renewal writes good =
+    read_so (renewed bag renewal) (by_v10 bag renewal) (Some (text bag renewal))
+    (new_info bag renewal ∙ ap (info_so bag renewal) writes)
+    ∙ (long_info_again (new_elements bag renewal) good.texts good.good).1
+
 -- the bag-info.txt is that of the bag, and is read alike
 abbrev pub HasInfoOf : Bag → Bag → Type 0
 HasInfoOf left base = AreAlike left base × (file left bag_info_txt ≡ file base bag_info_txt)
@@ -246,10 +253,7 @@ module _ (left bag : Bag) (renewal : Renewal) (asked : is_bad_request renewal.el
       ∙ elim info [
         | inl old ↦ ap (renewed_elements renewal.elements (oxum_text (oxum bag))) (read_alike left bag old.0 old.1)
         | inr made ↦ ap (renewed_elements renewal.elements (oxum_text (oxum bag)))
-            (read_alike left (renewed bag renewal) made.0 made.1
-            ∙ read_so (renewed bag renewal) (by_v10 bag renewal) (Some (text bag renewal))
-            (new_info bag renewal ∙ ap (info_so bag renewal) writes)
-            ∙ (long_info_again (new_elements bag renewal) (good writes).texts (good writes).good).1)
+            (read_alike left (renewed bag renewal) made.0 made.1 ∙ written_are_read bag renewal writes (good writes))
             ∙ renewed_once_only renewal.elements (oxum_text (oxum bag)) (elements_of bag) asked
       ]
     where

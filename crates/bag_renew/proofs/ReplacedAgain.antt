@@ -124,10 +124,10 @@ module _ (changes : ElementChanges) where
   abbrev pub block : List ℕ → List NewElement
   block label = filter (has_label label) changes.set
 
-  in_block : (label : List ℕ) (x : NewElement) → Contains (block label) x → AreSame x.0 label
+  pub in_block : (label : List ℕ) (x : NewElement) → Contains (block label) x → AreSame x.0 label
   in_block label x has = are_same x.0 label (kept (has_label label) changes.set x has).0
 
-  same_block : (a b : List ℕ) → AreSame a b → block a ≡ block b
+  pub same_block : (a b : List ℕ) → AreSame a b → block a ≡ block b
   same_block a b same =
       ap (λ t. filter (λ (e : NewElement). bytes_eq (str_to_ascii_lowercase e.0) t) changes.set) same
 
@@ -141,11 +141,11 @@ module _ (changes : ElementChanges) where
 
   -- ---- what stands in the place of one
 
-  abbrev place : Bool → Bool → Bool → NewElement → List NewElement
+  abbrev pub place : Bool → Bool → Bool → NewElement → List NewElement
   place set before unset x = cond set (cond before [] (block x.0)) (cond unset [] (x ∷ []))
 
   module _ (before : List NewElement) (x : NewElement) where
-    place_is : (s b g : Bool) → some_has changes.set x.0 ≡ s → some_has before x.0 ≡ b → goes changes x.0 ≡ g
+    pub place_is : (s b g : Bool) → some_has changes.set x.0 ≡ s → some_has before x.0 ≡ b → goes changes x.0 ≡ g
         → in_place_of changes before x ≡ place s b g x
     place_is s b g is_set is_before is_unset =
         ap (λ t. place t (some_has before x.0) (goes changes x.0) x) is_set
@@ -161,11 +161,11 @@ module _ (changes : ElementChanges) where
     ]
 
     -- has its label
-    in_place : (y : NewElement) → Contains (in_place_of changes before x) y → AreSame y.0 x.0
+    pub in_place : (y : NewElement) → Contains (in_place_of changes before x) y → AreSame y.0 x.0
     in_place y has =
         in_place_by (some_has changes.set x.0) (some_has before x.0) (goes changes x.0) y has
 
-    place_has : (label : List ℕ) → Has (in_place_of changes before x) label → AreSame x.0 label
+    pub place_has : (label : List ℕ) → Has (in_place_of changes before x) label → AreSame x.0 label
     place_has label has =
         let m = has_member (in_place_of changes before x) label has in sym (in_place m.0 m.1) ∙ m.2
 

@@ -1,5 +1,5 @@
 -- What renewing a bag promises follows from what reading it and changing its files promise.
-use Rattle.bag_renew.proofs.Common.{arith, ◌≡◌, ◌≤◌, ◌++◌, ◌∷◌, ◌⊎◌, ◌∙◌, inl, inr, ℕ, true, false, IsTrue, List, [], refl}
+use Rattle.bag_renew.proofs.Common.{arith, ◌≡◌, ◌≢◌, ◌≤◌, ◌++◌, ◌∷◌, ◌⊎◌, ◌∙◌, inl, inr, ℕ, true, false, IsTrue, List, [], refl}
 use Rattle.bag_renew.proofs.Common.{ap, sym, subst, append-nil, false≢true, Bag, FileChange, Put, Remove, Renewal, begun_file}
 use Rattle.bag_renew.proofs.Common.{after_changes, changes, renewed, IsOutOfTheWay}
 use Rattle.bag_renew.proofs.CanChange.{changes_can_be_made}
@@ -7,20 +7,23 @@ use Rattle.bag_renew.proofs.ChangesRenew.{changes_renew}
 use Rattle.bag_renew.proofs.GoodInfo.{good_elements_are_good_info}
 use Rattle.bag_renew.proofs.KeptOr.{keeps_v10}
 use Rattle.bag_renew.proofs.OldBag.{known}
+use Rattle.bag_renew.proofs.SomeChanges.{none_begun, some_changes}
 use Rattle.bag_renew.proofs.Valid.{renewed_has_old_faults}
 use Rattle.std.specs.Prelude.{Result, Ok, Err, IfErr, OnOk}
 use Rattle.bag_facts.specs.Facts.{IsByV10}
 use Rattle.bag_facts.specs.declared.fault.Fault.{Fault}
-use Rattle.bag_tree.specs.ChangeFiles.{HasChanged, LastsChanged, LeavesChange, OutlastsChanges}
-use Rattle.bag_tree.specs.Cut.{EachCut, LeavesOnly, MayLeave}
+use Rattle.bag_tree.specs.ChangeFiles.{HasChanged, LastsResumed, LeavesChange, OutlastsResumedChanges}
+use Rattle.bag_tree.specs.Cut.{MayLeave}
 use Rattle.bag_tree.specs.FileChanges.{CanChangeAll, IsAfterFirst}
+use Rattle.bag_tree.specs.Resumed.{EachResumedCut, IsSameBut}
+use Rattle.bag_tree.proofs.PutFile.{not_held}
 use Rattle.bag_tree.specs.Tree.{Keeps, TreeState}
 use Rattle.bag_tree.specs.declared.event.DeviceEvent.{DeviceEvent}
 use Rattle.bag_renew.proofs.Openings.{for_renewal_still}
 use Rattle.bag_renew.specs.Openings.{OpensBefore, OpensForRenewal}
 use Rattle.bag_renew.specs.Reading.{HasKnownSize, MayRefuseReading}
 use Rattle.bag_renew.specs.OnTheWay.{CanRenewInPlace, HasNoPercent}
-use Rattle.bag_renew.specs.Renew.{HasNoNewFault, HasPlanned, HasStoppedAt, IsRenewal, MayRefuseRenewing, told_as}
+use Rattle.bag_renew.specs.Renew.{HasNoNewFault, HasPlanned, HasStoppedAt, IsRenewal, LeavesRenewed, MayRefuseRenewing, told_as}
 use Rattle.bag_renew.specs.Request.{is_bad_request}
 use Rattle.bag_renew.specs.Valid.{HasGoodInfo, IsOldDamage}
 use Rattle.bag_report.specs.Valid.{IsFaultOf}
@@ -51,28 +54,27 @@ none_before : (before after : List DeviceEvent) → [] ≡ before ++ after → b
 none_before [] after e = refl
 none_before (x ∷ before) after e = cc
 
-nothing_asked : (P : Bag → Type 0) (bag : Bag) (old new : List DeviceEvent) → P bag → new ≡ old → EachCut old new bag P
-nothing_asked P bag old new now same = record {
+nothing_asked : (P : Bag → Type 0) (bag : Bag) (old new : List DeviceEvent) → new ≡ old
+    → EachResumedCut begun_file old new bag P
+nothing_asked P bag old new same = record {
   since = [];
   trail = same ∙ sym (append-nil old);
   each = λ first durable before after parts left may.
       let trail_is : old ++ before ≡ old =
       ap (λ (xs : List DeviceEvent). old ++ xs) (none_before before after parts) ∙ append-nil old in
-      let left_is : left ≡ bag =
-      durable left (subst (λ (xs : List DeviceEvent). MayLeave xs first left) trail_is may) in
-      subst P (sym left_is) now;
+      inl (subst (λ (xs : List DeviceEvent). MayLeave xs first left) trail_is may);
 }
-
-none_made : (changes : List FileChange) (bag : Bag) → IsAfterFirst begun_file changes bag bag
-none_made changes bag = record { k = 0; within = omega arith; is = inl refl }
 
 -- what holds of each, where it follows of what a cut leaves
 each_then : (P Q : Bag → Type 0) (bag : Bag) (old new : List DeviceEvent) → ((left : Bag) → P left → Q left)
-    → EachCut old new bag P → EachCut old new bag Q
+    → EachResumedCut begun_file old new bag P → EachResumedCut begun_file old new bag Q
 each_then P Q bag old new then cut = record {
   since = cut.since;
   trail = cut.trail;
-  each = λ first durable before after parts left may. then left (cut.each first durable before after parts left may);
+  each = λ first durable before after parts left may. elim (cut.each first durable before after parts left may) [
+    | inl was ↦ inl was
+    | inr is ↦ inr (then left is)
+  ];
 }
 
 -- ---- a bag that wasn't changed
@@ -95,14 +97,15 @@ module _ (renewal : Renewal) (old new : TreeState) where
     untouched = untouched;
     is_renewed = tt;
     valid = tt;
+    dropped = tt;
     refused = told_before fault keeps h;
     opens = opens;
     opens_before = before;
     any_moment = λ honest noted way.
         nothing_asked (IsAfterFirst begun_file (changes old.bag renewal) old.bag) old.bag old.trail new.trail
-        (none_made (changes old.bag renewal) old.bag) keeps.trail;
+        keeps.trail;
     no_new_fault = λ honest noted way size.
-        nothing_asked (HasNoNewFault old.bag) old.bag old.trail new.trail (λ f is. is) keeps.trail;
+        nothing_asked (HasNoNewFault old.bag) old.bag old.trail new.trail keeps.trail;
     lasting = tt;
   }
 
@@ -128,8 +131,8 @@ module _ (renewal : Renewal) (old read new : TreeState) (planned : List FileChan
         ap (λ some. after_changes some old.bag) (plan.changes_are honest)
         ∙ changes_renew old.bag renewal can.is_bag (known old.bag can.damaged) way
 
-    pub at_any_moment : IsTrue old.noted → OutlastsChanges begun_file planned read new
-        → EachCut old.trail new.trail old.bag (IsAfterFirst begun_file (changes old.bag renewal) old.bag)
+    pub at_any_moment : IsTrue old.noted → OutlastsResumedChanges begun_file planned read new
+        → EachResumedCut begun_file old.trail new.trail old.bag (IsAfterFirst begun_file (changes old.bag renewal) old.bag)
     at_any_moment noted outlasts =
         rw (keeps.trail, keeps.bag, plan.changes_are honest) at (outlasts (keeps.noted ∙ noted) can_all)
 
@@ -144,8 +147,8 @@ module _ (renewal : Renewal) (old read new : TreeState) (planned : List FileChan
       | inr none ↦ inr none
     ]
 
-    pub no_new_one : IsTrue old.noted → HasKnownSize old.bag → OutlastsChanges begun_file planned read new
-        → EachCut old.trail new.trail old.bag (HasNoNewFault old.bag)
+    pub no_new_one : IsTrue old.noted → HasKnownSize old.bag → OutlastsResumedChanges begun_file planned read new
+        → EachResumedCut begun_file old.trail new.trail old.bag (HasNoNewFault old.bag)
     no_new_one noted size outlasts =
         let in_place : CanRenewInPlace old.bag renewal = record {
           can = plan.read.bag.can honest;
@@ -161,11 +164,18 @@ module _ (renewal : Renewal) (old read new : TreeState) (planned : List FileChan
     renewed_bag : HasChanged begun_file planned read new → new.bag ≡ renewed old.bag renewal
     renewed_bag changed = changed.bag (keeps.honest ∙ honest) ∙ ap (after_changes planned) keeps.bag ∙ after_all
 
-    lasts : IsTrue old.noted → LastsChanged begun_file planned read new
-        → LeavesOnly old.trail new.trail old.bag (renewed old.bag renewal)
-    lasts noted lasting =
-        subst (λ bag. LeavesOnly old.trail new.trail old.bag bag) after_all
-        (rw (keeps.trail, keeps.bag) at (lasting (keeps.noted ∙ noted) can_all))
+    lasts : IsTrue old.noted → LastsResumed begun_file planned read new
+        → LeavesRenewed old.trail new.trail old.bag (renewed old.bag renewal)
+    lasts noted lasting first durable left may =
+        let some : planned ≢ [] =
+        λ none. some_changes old.bag renewal (plan.read.bag.can honest).some_alg
+        (sym (plan.changes_are honest) ∙ none) in
+        let now : IsSameBut begun_file (after_changes planned old.bag) left =
+        (rw (keeps.trail, keeps.bag) at (lasting (keeps.noted ∙ noted) can_all some)) first durable left may in
+        elim (subst (λ bag. IsSameBut begun_file bag left) after_all now) [
+          | inl is ↦ is
+          | inr (found, is) ↦ is ∙ not_held begun_file found (renewed old.bag renewal) (none_begun old.bag renewal)
+        ]
 
     its_faults : HasChanged begun_file planned read new → HasKnownSize old.bag → (f : Fault)
         → IsFaultOf new.bag f → IsOldDamage old.bag renewal f
@@ -175,8 +185,8 @@ module _ (renewal : Renewal) (old read new : TreeState) (planned : List FileChan
         (good_info size) f
         (subst (λ bag. IsFaultOf bag f) (renewed_bag changed) is)
 
-  pub all_made : HasChanged begun_file planned read new → OutlastsChanges begun_file planned read new
-      → LastsChanged begun_file planned read new → IsRenewal renewal old new (Ok tt)
+  pub all_made : HasChanged begun_file planned read new → OutlastsResumedChanges begun_file planned read new
+      → LastsResumed begun_file planned read new → IsRenewal renewal old new (Ok tt)
   all_made changed outlasts lasting = record {
     honest = changed.honest ∙ keeps.honest;
     failures = omega (arith, keeps.failures, changed.no_failure);
@@ -190,6 +200,7 @@ module _ (renewal : Renewal) (old read new : TreeState) (planned : List FileChan
       bag = λ honest way. renewed_bag honest way changed;
     };
     valid = λ honest way size. its_faults honest way changed size;
+    dropped = plan.dropped;
     refused = tt;
     opens = for_renewal_still renewal old read new opens changed.openings;
     opens_before = tt;
@@ -216,7 +227,7 @@ module _ (renewal : Renewal) (old read new : TreeState) (planned : List FileChan
       by_change (Remove name) same = subst (OpensBefore old new) (sym same) (λ before. absurd before)
 
   pub one_refused : (fault : RenewFault) → HasStoppedAt planned read new fault
-      → OutlastsChanges begun_file planned read new → IsRenewal renewal old new (Err fault)
+      → OutlastsResumedChanges begun_file planned read new → IsRenewal renewal old new (Err fault)
   one_refused fault h outlasts =
       let so_far = h.stopped.changed in
       let left = left_so begun_file h.stopped.change h.stopped.before new h.stopped.left in record {
@@ -226,6 +237,7 @@ module _ (renewal : Renewal) (old read new : TreeState) (planned : List FileChan
         untouched = untouched;
         is_renewed = tt;
         valid = tt;
+        dropped = tt;
         refused = told_stopped fault h;
         opens = for_renewal_still renewal old read new opens (left.3 ∙ so_far.openings);
         opens_before = none_before_it fault h;
@@ -237,7 +249,7 @@ module _ (renewal : Renewal) (old read new : TreeState) (planned : List FileChan
   pub one_result : (result : Result (Unit {0}) RenewFault)
       → OnOk result (HasChanged begun_file planned read new)
       → IfErr result (HasStoppedAt planned read new)
-      → OutlastsChanges begun_file planned read new
-      → OnOk result (LastsChanged begun_file planned read new) → IsRenewal renewal old new result
+      → OutlastsResumedChanges begun_file planned read new
+      → OnOk result (LastsResumed begun_file planned read new) → IsRenewal renewal old new result
   one_result (Ok done) changed stopped outlasts lasting = all_made changed outlasts lasting
   one_result (Err fault) changed stopped outlasts lasting = one_refused fault stopped outlasts

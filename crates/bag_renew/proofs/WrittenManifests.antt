@@ -17,7 +17,8 @@ use Rattle.bag_renew.proofs.Passing.{same_where}
 use Rattle.bag_renew.proofs.SummedFiles.{filter_within}
 use Rattle.bag_renew.specs.Composing.{written_algs}
 use Rattle.bag_renew.specs.NewManifests.{manifests_for}
-use Rattle.bag_renew.specs.Renewed.{algs_where, entries_of, is_kept_alg, reads_payload}
+use Rattle.bag_renew.specs.Renewed.{algs_where, drops_payload_manifest, entries_of, is_kept_alg, reads_payload}
+use Rattle.bag_renew.specs.Renewed.{writes_payload_manifest}
 use Rattle.bag_renew.specs.NewInfo.{IsNewInfo}
 use Rattle.bag_renew.specs.Summed.{AreSummed, files_to_read, is_to_read, payload_of}
 use Rattle.bag_tags.specs.declared.summed.SummedFile.{SummedFile}
@@ -111,10 +112,10 @@ module _ (bag : Bag) (renewal : Renewal) where
 
   reads_where_written : (alg : Alg) → is_written alg ≡ true → reads_payload bag renewal ≡ true
   reads_where_written alg is =
-      let two = and_parts (is_new_alg bag renewal alg) (not (is_kept bag (path_of alg))) is in
-      any_where (is_new_alg bag renewal) (λ alg. not (is_kept_alg bag renewal alg))
+      or_left (writes_payload_manifest bag renewal) (not renewal.unchecked && drops_payload_manifest bag renewal)
+      (any_where (is_new_alg bag renewal) (λ alg. not (is_kept_alg bag renewal alg))
       ∙ any_from (λ alg. is_new_alg bag renewal alg && not (is_kept_alg bag renewal alg)) algs alg (each_is_listed alg)
-      (both_by (is_new_alg bag renewal alg) (is_kept bag (path_of alg)) ∙ is)
+      (both_by (is_new_alg bag renewal alg) (is_kept bag (path_of alg)) ∙ is))
 
   -- ---- the manifests that are put, of the files that are read
 

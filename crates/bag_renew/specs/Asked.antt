@@ -7,6 +7,7 @@ abbrev pub nothing : Renewal
 nothing = record {
   added = [];
   dropped = [];
+  unchecked = false;
   elements = record { set = []; appended = []; unset = [] };
   to_1_0 = false;
 }

@@ -18,7 +18,7 @@ use Rattle.bag_tree.specs.declared.file_change.FileChange.{FileChange}
 use Rattle.bag_tree.specs.declared.file_change.FileChange.TheVariants.{Remove}
 use Rattle.bag_renew.specs.Changes.{put, unkept}
 use Rattle.bag_renew.specs.Renewed.{File, algs_where, begun_file, declaration_file, in_path_order}
-use Rattle.bag_renew.specs.Renewed.{has_payload_manifest, info_files, is_kept, is_kept_alg, new_algs, payload_manifests}
+use Rattle.bag_renew.specs.Renewed.{info_files, is_kept, is_kept_alg, new_algs, payload_manifests}
 use Rattle.bag_renew.specs.Renewed.{stays, writes_info}
 use Rattle.bag_renew.specs.Summed.{AreSummed}
 use Rattle.bag_renew.specs.declared.renewal.Renewal.{Renewal}
@@ -81,10 +81,6 @@ module _ (bag : Bag) (renewal : Renewal) where
   first_files =
       (if writes_info bag renewal then info_files bag renewal else [])
       ++ unkept bag (payload_manifests bag renewal)
-
-  -- an algorithm whose payload manifest is there, and is removed
-  abbrev pub is_dropped_alg : Alg → Bool
-  is_dropped_alg alg = has_payload_manifest bag alg && has_member renewal.dropped alg
 
   -- the algorithms whose payload manifest is put
   abbrev pub written_algs : List Alg

@@ -6,6 +6,7 @@ pub mod Compared
 pub mod Composed
 pub mod Composing
 pub mod Contents
+pub mod ElementLaws
 pub mod Elements
 pub mod FirstFaults
 pub mod Laws
@@ -24,3 +25,4 @@ pub mod Stops
 pub mod Summed
 pub mod Telling
 pub mod Valid
+pub mod WrittenElements

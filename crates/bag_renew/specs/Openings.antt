@@ -1,5 +1,5 @@
 -- Which files a renewal opens, also where it is refused.
-use Rattle.std.specs.Prelude.{ℕ, ◌≡◌, ◌≢◌, ◌<◌, ◌++◌, All, Bool, IsTrue, List, [], false}
+use Rattle.std.specs.Prelude.{ℕ, ◌≡◌, ◌≢◌, ◌⊎◌, ◌<◌, ◌++◌, All, Bool, IsTrue, List, [], false}
 use Rattle.std.specs.Prelude.{map, take, true}
 use Rattle.std.specs.List.Sorted.{IsStrictlySortedBy}
 use Rattle.bag_text.specs.AlgList.{has_member}
@@ -59,6 +59,7 @@ OpensAllInTurn old new = OpensInTurn (λ bag. true) HasNoEarlyFault old new
 -- nothing is asked for which the payload is read
 pub record AsksNoReading (renewal : Renewal) : Type 0 where
   pub added : (alg : Alg) → has_member renewal.added alg ≡ false
+  pub dropped : (renewal.unchecked ≡ true) ⊎ ((alg : Alg) → has_member renewal.dropped alg ≡ false)
   pub version : renewal.to_1_0 ≡ false
 
 -- no file of the payload was opened

@@ -44,7 +44,7 @@ pub record HasKnownSize (bag : Bag) : Type 0 where
 pub record IsReadBag (renewal : Renewal) (old new : TreeState) : Type 0 where
   pub keeps : Keeps old new
   pub no_failure : NothingFailed old new
-  -- the payload is opened only where a payload manifest is written
+  -- the payload is opened only where a payload manifest is written, or dropped
   pub opened : IsTrue old.honest → OpensRead (reads_payload old.bag renewal) old new
   pub can : IsTrue old.honest → CanRenew old.bag renewal
   pub valid : IsTrue old.honest → reads_payload old.bag renewal ≡ true → HasNoFault old.bag

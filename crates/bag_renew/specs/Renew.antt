@@ -3,10 +3,12 @@ use Rattle.std.specs.Prelude.{◌≡◌, ◌≤◌, ◌-◌, false, true, All, I
 use Rattle.std.specs.Prelude.{Result, IfErr, OnOk}
 use Rattle.bag_tree.specs.Bag.{Bag}
 use Rattle.bag_tree.specs.ChangeFiles.{HasChanged, HasStopped, IsOfFile}
-use Rattle.bag_tree.specs.Cut.{EachCut, LeavesOnly}
+use Rattle.bag_tree.specs.Cut.{IsDurableAs}
 use Rattle.bag_tree.specs.FileChanges.{IsAfterFirst}
+use Rattle.bag_tree.specs.Resumed.{EachResumedCut, IsDurableOnceSynced}
 use Rattle.bag_tree.specs.Tree.{Keeps, TreeState}
 use Rattle.bag_tree.specs.declared.changing_files.RefusedChange.{RefusedChange}
+use Rattle.bag_tree.specs.declared.event.DeviceEvent.{DeviceEvent}
 use Rattle.bag_tree.specs.declared.file_change.FileChange.{FileChange}
 use Rattle.bag_tree.specs.declared.file_change.FileChange.TheVariants.{Put, Remove}
 use Rattle.bag_tree.specs.declared.tree_fault.TreeFault.{TreeFault}
@@ -19,7 +21,7 @@ use Rattle.bag_renew.specs.Planned.{ChangesCompared}
 use Rattle.bag_renew.specs.Reading.{HasKnownSize, IsReadForRenewal, MayRefuseReading}
 use Rattle.bag_renew.specs.Renewed.{begun_file, renewed}
 use Rattle.bag_renew.specs.Request.{is_bad_request}
-use Rattle.bag_renew.specs.Valid.{IsOldDamage}
+use Rattle.bag_renew.specs.Valid.{DropsCompared, IsOldDamage}
 use Rattle.bag_renew.specs.declared.fault.RenewFault.{RenewFault}
 use Rattle.bag_renew.specs.declared.fault.RenewFault.TheVariants as why
 use Rattle.bag_renew.specs.declared.renewal.Renewal.{Renewal}
@@ -29,6 +31,8 @@ pub record HasPlanned (renewal : Renewal) (old new : TreeState) (planned : List 
   where
     pub asked : is_bad_request renewal.elements ≡ false
     pub read : IsReadForRenewal renewal old new
+    -- where a manifest is dropped the bag has no fault
+    pub dropped : IsTrue old.honest → DropsCompared old.bag renewal
     pub changes_are : IsTrue old.honest → planned ≡ changes old.bag renewal
     pub of_files : All (IsOfFile begun_file) planned
     pub compared : ChangesCompared renewal planned
@@ -75,6 +79,12 @@ MayRefuseRenewing renewal old new fault = Keeps old new × MayRefuseReading rene
 abbrev pub HasNoNewFault : Bag → Bag → Type 0
 HasNoNewFault bag left = (f : Fault) → IsFaultOf left f → IsFaultOf bag f
 
+-- After the events that were added to a trail this bag is durable, if that one was, once the base
+-- folder is synced, when they began: but for the bytes of a file that an earlier renewal had begun.
+abbrev pub LeavesRenewed : List DeviceEvent → List DeviceEvent → Bag → Bag → Type 0
+LeavesRenewed old new bag now =
+    (first : Bag) → IsDurableOnceSynced begun_file old first bag → IsDurableAs new first now
+
 -- All that is promised of renewing a bag.
 pub record IsRenewal (renewal : Renewal) (old new : TreeState)
     (result : Result (Unit {0}) RenewFault) : Type 0 where
@@ -88,17 +98,23 @@ pub record IsRenewal (renewal : Renewal) (old new : TreeState)
   -- kept; it has none where the payload was read
   pub valid : OnOk result (IsTrue old.honest → IsOutOfTheWay old.bag → HasKnownSize old.bag
       → (f : Fault) → IsFaultOf new.bag f → IsOldDamage old.bag renewal f)
+  -- no manifest is dropped that tells damage: the bag had no fault then, unless that was asked for
+  -- unchecked
+  pub dropped : OnOk result (IsTrue old.honest → DropsCompared old.bag renewal)
   pub refused : IfErr result (MayRefuseRenewing renewal old new)
   -- over any tree, and however it ends
   pub opens : OpensForRenewal renewal old new
   pub opens_before : IfErr result (OpensBefore old new)
-  -- a power cut at any moment leaves what the first of the changes made
+  -- A power cut at any moment leaves what the first of the changes made, or what it could have left
+  -- before them. The bag need only be durable once the base folder is synced, but for the bytes of
+  -- `.bagit-begun`: so it is where an earlier renewal was killed.
   pub any_moment : IsTrue old.honest → IsTrue old.noted → IsOutOfTheWay old.bag
-      → EachCut old.trail new.trail old.bag
+      → EachResumedCut begun_file old.trail new.trail old.bag
       (IsAfterFirst begun_file (changes old.bag renewal) old.bag)
   -- and that has no fault that the bag hadn't
   pub no_new_fault : IsTrue old.honest → IsTrue old.noted → IsOutOfTheWay old.bag
-      → HasKnownSize old.bag → EachCut old.trail new.trail old.bag (HasNoNewFault old.bag)
+      → HasKnownSize old.bag
+      → EachResumedCut begun_file old.trail new.trail old.bag (HasNoNewFault old.bag)
   -- and after Ok a power cut leaves the renewed bag, and nothing else
   pub lasting : OnOk result (IsTrue old.honest → IsTrue old.noted → IsOutOfTheWay old.bag
-      → LeavesOnly old.trail new.trail old.bag (renewed old.bag renewal))
+      → LeavesRenewed old.trail new.trail old.bag (renewed old.bag renewal))

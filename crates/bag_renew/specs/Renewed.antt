@@ -159,6 +159,20 @@ module _ (bag : Bag) (renewal : Renewal) where
   abbrev pub is_kept_alg : Alg → Bool
   is_kept_alg alg = is_new_alg alg && is_kept bag (tag_path (Manifest Payload alg))
 
-  -- the payload is read where a payload manifest is written
+  -- an algorithm whose payload manifest is there, and is dropped
+  abbrev pub is_dropped_alg : Alg → Bool
+  is_dropped_alg alg = has_payload_manifest bag alg && has_member renewal.dropped alg
+
+  -- some payload manifest is written
+  abbrev pub writes_payload_manifest : Bool
+  writes_payload_manifest = list_any (λ alg. not (is_kept_alg alg)) new_algs
+
+  -- some payload manifest is dropped
+  abbrev pub drops_payload_manifest : Bool
+  drops_payload_manifest = list_any is_dropped_alg algs
+
+  -- the payload is read where a payload manifest is written, and where one is dropped, unless that
+  -- is to be done unchecked
   abbrev pub reads_payload : Bool
-  reads_payload = list_any (λ alg. not (is_kept_alg alg)) new_algs
+  reads_payload =
+      writes_payload_manifest || (not renewal.unchecked && drops_payload_manifest)

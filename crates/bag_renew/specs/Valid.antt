@@ -16,7 +16,7 @@ use Rattle.bag_stages.specs.Payload.{oxum}
 use Rattle.bag_tags.specs.OnLines.{is_bad_long_element}
 use Rattle.bag_tree.specs.Bag.{Bag, IsBag, LacksFile, file}
 use Rattle.bag_renew.specs.Elements.{has_label}
-use Rattle.bag_renew.specs.Renewed.{is_kept_alg, new_algs, new_elements, renewed, writes_info}
+use Rattle.bag_renew.specs.Renewed.{is_dropped_alg, is_kept_alg, new_algs, new_elements, renewed, writes_info}
 use Rattle.bag_renew.specs.Telling.{AreUnmarked}
 use Rattle.bag_renew.specs.declared.renewal.Renewal.{Renewal}
 
@@ -44,6 +44,13 @@ abbrev pub IsOldDamage : Bag → Renewal → Fault → Type 0
 IsOldDamage bag renewal f =
     IsDamage f × IsFaultOf bag f
     × ((alg : Alg) × (f.alg ≡ Some alg) × (is_kept_alg bag renewal alg ≡ true))
+
+-- Where a payload manifest is dropped, the bag has no fault, by that manifest and by all others;
+-- unless that is to be done unchecked.
+abbrev pub DropsCompared : Bag → Renewal → Type 0
+DropsCompared bag renewal =
+    renewal.unchecked ≡ false → (alg : Alg) → is_dropped_alg bag renewal alg ≡ true
+    → HasNoFault bag
 
 -- the law: a fault of the renewed bag is damage that the bag had, by a manifest that is kept
 abbrev pub RenewedHasOldFaults : Type 0

@@ -52,11 +52,29 @@ pub(crate) fn kept_algs(facts: &Facts, renewal: &Renewal) -> AlgSet
     algs
 }
 
-/// Whether the payload is read: a payload manifest is written.
+/// Whether the payload is read: a payload manifest is written, or one is dropped that isn't to go
+/// unchecked.
 pub(crate) fn reads_payload(facts: &Facts, renewal: &Renewal) -> bool
     ensures { IfBagRead facts.now (λ bag. result ≡ spec.reads_payload bag renewal.now) }
 {
+    let compares = !renewal.unchecked;
+    writes_manifest(facts, renewal) || (compares && drops_manifest(facts, renewal))
+}
+
+/// Whether a payload manifest is written.
+fn writes_manifest(facts: &Facts, renewal: &Renewal) -> bool
+    ensures { IfBagRead facts.now (λ bag.
+        result ≡ spec.writes_payload_manifest bag renewal.now) }
+{
     has_other(new_algs(facts, renewal), kept_algs(facts, renewal))
+}
+
+/// Whether a payload manifest is dropped.
+fn drops_manifest(facts: &Facts, renewal: &Renewal) -> bool
+    ensures { IfBagRead facts.now (λ bag.
+        result ≡ spec.drops_payload_manifest bag renewal.now) }
+{
+    Alg::ALL.iter().any(|alg| is_dropped(facts, renewal, *alg))
 }
 
 /// Whether the renewed bag has the manifests of an algorithm.
@@ -65,6 +83,13 @@ fn is_new(facts: &Facts, renewal: &Renewal, alg: Alg) -> bool
 {
     (has_manifest(facts, Kind::Payload, alg) || has(renewal.added, alg))
         && !has(renewal.dropped, alg)
+}
+
+/// Whether its payload manifest is there, and is dropped.
+pub(crate) fn is_dropped(facts: &Facts, renewal: &Renewal, alg: Alg) -> bool
+    ensures { IfBagRead facts.now (λ bag. result ≡ spec.is_dropped_alg bag renewal.now alg) }
+{
+    has_manifest(facts, Kind::Payload, alg) && has(renewal.dropped, alg)
 }
 
 /// Whether its payload manifest is kept.

@@ -6,6 +6,11 @@ ghost use Rattle.bag_renew.specs.Telling.{BagsThatTellTheirFilesAreValid, Renewe
 ghost use Rattle.bag_renew.specs.Telling.{WrittenManifestsTell};
 ghost use Rattle.bag_renew.specs.Again.{CutBagsCanBeRenewed, ElementsAreRenewedOnce};
 ghost use Rattle.bag_renew.specs.Again.{RenewingAgainMakesTheSame};
+ghost use Rattle.bag_renew.specs.ElementLaws.{AppendedElementsAreLast, NewElementsStandBeforeOxum};
+ghost use Rattle.bag_renew.specs.ElementLaws.{NewOxumIsLast, OxumIsThereOnce, OxumStandsInPlace};
+ghost use Rattle.bag_renew.specs.ElementLaws.{SetElementsAreThere, SetElementsStandInPlace};
+ghost use Rattle.bag_renew.specs.ElementLaws.{UnaskedElementsStay, UnsetElementsAreGone};
+ghost use Rattle.bag_renew.specs.WrittenElements.{WrittenElementsAreRead};
 ghost use Rattle.bag_renew.specs.OnTheWay.{EachBagOnTheWayHasOldFaults, EachBagOnTheWayIsValid};
 ghost use Rattle.bag_renew.specs.OnTheWay.{EachCutBagHasOldFaults, EachCutBagIsValid};
 ghost use Rattle.bag_renew.specs.Laws.{ChangesCanBeMade, ChangesKeepPayload};
@@ -96,6 +101,43 @@ pub fn each_cut_bag_has_old_faults()
 /// So a cut leaves a valid bag, where the bag had no fault.
 pub fn each_cut_bag_is_valid()
     ensures { EachCutBagIsValid }
+{}
+
+/// Elements of `bag-info.txt` of which nothing is asked stay, in their order.
+pub fn elements_that_are_unasked_stay()
+    ensures { UnaskedElementsStay }
+{}
+
+/// With a label that is set there are just the elements that are set with it, each once. They stand
+/// together: in the place of the first old one; where there was none, before `Payload-Oxum`.
+pub fn elements_that_are_set_are_there()
+    ensures there { SetElementsAreThere }
+    ensures in_place { SetElementsStandInPlace }
+    ensures new { NewElementsStandBeforeOxum }
+{}
+
+/// With a label that is unset, and not set, there is none.
+pub fn elements_that_are_unset_are_gone()
+    ensures { UnsetElementsAreGone }
+{}
+
+/// Elements that are appended are the last before `Payload-Oxum`, in their order, but for those
+/// that stand there with their value; and they change no other.
+pub fn elements_that_are_appended_are_last()
+    ensures { AppendedElementsAreLast }
+{}
+
+/// `Payload-Oxum` is there once: in the place of the first old one; where there was none, last.
+pub fn payload_oxum_is_there_once()
+    ensures once { OxumIsThereOnce }
+    ensures in_place { OxumStandsInPlace }
+    ensures last { NewOxumIsLast }
+{}
+
+/// Of the `bag-info.txt` that is written a reader finds just the elements of which the laws above
+/// speak, where they can be written.
+pub fn written_elements_are_read()
+    ensures { WrittenElementsAreRead }
 {}
 
 /// What is asked of elements, asked again, changes nothing, as long as it can be asked.

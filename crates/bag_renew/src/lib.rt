@@ -1,7 +1,8 @@
 //! The renewed bag of a bag: its tag files written anew in place, and its payload as it was.
 //!
 //! ```
-//! let renewal = Renewal { added: AlgSet::empty().with(Alg::Sha512), dropped, elements, to_1_0: false };
+//! let mut renewal = Renewal::nothing(alloc);
+//! renewal.added = AlgSet::empty().with(Alg::Sha512);
 //! let sums = check_and_sum(alloc, &mut tree, file, &expected, algs, &mut buffer)?;
 //! for manifest in &new_manifests(alloc, &mut tree, renewal.added)? {
 //!     let bytes = manifest.content.as_slice();
@@ -13,7 +14,7 @@
 //! they say, each file is read once: the digests that manifests give are compared, and the new ones
 //! computed, over the same bytes; and the elements that stay are read of these bytes.
 //!
-//! Of a bag with a fault nothing is made. Over any tree the changes and the new manifests are of the
+//! Of a bag in which a fault is found nothing is made. Over any tree the changes and the new manifests are of the
 //! very bytes whose digests were compared. The renewed bag has no fault, and the payload of the old
 //! one. The changes that make it put or remove one tag file after the other, each can be made after
 //! those before it, and none touches the payload.

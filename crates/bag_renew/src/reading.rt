@@ -28,8 +28,8 @@ pub(crate) const FULL: Options = Options {
 /// It is refused with the first of its faults of the stages that open no file; then for what stands
 /// in the way of a renewal; then for an element that can't be written; and then for the first file
 /// that has another digest than a manifest gives. The tag files are read first. Then each file is
-/// opened once, but the payload only where a payload manifest is written; and the bytes of
-/// `bag-info.txt` are kept, as its digests are compared then.
+/// opened once, but the payload only where a payload manifest is written, or dropped and not
+/// unchecked; and the bytes of `bag-info.txt` are kept, as its digests are compared then.
 pub(crate) fn read_bag<T: Tree>(
     alloc: Global,
     tree: &mut T,

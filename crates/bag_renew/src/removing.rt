@@ -2,13 +2,13 @@
 ghost use Rattle.std.specs.Prelude.{◌≡◌, ◌++◌, IfOk};
 ghost use Rattle.bag_facts.specs.FactsOfBag.{IfBagRead};
 ghost use Rattle.bag_renew.specs.Changes as spec;
-ghost use Rattle.bag_renew.specs.Composing.{AreOfFiles, is_dropped_alg, removals_of};
-ghost use Rattle.bag_renew.specs.Renewed.{algs_where, has_tag_manifest};
+ghost use Rattle.bag_renew.specs.Composing.{AreOfFiles, removals_of};
+ghost use Rattle.bag_renew.specs.Renewed.{algs_where, has_tag_manifest, is_dropped_alg};
 ghost use Rattle.bag_renew.specs.declared.renewal.Renewal.{Renewal as Asked};
 
 use crate::Renewal;
 use crate::alg_choice::push_where;
-use crate::algorithms::{has, has_manifest};
+use crate::algorithms::{has_manifest, is_dropped};
 use crate::obstacles::BEGUN_FILE;
 use crate::tag_files::is_listed;
 use bag_facts::Facts;
@@ -66,12 +66,6 @@ fn dropped_algs(alloc: Global, facts: &Facts, renewal: &Renewal) -> Result<Vec<A
         push_where(&mut algs, alg, is_dropped(facts, renewal, alg))?;
     }
     Ok(algs)
-}
-
-fn is_dropped(facts: &Facts, renewal: &Renewal, alg: Alg) -> bool
-    ensures { IfBagRead facts.now (λ bag. result ≡ is_dropped_alg bag renewal.now alg) }
-{
-    has_manifest(facts, Kind::Payload, alg) && has(renewal.dropped, alg)
 }
 
 /// The manifests of these algorithms are removed.

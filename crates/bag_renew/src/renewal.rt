@@ -24,6 +24,9 @@ pub struct Renewal {
     pub added: AlgSet,
     /// Algorithms whose manifests are to go.
     pub dropped: AlgSet,
+    /// They go also where no digest of the payload was compared. Else the payload is read before a
+    /// payload manifest goes.
+    pub unchecked: bool,
     /// What is asked of `bag-info.txt`.
     pub elements: ElementChanges,
     /// A bag of version 0.97 becomes one of 1.0, of which else none is renewed.
@@ -38,6 +41,7 @@ impl Renewal {
         Renewal {
             added: AlgSet::empty(),
             dropped: AlgSet::empty(),
+            unchecked: false,
             elements: ElementChanges {
                 set: Items::new(alloc),
                 appended: Items::new(alloc),

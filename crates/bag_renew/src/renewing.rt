@@ -1,6 +1,7 @@
 //! Renewing a bag in place.
 ghost use Rattle.std.specs.Prelude.{◌≡◌, ◌≤◌, ◌<◌, ◌-◌, All, IfErr, IfOk, OnOk, Some, length, slice_get, true};
-ghost use Rattle.bag_tree.specs.ChangeFiles.{HasChanged, IsOfFile, LastsChanged, OutlastsChanges};
+ghost use Rattle.bag_tree.specs.ChangeFiles.{HasChanged, IsOfFile, LastsResumed};
+ghost use Rattle.bag_tree.specs.ChangeFiles.{OutlastsResumedChanges};
 ghost use Rattle.bag_tree.specs.Tree.{Keeps};
 ghost use Rattle.bag_tree.specs.declared.file_change.FileChange.{FileChange as Change};
 ghost use Rattle.bag_renew.specs.Openings.{OpensBefore, OpensForRenewal};
@@ -26,13 +27,15 @@ use std::alloc::{AllocError, Global};
 /// All is read first. A bag is refused with the first of its faults of the stages that open no
 /// payload file; else for what stands in the way of a renewal; else for an element that can't be
 /// written; and else with the first file that has another digest than a manifest gives. Where a
-/// payload manifest is written, each payload file is opened once, and these digests are compared
-/// with those of the very bytes of which the new ones are computed. Where none is, no payload file
-/// is opened. The elements of `bag-info.txt` that stay are those of the bytes that were compared.
+/// payload manifest is written or dropped, each payload file is opened once, and the digests of all
+/// manifests, also of those that go, are compared with those of the very bytes of which the new ones
+/// are computed. Where none is written, and none dropped but unchecked, no payload file is opened.
+/// The elements of `bag-info.txt` that stay are those of the bytes that were compared.
 ///
 /// The tag manifests are removed first, and put last; a file of the name `.bagit-begun`, which a
 /// renewal that was cut off may leave, is removed. Each bag on the way has the payload, and after a
-/// refusal or a power cut the same renewal, asked again, goes on.
+/// refusal, a kill or a power cut the same renewal, asked again, goes on: before it changes anything
+/// it syncs the base folder, so that what the first one did there is durable.
 pub fn renew<T: ReplaceTree>(
     alloc: Global,
     tree: &mut T,
@@ -98,10 +101,10 @@ fn put_changes<T: ReplaceTree>(tree: &mut T, changes: Vec<FileChange>) -> Result
         (HasChanged begun_file changes.items (T.state tree.old) (T.state tree.new)) }
     ensures stopped { IfErr result
         (HasStoppedAt changes.items (T.state tree.old) (T.state tree.new)) }
-    ensures any_moment { OutlastsChanges
+    ensures any_moment { OutlastsResumedChanges
         begun_file changes.items (T.state tree.old) (T.state tree.new) }
     ensures lasting { OnOk result
-        (LastsChanged begun_file changes.items (T.state tree.old) (T.state tree.new)) }
+        (LastsResumed begun_file changes.items (T.state tree.old) (T.state tree.new)) }
 {
     match change_files(tree, BEGUN_FILE, &changes) {
         Ok(()) => Ok(()),

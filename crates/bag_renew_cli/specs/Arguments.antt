@@ -18,7 +18,8 @@ manner_arguments =
 -- those that choose algorithms and the version
 abbrev pub list_arguments : List Rule
 list_arguments =
-    option_rule (codes "add") ∷ option_rule (codes "drop") ∷ flag_rule (codes "to-1.0") ∷ []
+    option_rule (codes "add") ∷ option_rule (codes "drop") ∷ flag_rule (codes "unchecked")
+    ∷ flag_rule (codes "to-1.0") ∷ []
 
 -- those of elements
 abbrev pub element_arguments : List Rule

@@ -47,7 +47,7 @@ abbrev pub has_others : List Row → Bool
 has_others rows =
     has_lists rows
     || (has_elements rows
-    || (is_given rows (codes "to-1.0") || is_dry rows))
+    || (is_given rows (codes "unchecked") || (is_given rows (codes "to-1.0") || is_dry rows)))
 
 abbrev pub has_several : List Row → Bool
 has_several rows = nat_lt 1 (length (directories rows))

@@ -66,6 +66,7 @@ action_of None is_dry = if is_dry then DryRun else Renew
 pub record IsRenewalOf (rows : List Row) (renewal : Renewal) : Type 0 where
   pub added_is : algs_given rows (codes "add") ≡ Some renewal.added
   pub dropped_is : algs_given rows (codes "drop") ≡ Some renewal.dropped
+  pub unchecked_is : renewal.unchecked ≡ is_given rows (codes "unchecked")
   pub set_is : renewal.elements.set ≡ elements rows (codes "set")
   pub append_is : renewal.elements.appended ≡ elements rows (codes "append")
   pub unset_is : renewal.elements.unset ≡ values rows (codes "unset")

@@ -56,7 +56,12 @@ fn with_list_arguments<'a>(alloc: Global, command: Command<'a>) -> Result<Comman
             alloc,
             "drop",
             "ALG,..",
-            "Without manifests of these algorithms",
+            "Without manifests of these algorithms, after the payload was read and compared",
+        ))?
+        .arg(flag(
+            alloc,
+            "unchecked",
+            "Drop manifests without reading the payload for it",
         ))?
         .arg(flag(alloc, "to-1.0", "A bag of version 0.97 becomes one of 1.0"))
 }

@@ -75,6 +75,7 @@ pub(crate) fn has_others(matches: &ArgMatches<'_>) -> bool
 {
     has_lists(matches)
         || has_elements(matches)
+        || is_given(matches, "unchecked")
         || is_given(matches, "to-1.0")
         || is_given(matches, "dry-run")
 }

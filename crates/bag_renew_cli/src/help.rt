@@ -5,10 +5,11 @@ pub(crate) const ABOUT: &str = "\
 Renews bags in place (BagIt 1.0, RFC 8493): manifests of further algorithms, elements of
 bag-info.txt, the version.
 
-Each payload file is read once at most; its old digests are compared with the very bytes of which
-the new ones are computed. A bag with a fault is refused, and nothing of it is changed. One tag
-file after the other is put or removed, each whole; after a cut the same words make the renewed bag.
-Without a request the tag manifests are written anew, and nothing else.";
+Each payload file is read once at most, where an algorithm is added or dropped or the version
+changes; its old digests are compared with the very bytes of which the new ones are computed. A bag
+in which a fault is found is refused, and nothing of it is changed. One tag file after the other is
+put or removed, each whole; after a cut the same words make the renewed bag. Without a request the
+tag manifests are written anew, and nothing else.";
 
 /// What the words mean, the exit statuses and examples.
 pub(crate) const AFTER: &str = "\
@@ -17,8 +18,8 @@ sign; a value's blanks at both ends are dropped. Elements are first unset, then 
 those of each option in the order of the words.
 
 Exit statuses, of several directories the greatest:
-  0  each bag was renewed, or could be
-  1  a bag has a fault, and wasn't changed
+  0  each bag was renewed, or --dry-run found nothing against it
+  1  a fault was found in a bag, which wasn't changed
   2  the words are refused
   3  a bag wasn't renewed for another reason, or memory ran out
 

@@ -138,6 +138,7 @@ fn renewal(alloc: Global, matches: &ArgMatches<'_>) -> Result<Renewal, RenewUsag
     Ok(Renewal {
         added,
         dropped,
+        unchecked: is_given(matches, "unchecked"),
         elements: ElementChanges {
             set: given::elements(alloc, matches, "set")?,
             appended: given::elements(alloc, matches, "append")?,

@@ -143,8 +143,7 @@ module _ (old new : DiskState) (own own_then given given_then : ℕ) (last last_
       → old.failures + own ≤ new.failures + own_then → given_then ≡ given → LeavesPut old new beside name bytes
       → LeavesReplaced beside name bytes (file_state_after old own given last)
       (file_state_after new own_then given_then last_then)
-  put_left beside name bytes disk disk_then is grows same (inl looks) =
-      inl (step_same (looked old new looks) grows same)
+  put_left beside name bytes disk disk_then is grows same (inl syncs) = inl (step_same syncs grows same)
   put_left beside name bytes disk disk_then is grows same (inr (inl begins)) =
       elim (step_begun beside bytes disk disk_then is grows same (inr begins))
       [ inl all ↦ inl all | inr part ↦ inr (inl part) ]
@@ -152,11 +151,11 @@ module _ (old new : DiskState) (own own_then given given_then : ℕ) (last last_
       inr (inr (put_changed beside name bytes disk disk_then grows puts))
 
   pub gone_left : (name : List ℕ) → IsDisk old.nodes → IsDisk new.nodes
-      → old.failures + own ≤ new.failures + own_then → given_then ≡ given → OnlyLooks old new ⊎ RemovesIt old new name
+      → old.failures + own ≤ new.failures + own_then → given_then ≡ given → OnlySyncs old new ⊎ RemovesIt old new name
       → IsUnchanged (file_state_after old own given last) (file_state_after new own_then given_then last_then)
       ⊎ AppliesStep (lose name) 0 (file_state_after old own given last)
       (file_state_after new own_then given_then last_then)
-  gone_left name disk disk_then grows same (inl looks) = inl (step_same (looked old new looks) grows same)
+  gone_left name disk disk_then grows same (inl syncs) = inl (step_same syncs grows same)
   gone_left name disk disk_then grows same (inr removes) = inr (gone_changed name disk disk_then grows removes)
 
 pub looked_same : (old new : DiskState) → OnlyLooks old new → SameDisk old new

@@ -8,7 +8,7 @@ use Rattle.bag_tree.specs.FileChanges.{AsksFirstOf, AsksPut, AsksRemove}
 use Rattle.bag_tree.specs.declared.event.DeviceEvent.{DeviceEvent}
 use Rattle.bag_tree.specs.declared.event.DeviceEvent.TheVariants as event
 use Rattle.bag_disk.specs.Disk.{DiskState}
-use Rattle.bag_disk.specs.DiskNodes.{OnlyLooks}
+use Rattle.bag_disk.specs.DiskNodes.{OnlyLooks, OnlySyncs}
 use Rattle.bag_disk.specs.WritableDisk.{Notes}
 use Rattle.bag_disk.specs.declared.refusal.Refusal.{Refusal}
 use Rattle.bag_store.specs.Asking.{AsksOfDisk}
@@ -31,16 +31,18 @@ first_and P before first rest asks = record {
   is = sym (append-nil first);
 }
 
--- the first of what comes first of something longer
-pub first_of_longer : (P Q : Asking) (b c tail now : List DeviceEvent)
-    → ((all : List DeviceEvent) → P b all → Q c (all ++ tail)) → AsksFirstOf P b now → AsksFirstOf Q c now
-first_of_longer P Q b c tail now longer some = record {
-  first = some.first;
+-- the first of what comes after one event in something longer
+pub first_of_longer : (P Q : Asking) (b c : List DeviceEvent) (e : DeviceEvent) (tail now : List DeviceEvent)
+    → ((all : List DeviceEvent) → P b all → Q c (e ∷ (all ++ tail))) → AsksFirstOf P b now → AsksFirstOf Q c (e ∷ now)
+first_of_longer P Q b c e tail now longer some = record {
+  first = e ∷ some.first;
   rest = some.rest ++ tail;
-  asked = subst (Q c) (append_assoc some.first some.rest tail) (longer (some.first ++ some.rest) some.asked);
+  asked =
+      subst (λ (xs : List DeviceEvent). Q c (e ∷ xs)) (append_assoc some.first some.rest tail)
+      (longer (some.first ++ some.rest) some.asked);
   refused = some.refused;
   are_refused = some.are_refused;
-  is = some.is;
+  is = ap (λ (xs : List DeviceEvent). e ∷ xs) some.is;
 }
 
 both_nothing : (xs ys : List DeviceEvent) → ChangeNothing xs → ChangeNothing ys → ChangeNothing (xs ++ ys)
@@ -126,18 +128,20 @@ pub begun_asked : (name bytes : List ℕ) (old new : DiskState) (done : Result (
 begun_asked name bytes old new (Ok done) asked noted = asked noted
 begun_asked name bytes old new (Err refusal) asked noted = begun_adds name bytes old new (asked noted)
 
--- a file that is made is put by two events more
-put_of_file : (beside name bytes : List ℕ) (b c all : List DeviceEvent) → AsksFile beside bytes b all
-    → AsksPut beside name bytes c (all ++ event.Rename beside name ∷ event.SyncFolder [] ∷ [])
+-- a file that is made after a sync of the base folder is put by two events more
+pub put_of_file : (beside name bytes : List ℕ) (b c all : List DeviceEvent) → AsksFile beside bytes b all
+    → AsksPut beside name bytes c
+    (event.SyncFolder [] ∷ (all ++ event.Rename beside name ∷ event.SyncFolder [] ∷ []))
 put_of_file beside name bytes b c all file = record {
   syncs = file.syncs;
   are_syncs = file.are_syncs;
   pieces = file.pieces;
   whole = file.whole;
   asked =
-      ap (λ (xs : List DeviceEvent). xs ++ event.Rename beside name ∷ event.SyncFolder [] ∷ []) file.asked
+      ap (λ (xs : List DeviceEvent). event.SyncFolder [] ∷ xs)
+      (ap (λ (xs : List DeviceEvent). xs ++ event.Rename beside name ∷ event.SyncFolder [] ∷ []) file.asked
       ∙ append_assoc (file.syncs ++ event.Create beside ∷ map (event.Write beside) file.pieces)
-      (event.Sync beside ∷ event.SyncFolder [] ∷ []) (event.Rename beside name ∷ event.SyncFolder [] ∷ []);
+      (event.Sync beside ∷ event.SyncFolder [] ∷ []) (event.Rename beside name ∷ event.SyncFolder [] ∷ []));
 }
 
 one_put : (beside name bytes : List ℕ) (before : List DeviceEvent)
@@ -146,6 +150,12 @@ one_put beside name bytes before = (
   _,
   record { syncs = []; are_syncs = tt; pieces = bytes ∷ []; whole = append-nil bytes; asked = refl },
 )
+
+-- what comes after the sync
+after_sync : (old seen new : List DeviceEvent) (e : DeviceEvent) (now : List DeviceEvent) → seen ≡ old ++ e ∷ []
+    → new ≡ seen ++ now → new ≡ old ++ (e ∷ now)
+after_sync old seen new e now first then =
+    then ∙ ap (λ (xs : List DeviceEvent). xs ++ now) first ∙ append_assoc old (e ∷ []) now
 
 module _ (beside name bytes : List ℕ) where
   abbrev rename : DeviceEvent
@@ -164,30 +174,30 @@ module _ (beside name bytes : List ℕ) where
         is = none_first (AsksPut beside name bytes) old.trail one.0 one.1;
       }
 
-  -- the making of the file was refused
-  pub put_begun : (old seen new : DiskState) → OnlyLooks old seen
+  -- the base folder was synced, and the making of the file was refused
+  pub put_begun : (old seen new : DiskState) → OnlySyncs old seen → (IsTrue old.noted → Notes base old seen)
       → (IsTrue seen.noted → Adds (AsksFirstOf (AsksFile beside bytes)) seen.trail new.trail) → IsTrue old.noted
       → Adds (AsksFirstOf (AsksPut beside name bytes)) old.trail new.trail
-  put_begun old seen new looks adds noted =
-      let file = adds (looks.noted ∙ noted) in record {
-        now = file.now;
-        trail = file.trail ∙ ap (λ (xs : List DeviceEvent). xs ++ file.now) looks.trail;
+  put_begun old seen new ready synced adds noted =
+      let file = adds (ready.noted ∙ noted) in record {
+        now = base ∷ file.now;
+        trail = after_sync old.trail seen.trail new.trail base file.now (synced noted) file.trail;
         is =
-            first_of_longer (AsksFile beside bytes) (AsksPut beside name bytes) seen.trail old.trail
+            first_of_longer (AsksFile beside bytes) (AsksPut beside name bytes) seen.trail old.trail base
             (rename ∷ base ∷ []) file.now (put_of_file beside name bytes seen.trail old.trail) file.is;
       }
 
-  module _ (old seen made : DiskState) (looks : OnlyLooks old seen)
+  module _ (old seen made : DiskState) (ready : OnlySyncs old seen) (synced : IsTrue old.noted → Notes base old seen)
       (adds : IsTrue seen.noted → Adds (AsksFile beside bytes) seen.trail made.trail) where
     -- it was made, and not given its name
     pub put_made : (new : DiskState) → OnlyLooks made new → IsTrue old.noted
         → Adds (AsksFirstOf (AsksPut beside name bytes)) old.trail new.trail
     put_made new two noted =
-        let file = adds (looks.noted ∙ noted) in record {
-          now = file.now;
-          trail = two.trail ∙ file.trail ∙ ap (λ (xs : List DeviceEvent). xs ++ file.now) looks.trail;
+        let file = adds (ready.noted ∙ noted) in record {
+          now = base ∷ file.now;
+          trail = two.trail ∙ after_sync old.trail seen.trail made.trail base file.now (synced noted) file.trail;
           is =
-              first_and (AsksPut beside name bytes) old.trail file.now (rename ∷ base ∷ [])
+              first_and (AsksPut beside name bytes) old.trail (base ∷ file.now) (rename ∷ base ∷ [])
               (put_of_file beside name bytes seen.trail old.trail file.now file.is);
         }
 
@@ -197,17 +207,16 @@ module _ (beside name bytes : List ℕ) where
         → OnErr r (OnlyLooks put new)
         → AsksOfDisk (AsksPut beside name bytes) (AsksFirstOf (AsksPut beside name bytes)) old new r
     put_asked put new (Ok u) same notes again base_notes stays noted =
-        let first = looks.noted ∙ noted in
-        let file = adds first in
-        let is_noted = same ∙ first in
+        let file = adds (ready.noted ∙ noted) in
+        let is_noted = same ∙ ready.noted ∙ noted in
         record {
-          now = file.now ++ rename ∷ base ∷ [];
+          now = base ∷ (file.now ++ rename ∷ base ∷ []);
           trail =
               base_notes (again ∙ is_noted)
               ∙ ap (λ (xs : List DeviceEvent). xs ++ base ∷ [])
               (notes is_noted ∙ ap (λ (xs : List DeviceEvent). xs ++ rename ∷ [])
-              (file.trail ∙ ap (λ (xs : List DeviceEvent). xs ++ file.now) looks.trail))
-              ∙ in_a_row old.trail file.now;
+              (after_sync old.trail seen.trail made.trail base file.now (synced noted) file.trail))
+              ∙ in_a_row old.trail (base ∷ file.now);
           is = put_of_file beside name bytes seen.trail old.trail file.now file.is;
         }
       where
@@ -215,24 +224,27 @@ module _ (beside name bytes : List ℕ) where
             → ((a ++ b) ++ rename ∷ []) ++ base ∷ [] ≡ a ++ (b ++ rename ∷ base ∷ [])
         in_a_row a b = simp append_assoc
     put_asked put new (Err f) same notes again base_notes stays noted =
-        let first = looks.noted ∙ noted in
-        let file = adds first in
+        let file = adds (ready.noted ∙ noted) in
+        let first = base ∷ file.now in
         record {
-          now = file.now ++ rename ∷ [];
+          now = first ++ rename ∷ [];
           trail =
               stays.trail
-              ∙ notes (same ∙ first) ∙ ap (λ (xs : List DeviceEvent). xs ++ rename ∷ [])
-              (file.trail ∙ ap (λ (xs : List DeviceEvent). xs ++ file.now) looks.trail)
-              ∙ append_assoc old.trail file.now (rename ∷ []);
+              ∙ notes (same ∙ ready.noted ∙ noted) ∙ ap (λ (xs : List DeviceEvent). xs ++ rename ∷ [])
+              (after_sync old.trail seen.trail made.trail base file.now (synced noted) file.trail)
+              ∙ append_assoc old.trail first (rename ∷ []);
           is =
-              first_and (AsksPut beside name bytes) old.trail (file.now ++ rename ∷ []) (base ∷ [])
-              (subst (AsksPut beside name bytes old.trail) (sym (append_assoc file.now (rename ∷ []) (base ∷ [])))
+              first_and (AsksPut beside name bytes) old.trail (first ++ rename ∷ []) (base ∷ [])
+              (subst (AsksPut beside name bytes old.trail) (sym (append_assoc first (rename ∷ []) (base ∷ [])))
               (put_of_file beside name bytes seen.trail old.trail file.now file.is));
         }
 
 module _ (name : List ℕ) where
+  abbrev first : DeviceEvent
+  first = event.SyncFolder []
+
   one_remove : (before : List DeviceEvent)
-      → AsksRemove name before (event.Remove name ∷ event.SyncFolder [] ∷ [])
+      → AsksRemove name before (first ∷ event.Remove name ∷ first ∷ [])
   one_remove before = record { syncs = []; are_syncs = tt; asked = refl }
 
   -- nothing but looks, before the file was removed
@@ -244,26 +256,39 @@ module _ (name : List ℕ) where
     is = none_first (AsksRemove name) old.trail _ (one_remove old.trail);
   }
 
+  -- the base folder was synced, and no more
+  pub not_removed_synced : (old seen new : DiskState) → (IsTrue old.noted → Notes first old seen)
+      → OnlyLooks seen new → IsTrue old.noted → Adds (AsksFirstOf (AsksRemove name)) old.trail new.trail
+  not_removed_synced old seen new synced looks noted = record {
+    now = first ∷ [];
+    trail = looks.trail ∙ synced noted;
+    is =
+        first_and (AsksRemove name) old.trail (first ∷ []) (event.Remove name ∷ first ∷ []) (one_remove old.trail);
+  }
+
   -- it was removed, and the base folder was synced or not
-  pub remove_asked : (old seen gone new : DiskState) (r : Answer) → OnlyLooks old seen
+  pub remove_asked : (old seen gone new : DiskState) (r : Answer) → OnlySyncs old seen
+      → (IsTrue old.noted → Notes first old seen)
       → (IsTrue seen.noted → Notes (event.Remove name) seen gone) → gone.noted ≡ seen.noted
-      → NotesIt (event.SyncFolder []) gone new r → OnErr r (OnlyLooks gone new)
+      → NotesIt first gone new r → OnErr r (OnlyLooks gone new)
       → AsksOfDisk (AsksRemove name) (AsksFirstOf (AsksRemove name)) old new r
-  remove_asked old seen gone new (Ok u) looks notes same base_notes stays noted =
-      let first = looks.noted ∙ noted in record {
-        now = event.Remove name ∷ event.SyncFolder [] ∷ [];
+  remove_asked old seen gone new (Ok u) ready synced notes same base_notes stays noted =
+      let is_noted = ready.noted ∙ noted in record {
+        now = first ∷ event.Remove name ∷ first ∷ [];
         trail =
-            base_notes (same ∙ first) ∙ ap (λ (xs : List DeviceEvent). xs ++ event.SyncFolder [] ∷ [])
-            (notes first ∙ ap (λ (xs : List DeviceEvent). xs ++ event.Remove name ∷ []) looks.trail)
-            ∙ append_assoc old.trail (event.Remove name ∷ []) (event.SyncFolder [] ∷ []);
+            base_notes (same ∙ is_noted) ∙ ap (λ (xs : List DeviceEvent). xs ++ first ∷ [])
+            (after_sync old.trail seen.trail gone.trail first (event.Remove name ∷ []) (synced noted) (notes is_noted))
+            ∙ append_assoc old.trail (first ∷ event.Remove name ∷ []) (first ∷ []);
         is = one_remove old.trail;
       }
-  remove_asked old seen gone new (Err f) looks notes same base_notes stays noted =
-      let first = looks.noted ∙ noted in record {
-        now = event.Remove name ∷ [];
+  remove_asked old seen gone new (Err f) ready synced notes same base_notes stays noted =
+      let is_noted = ready.noted ∙ noted in record {
+        now = first ∷ event.Remove name ∷ [];
         trail =
-            stays.trail ∙ notes first ∙ ap (λ (xs : List DeviceEvent). xs ++ event.Remove name ∷ []) looks.trail;
+            stays.trail
+            ∙ after_sync old.trail seen.trail gone.trail first (event.Remove name ∷ []) (synced noted)
+            (notes is_noted);
         is =
-            first_and (AsksRemove name) old.trail (event.Remove name ∷ []) (event.SyncFolder [] ∷ [])
+            first_and (AsksRemove name) old.trail (first ∷ event.Remove name ∷ []) (first ∷ [])
             (one_remove old.trail);
       }

@@ -3,7 +3,7 @@ use Rattle.std.specs.Prelude.{ℕ, ◌≡◌, ◌⊎◌, Bool, true, false, IsTr
 use Rattle.std.specs.Prelude.{take}
 use Rattle.bag_disk.specs.Disk.{DiskState, Node, Nodes, is_folder_node}
 use Rattle.bag_disk.specs.Disk.Node.{File, Folder, Other}
-use Rattle.bag_disk.specs.DiskNodes.{OnlyLooks, node}
+use Rattle.bag_disk.specs.DiskNodes.{OnlyLooks, OnlySyncs, node}
 use Rattle.bag_disk.specs.ReplaceDisk.{without_node}
 use Rattle.bag_disk.specs.WritableDisk.{Appends, ClosesOpenFile, HasFileNode, with_file_node}
 
@@ -49,10 +49,11 @@ pub record Puts (old new : DiskState) (beside name bytes : List ℕ) : Type 0 wh
   pub closed : ClosesOpenFile old new
   pub file : IsTrue old.honest → PutsFile old.nodes new.nodes beside name bytes
 
--- nothing was changed, or a file was begun beside, or the file was put
+-- nothing was changed, though there may have been a sync, or a file was begun beside, or the file
+-- was put
 abbrev pub LeavesPut : DiskState → DiskState → List ℕ → List ℕ → List ℕ → Type 0
 LeavesPut old new beside name bytes =
-    OnlyLooks old new ⊎ Begins old new beside bytes ⊎ Puts old new beside name bytes
+    OnlySyncs old new ⊎ Begins old new beside bytes ⊎ Puts old new beside name bytes
 
 -- nothing stands there, or a regular file
 abbrev pub is_none_or_file : Option Node → Bool

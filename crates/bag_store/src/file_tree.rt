@@ -19,12 +19,13 @@ use std::rt::Files;
 /// stands in which it found no file, since it might be replaced.
 ///
 /// A step that changes it is one call of the disk: a folder is made, or something is renamed, never
-/// copied. It looks first, and replaces nothing that stood there then. Before `make_folder` and
-/// `rename_folder` make their change they sync the base folder, the latter also the folder that it
-/// renames, and so does the first `move_in` after one of them: where the device refuses that, they
-/// are refused, and nothing is changed. What a disk calls a wrong name, as one that is too long, is
-/// `Device` too. A refused `create` may leave a file of some first bytes, which stays open until
-/// the next step or until the tree is dropped; so may a refused `replace` at the name beside.
+/// copied. It looks first, and replaces nothing that stood there then. Before `make_folder`,
+/// `rename_folder`, `replace` and `remove` make their change they sync the base folder,
+/// `rename_folder` also the folder that it renames, and so does the first `move_in` after one of
+/// them: where the device refuses that, they are refused, and nothing is changed. What a disk calls
+/// a wrong name, as one that is too long, is `Device` too. A refused `create` may leave a file of
+/// some first bytes, which stays open until the next step or until the tree is dropped; so may a
+/// refused `replace` at the name beside.
 #[derive(Drop)]
 pub struct FileTree<D: Disk> {
     alloc: Global,

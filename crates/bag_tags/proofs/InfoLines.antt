@@ -6,6 +6,8 @@ use Rattle.bag_tags.proofs.Common.{before_first, list_all, list_any, position_or
 use Rattle.bag_tags.proofs.Common.{begins_element, is_colon, is_label, leading_continuations, split, value_of_parts}
 use Rattle.bag_tags.proofs.Common.{is_line_end, IsText, has_mark, trim, V10, NewElement, has_outer_blank, info_line}
 use Rattle.bag_tags.proofs.Common.{is_bad_element}
+use Rattle.bag_text.specs.declared.rules.Rules.{Rules}
+use Rattle.bag_text.specs.declared.rules.Rules.TheVariants.{V097}
 use Rattle.bag_read.proofs.Fronts.{front_len, take_front}
 use Rattle.bag_tags.proofs.TrimmedTexts.{trimmed, trim_behind, first_unblank, ends_unblank}
 use Rattle.bag_tags.proofs.WrittenLines.{IsWritten, behind, few_utf8}
@@ -52,8 +54,9 @@ module _ (label value : List ℕ) where
     label_stands : is_label label ≡ true
     label_stands = grind (arith, empty_test, ends_unblank)
 
-    line_splits : split V10 (info_line element) ≡ Some (label, behind_label)
-    line_splits = grind (arith, line_is, before, after, label_stands, list_any-append)
+    line_splits : (rules : Rules) → split rules (info_line element) ≡ Some (label, behind_label)
+    line_splits V10 = grind (arith, line_is, before, after, label_stands, list_any-append)
+    line_splits V097 = grind (arith, line_is, before, after, label_stands, list_any-append)
 
     marked_nowhere : (rest : List ℕ) → has_mark (info_line element ++ rest) ≡ false
     marked_nowhere rest = grind (arith, line_is, append_assoc)
@@ -73,8 +76,8 @@ module _ (e : NewElement) (good : IsGood e) where
   value_good : (list_any is_line_end e.1 ≡ false) × (has_outer_blank e.1 ≡ false)
   value_good = grind (arith, or_false)
 
-  pub splits : split V10 (info_line e) ≡ Some (e.0, 32 ∷ e.1)
-  splits = line_splits e.0 e.1 label_good
+  pub splits : (rules : Rules) → split rules (info_line e) ≡ Some (e.0, 32 ∷ e.1)
+  splits rules = line_splits e.0 e.1 label_good rules
 
   pub begins : begins_element (info_line e) ≡ true
   begins = grind (arith, label_good, line_is, begins_some)

@@ -11,6 +11,7 @@ pub mod ManifestLines
 pub mod ManifestReadAgain
 pub mod OxumReads
 pub mod ReadInfo
+pub mod SpelledPaths
 pub mod SummedTexts
 pub mod TrimmedTexts
 pub mod WrittenLines

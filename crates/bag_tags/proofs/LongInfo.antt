@@ -4,6 +4,7 @@ use Rattle.bag_tags.proofs.Common.{false, map, not, refl, subst, sym, true, ℕ,
 use Rattle.bag_tags.proofs.Common.{◌≢◌, eqb, AllByRecursion, list_any, or_false, is_line_end, line_feed}
 use Rattle.bag_tags.proofs.Common.{trim, IsText, NewElement, V10, has_outer_blank, info_line, begins_element, split, is_blank}
 use Rattle.bag_tags.proofs.Common.{IsUtf8-append, IsUtf8-from_is_utf8, nat_tests}
+use Rattle.bag_text.specs.declared.rules.Rules.{Rules}
 use Rattle.std.proofs.lemmas.List.Splits.{join_with_byte-slice_split}
 use Rattle.std.specs.List.{enumerate_from, join_with_byte, onto_first}
 use Rattle.std.proofs.Common.{cond, ◌||◌}
@@ -20,7 +21,7 @@ use Rattle.bag_tags.proofs.WrittenLines.{IsWritten, file_lines, is_text, text}
 use Rattle.bag_tags.proofs.Common.{lit<, is_utf8-from_IsUtf8, IsUtf8, true≢false, both_true, not_true, ◌&&◌, None}
 use Rattle.bag_read.specs.InfoReader.{element_if, fault_at, fault_unless}
 use Rattle.bag_tags.proofs.Common.{Option, Contains, LineFault, recursion_from_All, lines_of_file}
-use Rattle.bag_tags.specs.ReadAgain.{LongInfoIsReadAgain}
+use Rattle.bag_tags.specs.ReadAgain.{LongInfoIsReadAgain, LongInfoIsReadAgainBy}
 use Rattle.bag_read.specs.Info.{IsInfoFault}
 use Rattle.bag_text.proofs.ListOf.{contains_nothing}
 use Rattle.bag_read.proofs.InfoFaults.{faults_of_text}
@@ -218,112 +219,113 @@ value_joined : (part : List ℕ) (parts : List (List ℕ)) → part ++ tails par
 value_joined part [] = append-nil part
 value_joined part (next ∷ parts) = ap (λ t. part ++ line_feed ∷ t) (value_joined next parts)
 
--- the elements of lines that are counted from n
-abbrev read_from : ℕ → List (List ℕ) → List NewElement
-read_from n all = map {B = NewElement} (λ e. (e.label, e.value)) (elements V10 (enumerate_from n all))
+module _ (rules : Rules) where
+  -- the elements of lines that are counted from n
+  abbrev read_from : ℕ → List (List ℕ) → List NewElement
+  read_from n all = map {B = NewElement} (λ e. (e.label, e.value)) (elements rules (enumerate_from n all))
 
--- a line that goes on with an element begins none
-no_begin : (part : List ℕ) → IsGoodPart part → begins_element (tab ∷ part) ≡ false
-no_begin part good = ap (λ b. not b && false) (part_plain part good)
+  -- a line that goes on with an element begins none
+  no_begin : (part : List ℕ) → IsGoodPart part → begins_element (tab ∷ part) ≡ false
+  no_begin part good = ap (λ b. not b && false) (part_plain part good)
 
-read_on : (n : ℕ) (part : List ℕ) (rest : List (List ℕ)) → IsGoodPart part
-    → read_from n ((tab ∷ part) ∷ rest) ≡ read_from (n + 1) rest
-read_on n part rest good =
-    let xs = enumerate_from (n + 1) rest in
-    ap (λ b. map {B = NewElement} (λ e. (e.label, e.value))
-    (option_to_list (cond b (element_if n (split V10 (tab ∷ part)) xs) None) ++ elements V10 xs)) (no_begin part good)
+  read_on : (n : ℕ) (part : List ℕ) (rest : List (List ℕ)) → IsGoodPart part
+      → read_from n ((tab ∷ part) ∷ rest) ≡ read_from (n + 1) rest
+  read_on n part rest good =
+      let xs = enumerate_from (n + 1) rest in
+      ap (λ b. map {B = NewElement} (λ e. (e.label, e.value))
+      (option_to_list (cond b (element_if n (split rules (tab ∷ part)) xs) None) ++ elements rules xs)) (no_begin part good)
 
-passed : (parts more : List (List ℕ)) (items : List NewElement) → AllByRecursion IsGoodPart parts
-    → ((m : ℕ) → read_from m more ≡ items) → (n : ℕ) → read_from n (map (λ p. tab ∷ p) parts ++ more) ≡ items
-passed [] more items good h n = h n
-passed (part ∷ parts) more items good h n =
-    read_on n part (map (λ p. tab ∷ p) parts ++ more) good.0 ∙ passed parts more items good.1 h (n + 1)
+  passed : (parts more : List (List ℕ)) (items : List NewElement) → AllByRecursion IsGoodPart parts
+      → ((m : ℕ) → read_from m more ≡ items) → (n : ℕ) → read_from n (map (λ p. tab ∷ p) parts ++ more) ≡ items
+  passed [] more items good h n = h n
+  passed (part ∷ parts) more items good h n =
+      read_on n part (map (λ p. tab ∷ p) parts ++ more) good.0 ∙ passed parts more items good.1 h (n + 1)
 
-first_read : (label part : List ℕ) (n : ℕ) (rest : List (List ℕ)) → IsGood (label, part)
-    → read_from n (info_line (label, part) ∷ rest)
-    ≡ (label, value_on part (enumerate_from (n + 1) rest)) ∷ read_from (n + 1) rest
-first_read label part n rest good =
-    let xs = enumerate_from (n + 1) rest in
-    let line = info_line (label, part) in
-    let read = λ (o : Option Element).
-    map {B = NewElement} (λ e. (e.label, e.value)) (option_to_list o ++ elements V10 xs) in
-    ap (λ b. read (cond b (element_if n (split V10 line) xs) None)) (begins (label, part) good)
-    ∙ ap (λ o. read (element_if n o xs)) (splits (label, part) good)
-    ∙ ap (λ t. read (Some (record { line = n; label = label; value = value_on t xs }))) (part_is_value (label, part) good)
+  first_read : (label part : List ℕ) (n : ℕ) (rest : List (List ℕ)) → IsGood (label, part)
+      → read_from n (info_line (label, part) ∷ rest)
+      ≡ (label, value_on part (enumerate_from (n + 1) rest)) ∷ read_from (n + 1) rest
+  first_read label part n rest good =
+      let xs = enumerate_from (n + 1) rest in
+      let line = info_line (label, part) in
+      let read = λ (o : Option Element).
+      map {B = NewElement} (λ e. (e.label, e.value)) (option_to_list o ++ elements rules xs) in
+      ap (λ b. read (cond b (element_if n (split rules line) xs) None)) (begins (label, part) good)
+      ∙ ap (λ o. read (element_if n o xs)) (splits (label, part) good rules)
+      ∙ ap (λ t. read (Some (record { line = n; label = label; value = value_on t xs }))) (part_is_value (label, part) good)
 
-module _ (label : List ℕ) (more : List (List ℕ)) (items : List NewElement) (stops : Stops more)
-    (h : (m : ℕ) → read_from m more ≡ items) where
-  element_read : (parts : List (List ℕ)) (n : ℕ) → AreGood label parts
-      → read_from n (with_label label parts ++ more) ≡ (label, join_with_byte line_feed parts) ∷ items
-  element_read [] n good = absurd good
-  element_read (part ∷ parts) n good =
-      let rest = map (λ p. tab ∷ p) parts ++ more in
-      first_read label part n rest good.0
-      ∙ ap (λ t. (label, t) ∷ read_from (n + 1) rest)
-      (value_goes_on (n + 1) part parts more good.1 stops ∙ value_joined part parts)
-      ∙ ap (λ es. (label, join_with_byte line_feed (part ∷ parts)) ∷ es) (passed parts more items good.1 h (n + 1))
+  module _ (label : List ℕ) (more : List (List ℕ)) (items : List NewElement) (stops : Stops more)
+      (h : (m : ℕ) → read_from m more ≡ items) where
+    element_read : (parts : List (List ℕ)) (n : ℕ) → AreGood label parts
+        → read_from n (with_label label parts ++ more) ≡ (label, join_with_byte line_feed parts) ∷ items
+    element_read [] n good = absurd good
+    element_read (part ∷ parts) n good =
+        let rest = map (λ p. tab ∷ p) parts ++ more in
+        first_read label part n rest good.0
+        ∙ ap (λ t. (label, t) ∷ read_from (n + 1) rest)
+        (value_goes_on (n + 1) part parts more good.1 stops ∙ value_joined part parts)
+        ∙ ap (λ es. (label, join_with_byte line_feed (part ∷ parts)) ∷ es) (passed parts more items good.1 h (n + 1))
 
-lines_stop : (label : List ℕ) (parts more : List (List ℕ)) → AreGood label parts → Stops (with_label label parts ++ more)
-lines_stop label [] more good = absurd good
-lines_stop label (part ∷ parts) more good = begins (label, part) good.0
+  lines_stop : (label : List ℕ) (parts more : List (List ℕ)) → AreGood label parts → Stops (with_label label parts ++ more)
+  lines_stop label [] more good = absurd good
+  lines_stop label (part ∷ parts) more good = begins (label, part) good.0
 
-all_stop : (elements : List NewElement) → AllByRecursion IsGoodLong elements → Stops (all_lines elements)
-all_stop [] good = tt
-all_stop (e ∷ elements) good = lines_stop e.0 (value_lines e.1) (all_lines elements) (good_lines e good.0)
+  all_stop : (elements : List NewElement) → AllByRecursion IsGoodLong elements → Stops (all_lines elements)
+  all_stop [] good = tt
+  all_stop (e ∷ elements) good = lines_stop e.0 (value_lines e.1) (all_lines elements) (good_lines e good.0)
 
--- the elements are read again
-all_read : (elements : List NewElement) → AllByRecursion IsGoodLong elements → (n : ℕ)
-    → read_from n (all_lines elements) ≡ elements
-all_read [] good n = refl
-all_read (e ∷ elements) good n =
-    element_read e.0 (all_lines elements) elements (all_stop elements good.1) (all_read elements good.1) (value_lines e.1) n
-    (good_lines e good.0)
-    ∙ ap (λ t. (e.0, t) ∷ elements) (join_with_byte-slice_split line_feed e.1)
+  -- the elements are read again
+  all_read : (elements : List NewElement) → AllByRecursion IsGoodLong elements → (n : ℕ)
+      → read_from n (all_lines elements) ≡ elements
+  all_read [] good n = refl
+  all_read (e ∷ elements) good n =
+      element_read e.0 (all_lines elements) elements (all_stop elements good.1) (all_read elements good.1) (value_lines e.1) n
+      (good_lines e good.0)
+      ∙ ap (λ t. (e.0, t) ∷ elements) (join_with_byte-slice_split line_feed e.1)
 
--- ---- no line is wrong
+  -- ---- no line is wrong
 
-on_faults : (parts more : List (List ℕ)) → AllByRecursion IsGoodPart parts
-    → ((m : ℕ) → faults V10 true (enumerate_from m more) ≡ []) → (n : ℕ)
-    → faults V10 true (enumerate_from n (map (λ p. tab ∷ p) parts ++ more)) ≡ []
-on_faults [] more good h n = h n
-on_faults (part ∷ parts) more good h n =
-    let xs = enumerate_from (n + 1) (map (λ p. tab ∷ p) parts ++ more) in
-    ap (λ b. option_to_list (cond b None None) ++ faults V10 true xs) (part_plain part good.0)
-    ∙ on_faults parts more good.1 h (n + 1)
+  on_faults : (parts more : List (List ℕ)) → AllByRecursion IsGoodPart parts
+      → ((m : ℕ) → faults rules true (enumerate_from m more) ≡ []) → (n : ℕ)
+      → faults rules true (enumerate_from n (map (λ p. tab ∷ p) parts ++ more)) ≡ []
+  on_faults [] more good h n = h n
+  on_faults (part ∷ parts) more good h n =
+      let xs = enumerate_from (n + 1) (map (λ p. tab ∷ p) parts ++ more) in
+      ap (λ b. option_to_list (cond b None None) ++ faults rules true xs) (part_plain part good.0)
+      ∙ on_faults parts more good.1 h (n + 1)
 
-begun_true : (begun : Bool) → (begun || true) ≡ true
-begun_true true = refl
-begun_true false = refl
+  begun_true : (begun : Bool) → (begun || true) ≡ true
+  begun_true true = refl
+  begun_true false = refl
 
-first_faults : (label part : List ℕ) (begun : Bool) (n : ℕ) (rest : List (List ℕ)) → IsGood (label, part)
-    → faults V10 begun (enumerate_from n (info_line (label, part) ∷ rest)) ≡ faults V10 true (enumerate_from (n + 1) rest)
-first_faults label part begun n rest good =
-    let xs = enumerate_from (n + 1) rest in
-    let line = info_line (label, part) in
-    let plain = begins_plain line (begins (label, part) good) in
-    ap (λ b. option_to_list (fault_at V10 begun n line) ++ faults V10 (begun || b) xs) (begins (label, part) good)
-    ∙ ap (λ b. option_to_list (fault_at V10 begun n line) ++ faults V10 b xs) (begun_true begun)
-    ∙ ap (λ o. option_to_list o ++ faults V10 true xs)
-    (no_fault_at line plain ∙ ap (fault_unless n) (splits (label, part) good))
-  where
-    no_fault_at : (line : List ℕ) → (is_blank_line line ≡ false) × (begins_with_blank line ≡ false)
-        → fault_at V10 begun n line ≡ fault_unless n (split V10 line)
-    no_fault_at line plain = rw (plain.0, plain.1) refl
+  first_faults : (label part : List ℕ) (begun : Bool) (n : ℕ) (rest : List (List ℕ)) → IsGood (label, part)
+      → faults rules begun (enumerate_from n (info_line (label, part) ∷ rest)) ≡ faults rules true (enumerate_from (n + 1) rest)
+  first_faults label part begun n rest good =
+      let xs = enumerate_from (n + 1) rest in
+      let line = info_line (label, part) in
+      let plain = begins_plain line (begins (label, part) good) in
+      ap (λ b. option_to_list (fault_at rules begun n line) ++ faults rules (begun || b) xs) (begins (label, part) good)
+      ∙ ap (λ b. option_to_list (fault_at rules begun n line) ++ faults rules b xs) (begun_true begun)
+      ∙ ap (λ o. option_to_list o ++ faults rules true xs)
+      (no_fault_at line plain ∙ ap (fault_unless n) (splits (label, part) good rules))
+    where
+      no_fault_at : (line : List ℕ) → (is_blank_line line ≡ false) × (begins_with_blank line ≡ false)
+          → fault_at rules begun n line ≡ fault_unless n (split rules line)
+      no_fault_at line plain = rw (plain.0, plain.1) refl
 
-lines_faults : (label : List ℕ) (parts more : List (List ℕ)) (begun : Bool) (n : ℕ) → AreGood label parts
-    → ((m : ℕ) → faults V10 true (enumerate_from m more) ≡ [])
-    → faults V10 begun (enumerate_from n (with_label label parts ++ more)) ≡ []
-lines_faults label [] more begun n good h = absurd good
-lines_faults label (part ∷ parts) more begun n good h =
-    first_faults label part begun n (map (λ p. tab ∷ p) parts ++ more) good.0
-    ∙ on_faults parts more good.1 h (n + 1)
+  lines_faults : (label : List ℕ) (parts more : List (List ℕ)) (begun : Bool) (n : ℕ) → AreGood label parts
+      → ((m : ℕ) → faults rules true (enumerate_from m more) ≡ [])
+      → faults rules begun (enumerate_from n (with_label label parts ++ more)) ≡ []
+  lines_faults label [] more begun n good h = absurd good
+  lines_faults label (part ∷ parts) more begun n good h =
+      first_faults label part begun n (map (λ p. tab ∷ p) parts ++ more) good.0
+      ∙ on_faults parts more good.1 h (n + 1)
 
-no_faults : (elements : List NewElement) → AllByRecursion IsGoodLong elements → (begun : Bool) (n : ℕ)
-    → faults V10 begun (enumerate_from n (all_lines elements)) ≡ []
-no_faults [] good begun n = refl
-no_faults (e ∷ elements) good begun n =
-    lines_faults e.0 (value_lines e.1) (all_lines elements) begun n (good_lines e good.0)
-    (no_faults elements good.1 true)
+  no_faults : (elements : List NewElement) → AllByRecursion IsGoodLong elements → (begun : Bool) (n : ℕ)
+      → faults rules begun (enumerate_from n (all_lines elements)) ≡ []
+  no_faults [] good begun n = refl
+  no_faults (e ∷ elements) good begun n =
+      lines_faults e.0 (value_lines e.1) (all_lines elements) begun n (good_lines e good.0)
+      (no_faults elements good.1 true)
 
 -- ---- the lines of the file
 
@@ -369,16 +371,20 @@ module _ (elements : List NewElement) (good : AllByRecursion IsGoodLong elements
   text_is : IsText (text_on_lines elements)
   text_is = subst IsText (sym (same_text elements)) (is_text itself (all_lines elements) (all_written elements good))
 
-  none_wrong : (f : LineFault) → ¬ (IsInfoFault V10 (text_on_lines elements) f)
-  none_wrong f wrong =
+  none_wrong : (rules : Rules) (f : LineFault) → ¬ (IsInfoFault rules (text_on_lines elements) f)
+  none_wrong rules f wrong =
       contains_nothing f
-      (subst (λ fs. Contains fs f) (ap (λ ls. faults V10 false (enumerate_from 1 ls)) lines_are ∙ no_faults elements good false 1)
-      (((faults_of_text V10 (text_on_lines elements) text_is).members f).1 wrong))
+      (subst (λ fs. Contains fs f)
+      (ap (λ ls. faults rules false (enumerate_from 1 ls)) lines_are ∙ no_faults rules elements good false 1)
+      (((faults_of_text rules (text_on_lines elements) text_is).members f).1 wrong))
 
-pub long_info_again : LongInfoIsReadAgain
-long_info_again elements texts fine =
+pub long_info_again_by : (rules : Rules) → LongInfoIsReadAgainBy rules
+long_info_again_by rules elements texts fine =
     let good = good_each elements (recursion_from_All _ elements texts) fine in (
       text_is elements good,
-      ap (read_from 1) (lines_are elements good) ∙ all_read elements good 1,
-      none_wrong elements good,
+      ap (read_from rules 1) (lines_are elements good) ∙ all_read rules elements good 1,
+      none_wrong elements good rules,
     )
+
+pub long_info_again : LongInfoIsReadAgain
+long_info_again = long_info_again_by V10

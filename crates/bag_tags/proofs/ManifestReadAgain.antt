@@ -5,13 +5,17 @@ use Rattle.bag_tags.proofs.Common.{All-from_recursion, All-take, recursion_from_
 use Rattle.bag_tags.proofs.Common.{slice_get-map, bytes_eq-Decides, AllByRecursion, list_any, slice_get, Contains}
 use Rattle.bag_tags.proofs.Common.{or_false, IsEntry, ManifestFault, ReadsManifest, manifest_line, named, named_before}
 use Rattle.bag_tags.proofs.Common.{Kind, LineFault, IsLine, lines_of_file, IsText, Alg, Code, NamedAgain, NotUtf8, V10}
-use Rattle.bag_tags.proofs.Common.{NamesEachOnce, NewEntry, entry_line, is_bad_entry, manifest_text, paths}
+use Rattle.bag_tags.proofs.Common.{NamesEachOnce, NewEntry, paths}
 use Rattle.bag_tags.proofs.Common.{ManifestIsReadAgain, StandsOn}
 use Rattle.bag_text.proofs.ListOf.{contains_cases, contains_nothing}
 use Rattle.bag_read.proofs.ManifestCodes.{unread_line}
 use Rattle.bag_read.proofs.Reason.{never_ok, ok_same}
 use Rattle.bag_read.specs.Manifest.{HasUnreadLine}
 use Rattle.bag_read.specs.declared.manifest.ManifestEntry.{ManifestEntry}
+use Rattle.bag_text.specs.declared.rules.Rules.{Rules}
+use Rattle.bag_tags.specs.Entry.{entry_line_by, manifest_text_by}
+use Rattle.bag_tags.specs.ReadAgain.{ManifestIsReadAgainBy}
+use Rattle.bag_tags.specs.Writable.{is_bad_entry_by}
 use Rattle.bag_tags.proofs.ManifestLines.{reads, written}
 use Rattle.bag_tags.proofs.WrittenLines.{IsWritten, at_place, file_lines, is_text, line_of_item, item_on_line}
 
@@ -35,89 +39,93 @@ apart (y ∷ ys) (suc k) x once e c =
       | inr before ↦ apart ys k x (IsDistinct-tail bytes_eq y.1 (paths ys) once) e before
     ]
 
-module _ (kind : Kind) (alg : Alg) where
+module _ (rules : Rules) (kind : Kind) (alg : Alg) where
   abbrev IsGood : NewEntry → Type 0
-  IsGood x = (is_bad_entry kind alg x ≡ false) × IsText x.1
+  IsGood x = (is_bad_entry_by rules kind alg x ≡ false) × IsText x.1
 
   good_each : (entries : List NewEntry) → AllByRecursion (λ x. IsText x.1) entries
-      → list_any (is_bad_entry kind alg) entries ≡ false → AllByRecursion IsGood entries
+      → list_any (is_bad_entry_by rules kind alg) entries ≡ false → AllByRecursion IsGood entries
   good_each [] texts e = tt
   good_each (x ∷ xs) texts e =
       let two =
-      or_false (is_bad_entry kind alg x) (list_any (is_bad_entry kind alg) xs) e
+      or_false (is_bad_entry_by rules kind alg x) (list_any (is_bad_entry_by rules kind alg) xs) e
       in ((two.0, texts.0), good_each xs texts.1 two.1)
 
   written_each : (entries : List NewEntry) → AllByRecursion IsGood entries
-      → AllByRecursion (IsWritten entry_line) entries
+      → AllByRecursion (IsWritten (entry_line_by rules)) entries
   written_each [] all = tt
-  written_each (x ∷ xs) all = (written kind alg x all.0.0 all.0.1, written_each xs all.1)
+  written_each (x ∷ xs) all = (written rules kind alg x all.0.0 all.0.1, written_each xs all.1)
 
   named_each : (entries : List NewEntry) → AllByRecursion IsGood entries
-      → named V10 kind alg (map entry_line entries) ≡ paths entries
+      → named rules kind alg (map (entry_line_by rules) entries) ≡ paths entries
   named_each [] all = refl
   named_each (x ∷ xs) all =
-      let is = reads kind alg x all.0.0 in rw (is.0, is.1) (ap (λ more. x.1 ∷ more) (named_each xs all.1))
+      let is = reads rules kind alg x all.0.0 in rw (is.0, is.1) (ap (λ more. x.1 ∷ more) (named_each xs all.1))
 
   module _ (entries : List NewEntry) (all : AllByRecursion IsGood entries) (once : NamesEachOnce entries) where
     abbrev here : List (List ℕ)
-    here = map entry_line entries
+    here = map (entry_line_by rules) entries
 
-    reads_at : (n : ℕ) (x : NewEntry) → StandsOn entries n x → ReadsManifest V10 kind alg (entry_line x) x.0 x.1
-    reads_at n x (k, at, is) = reads kind alg x (at_place IsGood entries k x all is).0
+    reads_at : (n : ℕ) (x : NewEntry) → StandsOn entries n x → ReadsManifest rules kind alg (entry_line_by rules x) x.0 x.1
+    reads_at n x (k, at, is) = reads rules kind alg x (at_place IsGood entries k x all is).0
 
-    first_named : (n : ℕ) (x : NewEntry) → StandsOn entries n x → ¬ (Contains (named_before V10 kind alg here n) x.1)
-    first_named n x (k, at, is) c = grind (arith, take-map entry_line, named_each, taken, apart)
+    first_named : (n : ℕ) (x : NewEntry) → StandsOn entries n x → ¬ (Contains (named_before rules kind alg here n) x.1)
+    first_named n x (k, at, is) c = grind (arith, take-map (entry_line_by rules), named_each, taken, apart)
 
-    same_entry : (n : ℕ) (line digest path : List ℕ) → IsLine here n line → ReadsManifest V10 kind alg line digest path
+    same_entry : (n : ℕ) (line digest path : List ℕ) → IsLine here n line → ReadsManifest rules kind alg line digest path
         → StandsOn entries n (digest, path)
     same_entry n line digest path is read =
-        let (x, stands, same) = line_of_item entry_line entries n line is in
+        let (x, stands, same) = line_of_item (entry_line_by rules) entries n line is in
         let pair : ◌≡◌ {A = NewEntry} x (digest, path) =
-        ok_same x (digest, path) (sym (reads_at n x stands).1 ∙ sym (ap (manifest_line V10 kind alg) same) ∙ read.1)
+        ok_same x (digest, path) (sym (reads_at n x stands).1 ∙ sym (ap (manifest_line rules kind alg) same) ∙ read.1)
         in
         subst (StandsOn entries n) pair stands
 
-    to : (e : ManifestEntry) → IsEntry V10 kind alg here e → StandsOn entries e.line (e.digest, e.path)
+    to : (e : ManifestEntry) → IsEntry rules kind alg here e → StandsOn entries e.line (e.digest, e.path)
     to e (line, is, read, first) = same_entry e.line line e.digest e.path is read
 
-    from : (e : ManifestEntry) → StandsOn entries e.line (e.digest, e.path) → IsEntry V10 kind alg here e
+    from : (e : ManifestEntry) → StandsOn entries e.line (e.digest, e.path) → IsEntry rules kind alg here e
     from e stands =
         let x : NewEntry = (e.digest, e.path) in (
-          entry_line x,
-          item_on_line entry_line entries e.line x stands,
+          entry_line_by rules x,
+          item_on_line (entry_line_by rules) entries e.line x stands,
           reads_at e.line x stands,
           first_named e.line x stands,
         )
 
     abbrev bytes : List ℕ
-    bytes = manifest_text entries
+    bytes = manifest_text_by rules entries
 
     lines_are : lines_of_file bytes ≡ here
-    lines_are = file_lines entry_line entries (written_each entries all)
+    lines_are = file_lines (entry_line_by rules) entries (written_each entries all)
 
-    no_unread : (code : Code) (f : LineFault) → HasUnreadLine code V10 kind alg bytes f → ⊥
+    no_unread : (code : Code) (f : LineFault) → HasUnreadLine code rules kind alg bytes f → ⊥
     no_unread code f w =
         let (x, stands, same) =
-        line_of_item entry_line entries f.line w.0 (subst (λ ls. IsLine ls f.line w.0) lines_are w.1) in
+        line_of_item (entry_line_by rules) entries f.line w.0 (subst (λ ls. IsLine ls f.line w.0) lines_are w.1) in
         never_ok x (code, f.detail)
-        (sym (reads_at f.line x stands).1 ∙ sym (ap (manifest_line V10 kind alg) same) ∙ w.2.1)
+        (sym (reads_at f.line x stands).1 ∙ sym (ap (manifest_line rules kind alg) same) ∙ w.2.1)
 
-    no_fault : (code : Code) (f : LineFault) → ManifestFault code V10 kind alg bytes f → ⊥
+    no_fault : (code : Code) (f : LineFault) → ManifestFault code rules kind alg bytes f → ⊥
     no_fault NotUtf8 f w =
-        let clash : true ≡ false = sym (is_text entry_line entries (written_each entries all)) ∙ w.2 in cc
+        let clash : true ≡ false = sym (is_text (entry_line_by rules) entries (written_each entries all)) ∙ w.2 in cc
     no_fault NamedAgain f (line, digest, is, read, again) =
         let stands = same_entry f.line line digest f.detail (subst (λ ls. IsLine ls f.line line) lines_are is) read in
         first_named f.line (digest, f.detail) stands
-        (subst (λ ls. Contains (named_before V10 kind alg ls f.line) f.detail) lines_are again)
-    no_fault code f w = no_unread code f (unread_line V10 kind alg bytes code f (λ same. cc) (λ same. cc) w)
+        (subst (λ ls. Contains (named_before rules kind alg ls f.line) f.detail) lines_are again)
+    no_fault code f w = no_unread code f (unread_line rules kind alg bytes code f (λ same. cc) (λ same. cc) w)
+
+pub manifest_again_by : (rules : Rules) → ManifestIsReadAgainBy rules
+manifest_again_by rules kind alg entries texts can =
+    let all = good_each rules kind alg entries (recursion_from_All _ entries texts) can.0 in
+    let same = lines_are rules kind alg entries all can.1 in (
+      λ e. (
+        λ is. to rules kind alg entries all can.1 e (subst (λ ls. IsEntry rules kind alg ls e) same is),
+        λ stands.
+            subst (λ ls. IsEntry rules kind alg ls e) (sym same) (from rules kind alg entries all can.1 e stands),
+      ),
+      λ f w. no_fault rules kind alg entries all can.1 f.code f w,
+    )
 
 pub manifest_again : ManifestIsReadAgain
-manifest_again kind alg entries texts can =
-    let all = good_each kind alg entries (recursion_from_All _ entries texts) can.0 in
-    let same = lines_are kind alg entries all can.1 in (
-      λ e. (
-        λ is. to kind alg entries all can.1 e (subst (λ ls. IsEntry V10 kind alg ls e) same is),
-        λ stands. subst (λ ls. IsEntry V10 kind alg ls e) (sym same) (from kind alg entries all can.1 e stands),
-      ),
-      λ f w. no_fault kind alg entries all can.1 f.code f w,
-    )
+manifest_again = manifest_again_by V10

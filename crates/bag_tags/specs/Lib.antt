@@ -4,6 +4,7 @@ pub mod Element
 pub mod Entry
 pub mod Line
 pub mod OnLines
+pub mod PathSpelling
 pub mod ReadAgain
 pub mod Summed
 pub mod Writable

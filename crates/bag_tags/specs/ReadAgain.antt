@@ -1,5 +1,5 @@
--- The laws of what is written: by the rules of 1.0, which the declaration that is written declares,
--- it is read again as the same, and nothing else, with no fault.
+-- The laws of what is written: by the rules by which it was written it is read again as the same,
+-- and nothing else, with no fault. The declaration that is written declares the rules of 1.0.
 use Rattle.std.specs.Prelude.{ℕ, ◌≡◌, ◌+◌, ◌↔◌, false, List, Some, codes, map, slice_get, All}
 use Rattle.std.specs.List.{enumerate_from, list_any}
 use Rattle.bag_text.specs.Lines.{lines_of_file}
@@ -17,9 +17,9 @@ use Rattle.bag_read.specs.declared.kind.Kind.{Kind}
 use Rattle.bag_read.specs.declared.manifest.ManifestEntry.{ManifestEntry}
 use Rattle.bag_tags.specs.Declaration.{declaration_text}
 use Rattle.bag_tags.specs.Element.{NewElement, info_text, is_bad_element}
-use Rattle.bag_tags.specs.Entry.{NewEntry, manifest_text}
+use Rattle.bag_tags.specs.Entry.{NewEntry, manifest_text_by}
 use Rattle.bag_tags.specs.OnLines.{is_bad_long_element, text_on_lines}
-use Rattle.bag_tags.specs.Writable.{CanWrite}
+use Rattle.bag_tags.specs.Writable.{CanWriteBy}
 
 -- the declaration is read as version 1.0 and UTF-8, with no fault
 abbrev pub DeclarationIsReadAgain : Type 0
@@ -32,15 +32,19 @@ DeclarationIsReadAgain =
 abbrev pub StandsOn : List (List ℕ × List ℕ) → ℕ → List ℕ × List ℕ → Type 0
 StandsOn items line item = (k : ℕ) × (line ≡ k + 1) × (slice_get items k ≡ Some item)
 
--- the metadata is read as these elements
-abbrev pub InfoIsReadAgain : Type 0
-InfoIsReadAgain =
+-- the metadata is read by these rules as these elements
+abbrev pub InfoIsReadAgainBy : Rules → Type 0
+InfoIsReadAgainBy rules =
     (elements : List NewElement) → All (λ element. IsText element.0 × IsText element.1) elements
     → list_any is_bad_element elements ≡ false
     → ((e : Element)
-    → IsElement V10 (lines_of_file (info_text elements)) e
+    → IsElement rules (lines_of_file (info_text elements)) e
     ↔ StandsOn elements e.line (e.label, e.value))
-    × ((f : LineFault) → ¬ (IsInfoFault V10 (info_text elements) f))
+    × ((f : LineFault) → ¬ (IsInfoFault rules (info_text elements) f))
+
+-- the metadata is read as these elements
+abbrev pub InfoIsReadAgain : Type 0
+InfoIsReadAgain = InfoIsReadAgainBy V10
 
 -- the elements that are read of bytes, in their order
 abbrev pub elements_read : Rules → List ℕ → List NewElement
@@ -48,13 +52,17 @@ elements_read rules bytes =
     map {B = NewElement} (λ e. (e.label, e.value))
     (elements rules (enumerate_from 1 (lines_of_file bytes)))
 
--- metadata whose values stand over several lines is read as these elements
-abbrev pub LongInfoIsReadAgain : Type 0
-LongInfoIsReadAgain =
+-- metadata whose values stand over several lines is read by these rules as these elements
+abbrev pub LongInfoIsReadAgainBy : Rules → Type 0
+LongInfoIsReadAgainBy rules =
     (elements : List NewElement) → All (λ element. IsText element.0 × IsText element.1) elements
     → list_any is_bad_long_element elements ≡ false
-    → IsText (text_on_lines elements) × (elements_read V10 (text_on_lines elements) ≡ elements)
-    × ((f : LineFault) → ¬ (IsInfoFault V10 (text_on_lines elements) f))
+    → IsText (text_on_lines elements) × (elements_read rules (text_on_lines elements) ≡ elements)
+    × ((f : LineFault) → ¬ (IsInfoFault rules (text_on_lines elements) f))
+
+-- metadata whose values stand over several lines is read as these elements
+abbrev pub LongInfoIsReadAgain : Type 0
+LongInfoIsReadAgain = LongInfoIsReadAgainBy V10
 
 -- An element that is read can be written again, but for a label that begins with a byte order mark.
 abbrev pub ReadInfoCanBeWritten : Type 0
@@ -63,12 +71,20 @@ ReadInfoCanBeWritten =
     → has_mark e.label ≡ false
     → IsText e.label × IsText e.value × (is_bad_long_element (e.label, e.value) ≡ false)
 
+-- a manifest that was written by these rules is read by them as these entries, and has no fault
+abbrev pub IsReadAs : Rules → Kind → Alg → List NewEntry → Type 0
+IsReadAs rules kind alg entries =
+    ((e : ManifestEntry)
+    → IsEntry rules kind alg (lines_of_file (manifest_text_by rules entries)) e
+    ↔ StandsOn entries e.line (e.digest, e.path))
+    × ((f : LineFault) → ¬ (IsManifestFault rules kind alg (manifest_text_by rules entries) f))
+
+-- each manifest that can be written by these rules is read so
+abbrev pub ManifestIsReadAgainBy : Rules → Type 0
+ManifestIsReadAgainBy rules =
+    (kind : Kind) (alg : Alg) (entries : List NewEntry) → All (λ entry. IsText entry.1) entries
+    → CanWriteBy rules kind alg entries → IsReadAs rules kind alg entries
+
 -- a manifest is read as these entries
 abbrev pub ManifestIsReadAgain : Type 0
-ManifestIsReadAgain =
-    (kind : Kind) (alg : Alg) (entries : List NewEntry) → All (λ entry. IsText entry.1) entries
-    → CanWrite kind alg entries
-    → ((e : ManifestEntry)
-    → IsEntry V10 kind alg (lines_of_file (manifest_text entries)) e
-    ↔ StandsOn entries e.line (e.digest, e.path))
-    × ((f : LineFault) → ¬ (IsManifestFault V10 kind alg (manifest_text entries) f))
+ManifestIsReadAgain = ManifestIsReadAgainBy V10

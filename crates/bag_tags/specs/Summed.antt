@@ -1,11 +1,13 @@
 -- Files with their digests, and the manifests that name them (RFC 8493, 2.1.3 and 2.2.1).
 use Rattle.std.specs.Prelude.{ℕ, ◌≡◌, List, [], ◌∷◌, None, Option, Some, map, ⊤}
 use Rattle.bag_text.specs.declared.alg.Alg.{Alg}
+use Rattle.bag_text.specs.declared.rules.Rules.{Rules}
+use Rattle.bag_text.specs.declared.rules.Rules.TheVariants.{V10}
 use Rattle.bag_read.specs.ManifestName.{tag_path}
 use Rattle.bag_read.specs.declared.kind.Kind.{Kind}
 use Rattle.bag_read.specs.declared.tag_name.TagName.TheVariants.{Manifest}
 use Rattle.bag_tree.specs.DigestsOf.{AreSumsOf, sum_at}
-use Rattle.bag_tags.specs.Entry.{NewEntry, manifest_text}
+use Rattle.bag_tags.specs.Entry.{NewEntry, manifest_text_by}
 use Rattle.bag_tags.specs.declared.summed.SummedFile.{SummedFile}
 
 -- a file: its path, and its bytes
@@ -31,6 +33,11 @@ abbrev pub summed_entry : Alg → SummedFile → NewEntry
 summed_entry alg one = (text_or_none (sum_at one.sums alg), one.path)
 
 -- the manifests of a kind that give these digests, one for each algorithm
+abbrev pub manifests_by : Rules → Kind → List Alg → List SummedFile → List File
+manifests_by rules kind algs files =
+    map (λ alg.
+    (tag_path (Manifest kind alg), manifest_text_by rules (map (summed_entry alg) files))) algs
+
+-- the same by the rules of 1.0
 abbrev pub manifests_of : Kind → List Alg → List SummedFile → List File
-manifests_of kind algs files =
-    map (λ alg. (tag_path (Manifest kind alg), manifest_text (map (summed_entry alg) files))) algs
+manifests_of kind algs files = manifests_by V10 kind algs files

@@ -3,17 +3,15 @@ ghost use Rattle.std.specs.Prelude.{◌≡◌};
 ghost use Rattle.std.specs.List.{list_all};
 ghost use Rattle.bag_tags.specs.Writable as spec;
 
+use crate::spelling::is_unnameable;
 use bag_read::{Kind, manifest_alg};
-use bag_text::{Alg, Text, check_path, is_blank, is_payload};
+use bag_text::{Alg, Rules, Text, check_path, is_payload};
 
-/// What may stand before a path in a manifest, as `md5sum -b` has it.
-const STAR: u8 = b'*';
-
-/// Whether a digest and its path would not be read again as they are.
-pub(crate) fn is_bad_entry(kind: Kind, alg: Alg, entry: &(Text, Text)) -> bool
-    ensures { result ≡ spec.is_bad_entry kind alg entry.now }
+/// Whether a digest and its path would not be read again as they are, by the rules of a version.
+pub(crate) fn is_bad_entry(rules: Rules, kind: Kind, alg: Alg, entry: &(Text, Text)) -> bool
+    ensures { result ≡ spec.is_bad_entry_by rules kind alg entry.now }
 {
-    is_bad_digest(alg, entry.0.as_str()) || is_bad_path(kind, entry.1.as_str())
+    is_bad_digest(alg, entry.0.as_str()) || is_bad_path(rules, kind, entry.1.as_str())
 }
 
 /// A text that isn't lower-case hex of the algorithm's length.
@@ -29,11 +27,11 @@ fn is_lower_hex(text: &str) -> bool
     text.as_bytes().iter().all(|byte| byte.is_ascii_hexdigit() && !byte.is_ascii_uppercase())
 }
 
-/// A text that a manifest of this kind may not name, or that begins with a blank or a `*`.
-fn is_bad_path(kind: Kind, path: &str) -> bool
-    ensures { result ≡ spec.is_bad_path kind path.now }
+/// A text that a manifest of this kind may not name, or that none names by these rules.
+fn is_bad_path(rules: Rules, kind: Kind, path: &str) -> bool
+    ensures { result ≡ spec.is_bad_path_by rules kind path.now }
 {
-    !may_name(kind, path) || begins_with_mark(path)
+    !may_name(kind, path) || is_unnameable(rules, path)
 }
 
 /// Whether a manifest of this kind may name a path.
@@ -50,14 +48,4 @@ fn is_tag_manifest(path: &str) -> bool
     ensures { result ≡ spec.is_tag_manifest path.now }
 {
     manifest_alg(Kind::Tag, path).is_some()
-}
-
-/// Whether a text begins with what a reader drops before a path.
-fn begins_with_mark(text: &str) -> bool
-    ensures { result ≡ spec.begins_with_mark text.now }
-{
-    match text.as_bytes().first() {
-        Some(byte) => is_blank(*byte) || *byte == STAR,
-        None => false,
-    }
 }

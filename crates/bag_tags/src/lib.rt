@@ -11,6 +11,10 @@
 //!
 //! A text is written exactly, or refused where it wouldn't be read again as what was given. What is
 //! written is read again, by the rules of 1.0, as the same and nothing else, with no fault.
+//!
+//! The manifests of a bag of version 0.97 are written by its rules (`write_manifest_by`,
+//! `manifests_by`), where each path can be named by them (`is_unnameable`), and are read again by
+//! them. Metadata that is written reads the same by the rules of both versions.
 #![tactic(auto)]
 
 mod declaration;
@@ -23,6 +27,7 @@ pub mod laws;
 mod line;
 mod long_info;
 mod manifest;
+mod spelling;
 mod summed;
 mod tag_file;
 
@@ -36,6 +41,7 @@ pub use element::is_bad_element;
 pub use fault::WriteFault;
 pub use info::write_info;
 pub use long_info::{is_bad_long_element, write_long_info};
-pub use manifest::{push_entry, write_manifest};
-pub use summed::{SummedFile, manifests_of, sum_text, sum_texts};
+pub use manifest::{push_entry, write_manifest, write_manifest_by};
+pub use spelling::is_unnameable;
+pub use summed::{SummedFile, manifests_by, manifests_of, sum_text, sum_texts};
 pub use tag_file::TagFile;

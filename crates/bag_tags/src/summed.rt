@@ -6,9 +6,9 @@ ghost use Rattle.bag_tags.specs.Entry as entry;
 ghost use Rattle.bag_tags.specs.Summed as spec;
 
 use crate::TagFile;
-use crate::manifest::push_entry;
+use crate::manifest::push_entry_by;
 use bag_read::{Kind, TagName};
-use bag_text::{Alg, AlgSet, Items, Text};
+use bag_text::{Alg, AlgSet, Items, Rules, Text};
 use bag_tree::{Digests, Sums};
 use std::alloc::{AllocError, Global};
 
@@ -66,23 +66,42 @@ pub fn manifests_of(
 ) -> Result<Vec<TagFile>, AllocError>
     ensures { IfOk result (λ made. made.items ≡ spec.manifests_of kind algs.now files.now) }
 {
+    manifests_by(alloc, Rules::V10, kind, algs, files)
+}
+
+/// The same by the rules of a version, which spell the paths. One that `is_unnameable` by them
+/// isn't read again.
+pub fn manifests_by(
+    alloc: Global,
+    rules: Rules,
+    kind: Kind,
+    algs: &[Alg],
+    files: &[SummedFile],
+) -> Result<Vec<TagFile>, AllocError>
+    ensures { IfOk result (λ made. made.items ≡ spec.manifests_by rules kind algs.now files.now) }
+{
     let mut manifests = Vec::new(alloc);
     for alg in algs {
         let path = TagName::Manifest(kind, *alg).path(alloc)?;
-        let content = manifest(alloc, *alg, files)?;
+        let content = manifest(alloc, rules, *alg, files)?;
         manifests.push(TagFile { path, content })?;
     }
     Ok(manifests)
 }
 
 /// The manifest of an algorithm that names these files.
-fn manifest(alloc: Global, alg: Alg, files: &[SummedFile]) -> Result<Items<u8>, AllocError>
+fn manifest(
+    alloc: Global,
+    rules: Rules,
+    alg: Alg,
+    files: &[SummedFile],
+) -> Result<Items<u8>, AllocError>
     ensures { IfOk result (λ bytes.
-        bytes ≡ entry.manifest_text (map (spec.summed_entry alg) files.now)) }
+        bytes ≡ entry.manifest_text_by rules (map (spec.summed_entry alg) files.now)) }
 {
     let mut text = String::new(alloc);
     for file in files {
-        push_file(alloc, &mut text, alg, file)?;
+        push_file(alloc, rules, &mut text, alg, file)?;
     }
     Ok(Items::from_vec(text.into_bytes()))
 }
@@ -90,17 +109,18 @@ fn manifest(alloc: Global, alg: Alg, files: &[SummedFile]) -> Result<Items<u8>, 
 /// Adds the line of a file, whose digests are asked of the algorithm.
 fn push_file(
     alloc: Global,
+    rules: Rules,
     text: &mut String,
     alg: Alg,
     file: &SummedFile,
 ) -> Result<(), AllocError>
     ensures { OnOk result
         (string_bytes text.new
-        ≡ string_bytes text.old ++ entry.entry_line (spec.summed_entry alg file.now)
+        ≡ string_bytes text.old ++ entry.entry_line_by rules (spec.summed_entry alg file.now)
         ++ line_feed ∷ []) }
 {
     match file.sums.hex(alloc, alg) {
-        Ok(digest) => push_entry(alloc, text, digest.as_str(), file.path.as_str()),
+        Ok(digest) => push_entry_by(alloc, rules, text, digest.as_str(), file.path.as_str()),
         Err(_) => Err(AllocError),
     }
 }

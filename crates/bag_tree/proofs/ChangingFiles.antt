@@ -6,13 +6,16 @@ use Rattle.std.proofs.lemmas.Option.{get_or_from_slice_get, slice_get_within}
 use Rattle.std.specs.Prelude.{Err, IfErr, Ok, OnOk, Result}
 use Rattle.bag_tree.proofs.OneMore.{take_one_more}
 use Rattle.bag_tree.proofs.FileChanges.{cuts_leave_first_changes, changes_are_durable}
+use Rattle.bag_tree.proofs.Resumed.{resumed_changes_are_durable, resumed_cuts}
 use Rattle.bag_tree.proofs.Runs.{left_between}
 use Rattle.bag_tree.specs.Asked.{Adds}
-use Rattle.bag_tree.specs.ChangeFiles.{HasChanged, HasStopped, LastsChanged, OutlastsChanges, more_by}
+use Rattle.bag_tree.specs.ChangeFiles.{HasChanged, HasStopped, LastsChanged, LastsResumed, OutlastsChanges}
+use Rattle.bag_tree.specs.ChangeFiles.{OutlastsResumedChanges, more_by}
 use Rattle.bag_tree.specs.Changes.{AppliesStep}
 use Rattle.bag_tree.specs.Cut.{EachCut, MayLeave}
 use Rattle.bag_tree.specs.FileChanges.{AsksFirstOf, CanChangeAll, ChangeAsks, ChangesAsk, IsAfterFirst, after_changes}
 use Rattle.bag_tree.specs.FileChanges.{changed}
+use Rattle.bag_tree.specs.Resumed.{EachResumedCut}
 use Rattle.bag_tree.specs.Tree.{TreeState}
 use Rattle.bag_tree.specs.declared.changing_files.RefusedChange.{RefusedChange}
 use Rattle.bag_tree.specs.declared.event.DeviceEvent.{DeviceEvent}
@@ -158,23 +161,13 @@ module _ (beside : List ℕ) where
   }
 
   module _ (changes : List FileChange) (old new : TreeState) (is : IsTrue (is_base_name beside)) where
-    -- at each moment, where the device was asked for the first of what the changes ask
-    outlasts : CanChangeAll beside changes old.bag
-        → Adds (AsksFirstOf (ChangesAsk beside changes)) old.trail new.trail
-        → EachCut old.trail new.trail old.bag (IsAfterFirst beside changes old.bag)
-    outlasts can some = record {
-      since = some.now;
-      trail = some.trail;
-      each = λ first durable before after parts left may.
-          let between = left_between old.trail before first left may in
-          cuts_leave_first_changes beside changes old.bag old.trail some.now is can some.is before after parts left
-          (subst (λ d. MayLeave before d left) (durable between.0 between.1) between.2);
-    }
+    -- the device was asked for the first of what the changes ask
+    abbrev AsksFirst : Type 0
+    AsksFirst = Adds (AsksFirstOf (ChangesAsk beside changes)) old.trail new.trail
 
-    pub outlasts_all : HasChanged beside changes old new → OutlastsChanges beside changes old new
-    outlasts_all h noted can =
-        let asked = h.asked noted in
-        outlasts can (record {
+    asked_all : IsTrue old.noted → HasChanged beside changes old new → AsksFirst
+    asked_all noted h =
+        let asked = h.asked noted in record {
           now = asked.now;
           trail = asked.trail;
           is =
@@ -186,15 +179,14 @@ module _ (beside : List ℕ) where
                 are_refused = tt;
                 is = sym (append-nil asked.now);
               };
-        })
+        }
 
-    pub outlasts_some : (refusal : RefusedChange) → HasStopped beside changes old new refusal
-        → OutlastsChanges beside changes old new
-    outlasts_some refusal h noted can =
+    asked_some : IsTrue old.noted → (refusal : RefusedChange) → HasStopped beside changes old new refusal → AsksFirst
+    asked_some noted refusal h =
         let k = refusal.place - 1 in
         let so_far = h.changed.asked noted in
         let one = h.asked (subst IsTrue (sym h.changed.noted) noted) in
-        outlasts can (record {
+        record {
           now = so_far.now ++ one.now;
           trail = one.trail ∙ ap (λ (xs : List DeviceEvent). xs ++ one.now) so_far.trail
               ∙ append_assoc old.trail so_far.now one.now;
@@ -204,9 +196,46 @@ module _ (beside : List ℕ) where
               (sym (get_or_from_slice_get changes k h.change h.change h.place)) so_far.is
               (subst (λ (xs : List DeviceEvent). AsksFirstOf (ChangeAsks beside h.change) xs one.now) so_far.trail
               one.is);
-        })
+        }
 
-    pub lasts : HasChanged beside changes old new → LastsChanged beside changes old new
+    -- whether they were all made or one was refused
+    asked_by : IsTrue old.noted → (result : Result (Unit {0}) RefusedChange)
+        → OnOk result (HasChanged beside changes old new)
+        → IfErr result (HasStopped beside changes old new) → AsksFirst
+    asked_by noted (Ok done) all stopped = asked_all noted all
+    asked_by noted (Err refusal) all stopped = asked_some noted refusal stopped
+
+    -- at each moment
+    outlasts : CanChangeAll beside changes old.bag → AsksFirst
+        → EachCut old.trail new.trail old.bag (IsAfterFirst beside changes old.bag)
+    outlasts can some = record {
+      since = some.now;
+      trail = some.trail;
+      each = λ first durable before after parts left may.
+          let between = left_between old.trail before first left may in
+          cuts_leave_first_changes beside changes old.bag old.trail some.now is can some.is before after parts left
+          (subst (λ d. MayLeave before d left) (durable between.0 between.1) between.2);
+    }
+
+    resumed : CanChangeAll beside changes old.bag → AsksFirst
+        → EachResumedCut beside old.trail new.trail old.bag (IsAfterFirst beside changes old.bag)
+    resumed can some = record {
+      since = some.now;
+      trail = some.trail;
+      each = λ first durable before after parts left may.
+          resumed_cuts beside changes first old.bag old.trail some.now is can durable some.is before after parts left
+          may;
+    }
+
+    pub outlasts_by : (result : Result (Unit {0}) RefusedChange) → OnOk result (HasChanged beside changes old new)
+        → IfErr result (HasStopped beside changes old new) → OutlastsChanges beside changes old new
+    outlasts_by result all stopped noted can = outlasts can (asked_by noted result all stopped)
+
+    pub resumed_by : (result : Result (Unit {0}) RefusedChange) → OnOk result (HasChanged beside changes old new)
+        → IfErr result (HasStopped beside changes old new) → OutlastsResumedChanges beside changes old new
+    resumed_by result all stopped noted can = resumed can (asked_by noted result all stopped)
+
+    lasts : HasChanged beside changes old new → LastsChanged beside changes old new
     lasts h noted can first durable left may =
         let asked = h.asked noted in
         let between =
@@ -215,13 +244,18 @@ module _ (beside : List ℕ) where
         changes_are_durable beside changes old.bag old.trail asked.now is can asked.is left
         (subst (λ d. MayLeave asked.now d left) (durable between.0 between.1) between.2)
 
-    -- whether they were all made or one was refused
-    pub outlasts_by : (result : Result (Unit {0}) RefusedChange) → OnOk result (HasChanged beside changes old new)
-        → IfErr result (HasStopped beside changes old new) → OutlastsChanges beside changes old new
-    outlasts_by (Ok done) all stopped = outlasts_all all
-    outlasts_by (Err refusal) all stopped = outlasts_some refusal stopped
+    lasts_so : HasChanged beside changes old new → LastsResumed beside changes old new
+    lasts_so h noted can some first durable left may =
+        let asked = h.asked noted in
+        resumed_changes_are_durable beside changes first old.bag old.trail asked.now is can some durable asked.is left
+        (subst (λ (xs : List DeviceEvent). MayLeave xs first left) asked.trail may)
 
     pub lasts_by : (result : Result (Unit {0}) RefusedChange) → OnOk result (HasChanged beside changes old new)
         → OnOk result (LastsChanged beside changes old new)
     lasts_by (Ok done) all = lasts all
     lasts_by (Err refusal) all = all
+
+    pub lasts_resumed_by : (result : Result (Unit {0}) RefusedChange)
+        → OnOk result (HasChanged beside changes old new) → OnOk result (LastsResumed beside changes old new)
+    lasts_resumed_by (Ok done) all = lasts_so all
+    lasts_resumed_by (Err refusal) all = all

@@ -159,19 +159,22 @@ module _ (P : Bag → Type 0) (bag : Bag) where
           → AsksPut beside name bytes before now
           → Reaches P bag (t ++ now) (Is (create name bytes actual))
       put_on t before now so_far asks =
-          subst (λ es. Reaches P bag es (Is (create name bytes actual))) in_a_row
+          subst (λ es. Reaches P bag es (Is (create name bytes actual)))
+          (in_a_row firsts (map (event.Write beside) asks.pieces) ∙ ap (λ es. t ++ es) (sym asks.asked))
           (put_step _ (name_step _ (whole_step _ bytes
-          (subst (λ text. Reaches P bag (((t ++ asks.syncs) ++ event.Create beside ∷ [])
+          (subst (λ text. Reaches P bag (((t ++ firsts) ++ event.Create beside ∷ [])
           ++ map (event.Write beside) asks.pieces) (IsWriting text)) asks.whole
-          (write_steps asks.pieces _ [] (begin_step _ (synced asks.syncs t (Is actual) so_far asks.are_syncs)))))))
+          (write_steps asks.pieces _ [] (begin_step _ (synced firsts t (Is actual) so_far (tt, asks.are_syncs))))))))
         where
-          ws : List DeviceEvent
-          ws = map (event.Write beside) asks.pieces
+          firsts : List DeviceEvent
+          firsts = event.SyncFolder [] ∷ asks.syncs
 
-          in_a_row : (((((t ++ asks.syncs) ++ event.Create beside ∷ []) ++ ws)
-              ++ event.Sync beside ∷ event.SyncFolder [] ∷ []) ++ event.Rename beside name ∷ [])
-              ++ event.SyncFolder [] ∷ [] ≡ t ++ now
-          in_a_row = sym (ap (λ es. t ++ es) asks.asked ∙ simp append_assoc)
+          in_a_row : (es ws : List DeviceEvent)
+              → (((((t ++ es) ++ event.Create beside ∷ []) ++ ws) ++ event.Sync beside ∷ event.SyncFolder [] ∷ [])
+              ++ event.Rename beside name ∷ []) ++ event.SyncFolder [] ∷ []
+              ≡ t ++ (es ++ event.Create beside ∷ ws ++ event.Sync beside ∷ event.SyncFolder []
+              ∷ event.Rename beside name ∷ event.SyncFolder [] ∷ [])
+          in_a_row es ws = simp append_assoc
 
   module _ (actual : Bag) (safe : P actual) (name : List ℕ) (name_is : is_base_name name ≡ true)
       (lost_safe : P (lose name actual)) where
@@ -203,15 +206,20 @@ module _ (P : Bag → Type 0) (bag : Bag) where
     pub remove_on : (t before now : List DeviceEvent) → Reaches P bag t (Is actual) → AsksRemove name before now
         → Reaches P bag (t ++ now) (Is (lose name actual))
     remove_on t before now so_far asks =
-        subst (λ es. Reaches P bag es (Is (lose name actual))) in_a_row
-        (weaker (((t ++ asks.syncs) ++ event.Remove name ∷ []) ++ event.SyncFolder [] ∷ [])
+        subst (λ es. Reaches P bag es (Is (lose name actual)))
+        (in_a_row firsts ∙ ap (λ es. t ++ es) (sym asks.asked))
+        (weaker (((t ++ firsts) ++ event.Remove name ∷ []) ++ event.SyncFolder [] ∷ [])
         (λ later d. IsRemoved (event.SyncFolder [] ∷ later) d) (Is (lose name actual))
-        (synced (event.SyncFolder [] ∷ []) ((t ++ asks.syncs) ++ event.Remove name ∷ []) IsRemoved
-        (remove_step (t ++ asks.syncs) (synced asks.syncs t (Is actual) so_far asks.are_syncs)) (tt, tt))
+        (synced (event.SyncFolder [] ∷ []) ((t ++ firsts) ++ event.Remove name ∷ []) IsRemoved
+        (remove_step (t ++ firsts) (synced firsts t (Is actual) so_far (tt, asks.are_syncs))) (tt, tt))
         only_removed (λ later d is. subst P (sym is) lost_safe))
       where
-        in_a_row : ((t ++ asks.syncs) ++ event.Remove name ∷ []) ++ event.SyncFolder [] ∷ [] ≡ t ++ now
-        in_a_row = sym (ap (λ es. t ++ es) asks.asked ∙ simp append_assoc)
+        firsts : List DeviceEvent
+        firsts = event.SyncFolder [] ∷ asks.syncs
+
+        in_a_row : (es : List DeviceEvent) → ((t ++ es) ++ event.Remove name ∷ []) ++ event.SyncFolder [] ∷ []
+            ≡ t ++ (es ++ event.Remove name ∷ event.SyncFolder [] ∷ [])
+        in_a_row es = simp append_assoc
 
   -- what is safe of the bag with the first of these changes, and perhaps a file that is begun
   abbrev AreSafe : List ℕ → List FileChange → Bag → Type 0

@@ -5,6 +5,7 @@ pub mod Common
 pub mod Events
 pub mod FileChanges
 pub mod HashValues
+pub mod Killed
 pub mod LeftOut
 pub mod ListingLaw
 pub mod Moving
@@ -13,6 +14,7 @@ pub mod Parents
 pub mod PathEntries
 pub mod PutFile
 pub mod Reading
+pub mod Resumed
 pub mod Runs
 pub mod SameText
 pub mod Spelled

@@ -1,5 +1,6 @@
 -- What changing files of the base folder, one after another, promises.
-use Rattle.std.specs.Prelude.{ℕ, ◌≡◌, ◌≢◌, ◌⊎◌, ◌≤◌, ◌-◌, true, IsTrue, List, Some, slice_get, take}
+use Rattle.std.specs.Prelude.{ℕ, ◌≡◌, ◌≢◌, ◌⊎◌, ◌≤◌, ◌-◌, true, IsTrue, List, [], Some, slice_get}
+use Rattle.std.specs.Prelude.{take}
 use Rattle.bag_text.specs.Bytes.{Name}
 use Rattle.bag_text.specs.Path.{is_base_name}
 use Rattle.bag_tree.specs.Asked.{Adds}
@@ -9,6 +10,7 @@ use Rattle.bag_tree.specs.Cut.{EachCut, LeavesOnly, lose}
 use Rattle.bag_tree.specs.FileChanges.{AsksFirstOf, CanChangeAll, ChangeAsks, ChangesAsk}
 use Rattle.bag_tree.specs.FileChanges.{IsAfterFirst, after_changes}
 use Rattle.bag_tree.specs.ReplaceCalls.{LeavesReplaced}
+use Rattle.bag_tree.specs.Resumed.{EachResumedCut, ResumedLeavesOnly}
 use Rattle.bag_tree.specs.Steps.{is_taken}
 use Rattle.bag_tree.specs.Tree.{TreeState}
 use Rattle.bag_tree.specs.declared.answer.Answer.TheVariants.{Refused}
@@ -76,3 +78,15 @@ abbrev pub LastsChanged : Name → List FileChange → TreeState → TreeState �
 LastsChanged beside changes old new =
     IsTrue old.noted → CanChangeAll beside changes old.bag
     → LeavesOnly old.trail new.trail old.bag (after_changes changes old.bag)
+
+-- So it is where an earlier program was killed before them: what a cut leaves before their first
+-- sync is answered could have been left before them.
+abbrev pub OutlastsResumedChanges : Name → List FileChange → TreeState → TreeState → Type 0
+OutlastsResumedChanges beside changes old new =
+    IsTrue old.noted → CanChangeAll beside changes old.bag
+    → EachResumedCut beside old.trail new.trail old.bag (IsAfterFirst beside changes old.bag)
+
+abbrev pub LastsResumed : Name → List FileChange → TreeState → TreeState → Type 0
+LastsResumed beside changes old new =
+    IsTrue old.noted → CanChangeAll beside changes old.bag → changes ≢ []
+    → ResumedLeavesOnly beside old.trail new.trail old.bag (after_changes changes old.bag)

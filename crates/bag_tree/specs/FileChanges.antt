@@ -44,23 +44,25 @@ CanChangeAll beside [] bag = ⊤
 CanChangeAll beside (change ∷ changes) bag =
     CanChange beside change bag × CanChangeAll beside changes (changed change bag)
 
--- A file is written beside, and its bytes and its name there are durable before it is given the
--- name that it is to have. That is durable when the call is answered.
+-- The base folder is synced, so that the names are durable that an earlier run gave. A file is
+-- written beside, and its bytes and its name there are durable before it is given the name that it
+-- is to have. That is durable when the call is answered.
 pub record AsksPut (beside name : Name) (bytes : Content)
     (before now : List DeviceEvent) : Type 0 where
   pub syncs : List DeviceEvent
   pub are_syncs : AreSyncs syncs
   pub pieces : List (List ℕ)
   pub whole : joined pieces ≡ bytes
-  pub asked : now ≡ syncs ++ event.Create beside ∷ map (event.Write beside) pieces
-      ++ event.Sync beside ∷ event.SyncFolder [] ∷ event.Rename beside name
-      ∷ event.SyncFolder [] ∷ []
+  pub asked : now ≡ event.SyncFolder [] ∷ syncs ++ event.Create beside
+      ∷ map (event.Write beside) pieces ++ event.Sync beside ∷ event.SyncFolder []
+      ∷ event.Rename beside name ∷ event.SyncFolder [] ∷ []
 
--- a file is removed, and that is durable when the call is answered
+-- The base folder is synced, and then a file is removed, and that is durable when the call is
+-- answered.
 pub record AsksRemove (name : Name) (before now : List DeviceEvent) : Type 0 where
   pub syncs : List DeviceEvent
   pub are_syncs : AreSyncs syncs
-  pub asked : now ≡ syncs ++ event.Remove name ∷ event.SyncFolder [] ∷ []
+  pub asked : now ≡ event.SyncFolder [] ∷ syncs ++ event.Remove name ∷ event.SyncFolder [] ∷ []
 
 -- what a change asks of the device, where a file is written at this name beside the others
 abbrev pub ChangeAsks : Name → FileChange → Asking

@@ -20,6 +20,7 @@ pub mod MovesAll
 pub mod Out
 pub mod Pieces
 pub mod ReplaceCalls
+pub mod Resumed
 pub mod Steps
 pub mod Stop
 pub mod Sums

@@ -3,8 +3,8 @@ ghost use Rattle.std.specs.Prelude.{◌≡◌, All, IsTrue, MatchResult, OnOk, O
 ghost use Rattle.bag_text.specs.Path.{is_base_name};
 ghost use Rattle.bag_tree.specs.Asked.{Adds};
 ghost use Rattle.bag_tree.specs.ChangeFiles.{HasChanged, HasStopped, IsOfFile, LastsChanged};
-ghost use Rattle.bag_tree.specs.ChangeFiles.{LeavesChange, MayRefuseFileChange, OutlastsChanges};
-ghost use Rattle.bag_tree.specs.ChangeFiles.{more_by};
+ghost use Rattle.bag_tree.specs.ChangeFiles.{LastsResumed, LeavesChange, MayRefuseFileChange};
+ghost use Rattle.bag_tree.specs.ChangeFiles.{OutlastsChanges, OutlastsResumedChanges, more_by};
 ghost use Rattle.bag_tree.specs.Changes.{AppliesStep};
 ghost use Rattle.bag_tree.specs.FileChanges.{AsksFirstOf, ChangeAsks, changed};
 ghost use Rattle.bag_tree.specs.declared.answer.Answer.TheVariants.{Refused};
@@ -25,6 +25,9 @@ pub struct RefusedChange {
 /// On a device that notes what it does, and on which what was synced is durable, a power cut at any
 /// moment, be it answered Ok or not, leaves what the first of the changes made, for some number of
 /// them, and perhaps a file at the name beside. After Ok it leaves what all of them made.
+///
+/// So it is also where they go on from where an earlier program was killed, since each change syncs
+/// the base folder first: a cut before that was answered leaves what it could have left before.
 pub fn change_files<T: ReplaceTree>(
     tree: &mut T,
     beside: &str,
@@ -40,6 +43,10 @@ pub fn change_files<T: ReplaceTree>(
         beside.now changes.now (T.state tree.old) (T.state tree.new) }
     ensures lasting { OnOk result
         (LastsChanged beside.now changes.now (T.state tree.old) (T.state tree.new)) }
+    ensures resumed { OutlastsResumedChanges
+        beside.now changes.now (T.state tree.old) (T.state tree.new) }
+    ensures resumed_lasting { OnOk result
+        (LastsResumed beside.now changes.now (T.state tree.old) (T.state tree.new)) }
 {
     change_each(tree, beside, changes)
 }

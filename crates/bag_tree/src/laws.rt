@@ -4,6 +4,9 @@ ghost use Rattle.std.specs.Prelude.{ℕ, List};
 ghost use Rattle.bag_tree.specs.FileChanges.{ChangesAreDurable, CutsLeaveFirstChanges};
 ghost use Rattle.bag_tree.specs.LeftOutSyncs as left_out;
 ghost use Rattle.bag_tree.specs.MovesAll.{MovedIsThere};
+ghost use Rattle.bag_tree.specs.Resumed.{DurableBagsAreDurableOnceSynced};
+ghost use Rattle.bag_tree.specs.Resumed.{KilledChangesAreDurableOnceSynced};
+ghost use Rattle.bag_tree.specs.Resumed.{ResumedChangesAreDurable, ResumedCutsLeaveFirstChanges};
 
 /// A listing of a bag, in the order of its paths, has the files of the bag and their sizes, and
 /// nothing else.
@@ -36,4 +39,15 @@ pub fn what_is_not_synced_may_be_lost()
 pub fn changes_of_files_are_made_in_order()
     ensures any_moment { CutsLeaveFirstChanges }
     ensures durable { ChangesAreDurable }
+{}
+
+/// The same holds of changes that begin where an earlier program was killed, since each of them
+/// syncs the base folder first: the bag need only be durable once that is synced, but for the bytes
+/// of the file that was begun beside the others. A cut before the first sync was answered leaves
+/// what it could have left before the changes.
+pub fn changes_of_files_go_on_where_others_were_killed()
+    ensures premise { DurableBagsAreDurableOnceSynced }
+    ensures killed { KilledChangesAreDurableOnceSynced }
+    ensures any_moment { ResumedCutsLeaveFirstChanges }
+    ensures durable { ResumedChangesAreDurable }
 {}

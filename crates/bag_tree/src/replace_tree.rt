@@ -10,7 +10,8 @@ use crate::{Tree, TreeFault};
 /// Each change is a function on bags, and a reader sees it made or not made. A file is written at a
 /// name beside the others, and given its own name once its bytes are durable. A change that is
 /// answered Ok is durable, and no file is open after it; one that is refused was made or not, and
-/// may leave a begun file at the name beside. An honest tree stays honest.
+/// may leave a begun file at the name beside. An honest tree stays honest. Before each change the
+/// base folder is synced, so that names are durable which an earlier program gave that was killed.
 ///
 /// Where its device notes what it does, each call says what it asked of that, in order; a refused
 /// call asked the first of that, and then perhaps for a sync that was refused.

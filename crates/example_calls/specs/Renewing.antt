@@ -8,6 +8,7 @@ abbrev pub adding_sha512 : Renewal
 adding_sha512 = record {
   added = Sha512 ∷ [];
   dropped = [];
+  unchecked = false;
   elements = record { set = []; appended = []; unset = [] };
   to_1_0 = false;
 }

@@ -8,7 +8,7 @@ use crate::written::pairs_of;
 use bag_facts::Fault;
 use bag_profile::Profile;
 use bag_read::{Kind, read_declaration, read_fetch, read_info, read_manifest};
-use bag_tags::{write_info, write_manifest};
+use bag_tags::{write_info, write_manifest_by};
 use bag_text::{Alg, Rules, escape_path, text_of, unescape_path};
 use std::alloc::Global;
 
@@ -29,7 +29,8 @@ pub enum Reader {
     /// A digest of bytes.
     Digest(Alg),
     WriteInfo,
-    WriteManifest(Kind, Alg),
+    /// The text of a manifest by the rules of a version.
+    WriteManifest(Rules, Kind, Alg),
     Oxum,
     /// A line of a report, which is written again.
     Line,
@@ -91,11 +92,11 @@ const BY_ALGORITHM: &[(&str, Reader)] = &[
     ),
     (
         "write-manifest",
-        Reader::WriteManifest(Kind::Payload, Alg::Md5),
+        Reader::WriteManifest(Rules::V10, Kind::Payload, Alg::Md5),
     ),
     (
         "write-tagmanifest",
-        Reader::WriteManifest(Kind::Tag, Alg::Md5),
+        Reader::WriteManifest(Rules::V10, Kind::Tag, Alg::Md5),
     ),
     ("digest", Reader::Digest(Alg::Md5)),
 ];
@@ -134,6 +135,9 @@ impl Reader {
             Reader::Fetch(_) => Some(Reader::Fetch(Rules::V097)),
             Reader::Unescape(_) => Some(Reader::Unescape(Rules::V097)),
             Reader::Manifest(_, kind, alg) => Some(Reader::Manifest(Rules::V097, kind, alg)),
+            Reader::WriteManifest(_, kind, alg) => {
+                Some(Reader::WriteManifest(Rules::V097, kind, alg))
+            }
             _ => None,
         }
     }
@@ -142,7 +146,7 @@ impl Reader {
     fn by(self, alg: Alg) -> Reader {
         match self {
             Reader::Manifest(rules, kind, _) => Reader::Manifest(rules, kind, alg),
-            Reader::WriteManifest(kind, _) => Reader::WriteManifest(kind, alg),
+            Reader::WriteManifest(rules, kind, _) => Reader::WriteManifest(rules, kind, alg),
             _ => Reader::Digest(alg),
         }
     }
@@ -180,9 +184,9 @@ impl Reader {
                 let elements = pairs_of(alloc, text, out);
                 out.take(write_info(alloc, &elements));
             }
-            Reader::WriteManifest(kind, alg) => {
+            Reader::WriteManifest(rules, kind, alg) => {
                 let entries = pairs_of(alloc, text, out);
-                out.take(write_manifest(alloc, kind, alg, &entries));
+                out.take(write_manifest_by(alloc, rules, kind, alg, &entries));
             }
             Reader::Plan => plan(alloc, text, out),
             Reader::Line => out.take(Fault::from_line(alloc, text)),

@@ -1,5 +1,5 @@
 use Rattle.bag_renew.proofs.Passing.{all_passing, one_more_passing}
-use Rattle.bag_renew.specs.Composing.{is_dropped_alg}
+use Rattle.bag_renew.specs.Renewed.{is_dropped_alg}
 use Rattle.bag_renew.proofs.removing.dropped_algs.Goals as goal
 
 pub loop-alg-preserved : goal.loop-alg-preserved

@@ -1,6 +1,6 @@
 use Rattle.bag_renew.proofs.Common.{◌≡◌, filter, take}
 use Rattle.bag_facts.specs.FactsOfBag.{IfBagRead}
-use Rattle.bag_renew.specs.Composing.{is_dropped_alg}
+use Rattle.bag_renew.specs.Renewed.{is_dropped_alg}
 use Rattle.bag_renew.proofs.removing.dropped_algs.Given as goal
 
 abbrev pub invariant-loop-alg : goal.invariant-loop-alg

@@ -1,7 +1,7 @@
 use Rattle.bag_renew.proofs.renewing.put_changes.Goals as goal
 
 pub returns-in-Ok-clause-any_moment : goal.returns-in-Ok-clause-any_moment
-returns-in-Ok-clause-any_moment g c = rw c.deref.ensures.value at c.in-Ok.ensures.any_moment
+returns-in-Ok-clause-any_moment g c = rw c.deref.ensures.value at c.in-Ok.ensures.resumed
 
 pub returns-in-Err-clause-stopped : goal.returns-in-Err-clause-stopped
 returns-in-Err-clause-stopped g c =
@@ -14,4 +14,7 @@ returns-in-Err-clause-stopped g c =
     }
 
 pub returns-in-Err-clause-any_moment : goal.returns-in-Err-clause-any_moment
-returns-in-Err-clause-any_moment g c = rw c.deref.ensures.value at c.in-Err.ensures.any_moment
+returns-in-Err-clause-any_moment g c = rw c.deref.ensures.value at c.in-Err.ensures.resumed
+
+pub returns-in-Ok-clause-lasting : goal.returns-in-Ok-clause-lasting
+returns-in-Ok-clause-lasting g c = rw c.deref.ensures.value at c.in-Ok.ensures.resumed_lasting

@@ -1,0 +1,25 @@
+"""Python beside `bagit`, the proved program that makes and checks BagIt bags.
+
+Nothing here judges a bag: each verdict is a status and a closing line that
+`bagit` has written. The modules:
+
+lines       what `bagit` writes, line by line
+program     runs of `bagit`, and what each says of a bag
+seal        a digest that changes with any tag file of a bag
+report      `bagit-keep report`: reports as JSON, CSV or a summary
+go_round    `bagit-keep round`: many bags, checked in a round
+rounds      what is on the disk of a round
+checks      the checks of a round, several at a time
+progress    how far they are
+table       the table of a round, also beside an earlier one
+bagit       bags by the names of bagit-python
+errors      what it raises, and the details of faults
+elements    the elements of bag-info.txt that it reads and writes
+runs        what `bagit` and `bagit-renew` answer of one bag
+tags        tag files, read to be shown
+info        `bagit-keep info`: what the tag files of a bag say
+commands    which commands there are, and how any of them ends
+messages    what they say to people, and how they read their words
+"""
+
+__version__ = "1.0.0"

@@ -1,0 +1,104 @@
+"""Which commands there are, and how any of them ends."""
+import os
+import signal
+import sys
+import traceback
+from contextlib import suppress
+from importlib import import_module
+from typing import Any, List, NoReturn
+
+from . import __version__
+from .messages import Refused, explained, say
+
+COMMANDS = {
+    "info": ("info", "write what the tag files of a bag say"),
+    "report": ("report", "write reports of bagit as data, or a summary"),
+    "round": ("go_round", "check many bags, and write the table of a round"),
+}
+SIGNALS = (signal.SIGINT, signal.SIGTERM, signal.SIGHUP)
+
+USAGE = """\
+usage: bagit-keep COMMAND [OPTIONS] ..
+
+What stands beside bagit, which makes and checks BagIt bags. Each COMMAND says
+more by --help:
+
+"""
+
+
+class Interrupted(BaseException):
+    """A signal asks the command to end."""
+
+
+def help_text() -> str:
+    lines = [f"  {name:9} {says}\n" for name, (_, says) in COMMANDS.items()]
+    options = "  -h, --help    say this\n  --version     say the version\n"
+    return f"{USAGE}{''.join(lines)}\nOptions:\n{options}"
+
+
+def interrupt(number: int, frame: Any) -> NoReturn:
+    raise Interrupted(signal.Signals(number).name)
+
+
+def open_closed_streams() -> None:
+    """Opens what isn't open of standard input, output and error, so that no
+    other file takes its place."""
+    for number in range(3):
+        try:
+            os.fstat(number)
+        except OSError:
+            os.open(os.devnull, os.O_RDWR)
+
+
+def do(words: List[str]) -> int:
+    """Does what is asked for, and says the status."""
+    if words[:1] in (["-h"], ["--help"]):
+        print(help_text(), end="")
+        return 0
+    if words[:1] == ["--version"]:
+        print(f"bagit-keep {__version__}")
+        return 0
+    if not words or words[0] not in COMMANDS:
+        names = " or ".join(COMMANDS)
+        raise Refused(f"it takes a command, {names}; --help says more")
+    module = import_module(f".{COMMANDS[words[0]][0]}", __package__)
+    status: int = module.run(words[1:])
+    return status
+
+
+def status_of(words: List[str]) -> int:
+    """The status of what is asked for; whatever goes wrong is a message."""
+    try:
+        status = do(words)
+        if sys.stdout is not None:
+            sys.stdout.flush()
+        return status
+    except Refused as refused:
+        say(refused)
+        return refused.status
+    except OSError as error:
+        say(explained(error))
+    except MemoryError:
+        say("out of memory")
+    except Interrupted as signalled:
+        say(f"interrupted by {signalled}")
+    except SystemExit as ended:  # of --help
+        return ended.code if isinstance(ended.code, int) else 3
+    except Exception:  # which isn't the status of a bag's faults
+        with suppress(Exception):
+            traceback.print_exc()
+    return 3
+
+
+def run() -> NoReturn:
+    """The command, with the words that it was given."""
+    open_closed_streams()
+    signal.signal(signal.SIGCHLD, signal.SIG_DFL)  # else there's no status
+    for number in SIGNALS:
+        if signal.getsignal(number) is not signal.SIG_IGN:
+            signal.signal(number, interrupt)
+    status = status_of(sys.argv[1:])
+    with suppress(OSError):
+        if sys.stderr is not None:
+            sys.stderr.flush()
+    os._exit(status)  # what a stream refused was said, and isn't tried again

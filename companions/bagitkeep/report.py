@@ -1,0 +1,408 @@
+"""Reports of `bagit` as data: JSON, CSV, a summary, or the paths of faults."""
+import argparse
+import csv
+import json
+import os
+import re
+import sys
+import tempfile
+from collections import Counter
+from dataclasses import dataclass
+from itertools import chain, islice, tee
+from typing import (
+    IO,
+    Any,
+    Callable,
+    Dict,
+    FrozenSet,
+    Iterable,
+    Iterator,
+    List,
+    Optional,
+    Sequence,
+    Tuple,
+)
+
+from . import rounds
+from .lines import (
+    WORDS,
+    Closing,
+    Fault,
+    Line,
+    NotALine,
+    Unchecked,
+    line_of,
+)
+from .messages import Parser, Refused, explained, printable, say
+
+COLUMNS = (
+    "bag code word path algorithm line detail ended faults cause part files"
+    " bytes"
+).split()
+MOST_IN_MEMORY = 1 << 22
+MOST_SHOWN = 200
+
+Record = Dict[str, Any]
+
+USAGE = """bagit-keep report [OPTIONS] [REPORT ..]
+       bagit-keep report [OPTIONS] --round ROUND"""
+ABOUT = """\
+Writes reports of bagit as data. A REPORT is a file of what bagit wrote to its
+standard output, also of several directories one after another; without any,
+or for a -, standard input is read. With --round they are those of a round of
+"bagit-keep round", and its bags without a result are named too."""
+END = """\
+Paths and details are decoded. A report is read to its end before anything is
+written. A line that bagit doesn't write, or a closing line that doesn't count
+the faults above it, is said on standard error, and nothing is written.
+
+Exit status, as bagit's own for these reports, the greatest:
+  0  no bag has a fault of those that were looked for
+  1  a bag has faults, or its report began or stopped in the middle
+  2  the arguments aren't understood, or a line isn't a report's
+  3  a report isn't finished, or says that a bag wasn't read or made; a bag of
+     the round has no result; or something can't be read or written"""
+
+
+def record_of(line: Line) -> Record:
+    """What a line says, by columns; what it doesn't have is left out."""
+    if isinstance(line, Fault):
+        return {
+            "code": line.code,
+            "word": line.word,
+            "path": line.path,
+            "algorithm": line.algorithm,
+            "line": line.line,
+            "detail": line.detail,
+        }
+    if isinstance(line, Unchecked):
+        return {"word": "unchecked", "detail": line.key}
+    part = line.part and f"{line.part} of {line.parts}"
+    fields = {**vars(line), "part": part, "detail": line.reason}
+    return {it: fields[it] for it in COLUMNS if fields.get(it) is not None}
+
+
+def is_of_file(path: str) -> bool:
+    """Whether a file of a bag may have this path (RFC 8493, 5.1)."""
+    return "\0" not in path and not {"", ".", ".."} & set(path.split("/"))
+
+
+def with_next(lines: Iterable[bytes]) -> Iterator[Tuple[bytes, bytes]]:
+    """Each line, and the one below it, or nothing."""
+    these, following = tee(lines)
+    next(following, None)
+    return zip(these, chain(following, [b""]))
+
+
+def is_making(text: bytes) -> bool:
+    """Whether nothing but a making writes this line, or it is none."""
+    return not text or text.endswith(b" made\n") or b" not made: " in text
+
+
+def read_line(text: bytes, is_made: bool) -> Line:
+    """What a line says. `unchecked made` may be of a key of a profile, or say
+    that a bag of the name `unchecked` was made."""
+    line = line_of(text)
+    if is_made and line == Unchecked("made"):
+        return Closing("unchecked", "made")
+    return line
+
+
+@dataclass
+class Block:
+    """The lines of one report, or what is said of a bag that has none. There
+    is no bag where the closing line is missing."""
+
+    bag: Optional[str]
+    lines: int = 0
+    without: Optional[str] = None
+
+
+class Reading:
+    """Reports that are read. The line that closes a report names its bag, so
+    all lines are kept until they are written: in `kept`, a file."""
+
+    def __init__(self, kept: IO[bytes], codes: FrozenSet[int]) -> None:
+        self.kept, self.codes = kept, codes
+        self.blocks: List[Block] = []
+        self.bag: Optional[str] = None
+        self.status = 0
+        self.is_refused = self.is_unread = False
+
+    def refuse(self, text: str) -> None:
+        say(text)
+        self.is_refused = True
+
+    def fail(self, text: str) -> None:
+        say(text)
+        self.status = 3
+
+    def read(self, name: str, bag: Optional[str] = None) -> None:
+        """Reads a file of reports; the bag has this name, if one is given."""
+        try:
+            if name == "-":
+                with open(0, "rb", closefd=False) as file:
+                    self.read_lines("standard input", file, bag)
+            else:
+                with open(name, "rb") as file:
+                    self.read_lines(name, file, bag)
+        except OSError as error:
+            where = f"can't be read, or kept in {tempfile.gettempdir()}"
+            self.fail(f"{name} {where}: {error.strerror}")
+            self.is_unread = True
+
+    def read_lines(
+        self, name: str, file: IO[bytes], bag: Optional[str]
+    ) -> None:
+        lines = faults = number = 0
+        is_cut = False
+        for number, (text, below) in enumerate(with_next(file), 1):
+            is_cut = not text.endswith(b"\n")
+            if is_cut:
+                self.fail(f"{name}: line {number} is cut off: {shown(text)}")
+                break
+            try:
+                line = read_line(text, is_making(below))
+            except NotALine:
+                self.refuse(
+                    f"{name}: line {number} is no line of a report:"
+                    f" {shown(text[:-1])}"
+                )
+                continue
+            self.kept.write(text)
+            lines += 1
+            if isinstance(line, Fault):
+                faults += 1
+                self.look_at_path(f"{name}: line {number}", line)
+            elif isinstance(line, Closing):
+                self.close(f"{name}: line {number}", line, lines, faults, bag)
+                lines = faults = 0
+        if lines or is_cut or number == 0:
+            self.fail(
+                f"{name} isn't finished: after {faults} faults there is no"
+                " closing line"
+            )
+            self.blocks.append(Block(None, lines))
+
+    def look_at_path(self, place: str, fault: Fault) -> None:
+        if fault.code in self.codes and not is_of_file(fault.path):
+            self.fail(
+                f"{place} is passed over, since no file has its path:"
+                f" {shown(fault.path)}"
+            )
+
+    def close(
+        self,
+        place: str,
+        line: Closing,
+        lines: int,
+        faults: int,
+        bag: Optional[str],
+    ) -> None:
+        counted, name = line.faults or 0, line.bag if bag is None else bag
+        if counted != faults and not self.is_refused:
+            self.refuse(
+                f"{place} closes a report of {counted} faults, and {faults}"
+                " are above it"
+            )
+        if self.codes and self.bag not in (None, name):
+            self.refuse(
+                f"{place} is of the bag {name}, and --files takes one bag,"
+                f" here {self.bag}"
+            )
+        self.bag = name
+        self.status = max(self.status, line.status)
+        self.blocks.append(Block(name, lines))
+
+    def lack(self, bag: str, why: str) -> None:
+        """Takes that a bag of a round has no result."""
+        self.status = 3
+        self.blocks.append(Block(bag, 0, why))
+
+    def records(self) -> Iterator[Record]:
+        """What the lines say. Each fault also has its bag, or None where its
+        report isn't finished."""
+        self.kept.seek(0)
+        for block in self.blocks:
+            if block.without is not None:
+                ended = {"ended": "no result", "detail": block.without}
+                yield {"bag": block.bag, **ended}
+            left = block.lines
+            for text in islice(self.kept, block.lines):
+                left -= 1
+                line = read_line(text, left == 0 and block.bag is not None)
+                record = record_of(line)
+                if not isinstance(line, Unchecked):
+                    record = {"bag": None, **record}
+                    record["bag"] = block.bag
+                yield record
+
+
+def shown(text: object) -> str:
+    """A line or a path for people, not longer than they read."""
+    quoted = repr(text).lstrip("b")
+    return quoted if len(quoted) < MOST_SHOWN else quoted[:MOST_SHOWN] + ".."
+
+
+def write_json(reading: Reading, out: IO[str]) -> None:
+    """An object for each line."""
+    for record in reading.records():
+        out.write(json.dumps(record) + "\n")
+
+
+def cell(value: object) -> str:
+    """The text of a cell. Where a spreadsheet would take it for a formula it
+    gets a `'` in front; so does one that looks as if it had got that."""
+    text = "" if value is None else str(value)
+    return f"'{text}" if re.match(r"'*[=+\-@\t\r]", text) else text
+
+
+def write_cells(reading: Reading, out: IO[str], dialect: str) -> None:
+    """A row for each line, below the names of the columns. A terminal obeys
+    what is in a name; a file or a program gets each name as it is."""
+    is_terminal = out.isatty()
+    writer = csv.writer(out, dialect)
+    writer.writerow(COLUMNS)
+    for record in reading.records():
+        cells = (cell(record.get(column)) for column in COLUMNS)
+        writer.writerow(
+            [printable(it) if is_terminal else it for it in cells]
+        )
+
+
+def write_csv(reading: Reading, out: IO[str]) -> None:
+    """Values with commas between."""
+    write_cells(reading, out, "excel")
+
+
+def write_tsv(reading: Reading, out: IO[str]) -> None:
+    """Values with tabs between."""
+    write_cells(reading, out, "excel-tab")
+
+
+def first_folder(path: str) -> str:
+    """The folder of the bag that a file is in, or of its payload."""
+    parts = path.split("/")
+    folders = parts[:-1][: 2 if parts[0] == "data" else 1]
+    text = "".join(f"{folder}/" for folder in folders)
+    return text or ("./" if path else "-")
+
+
+def write_counts(
+    title: str, counts: Iterable[Tuple[str, int]], out: IO[str]
+) -> None:
+    out.write(f"{title}:\n")
+    for text, count in counts:
+        out.write(f"{count:9} {printable(text)}\n")
+
+
+def write_summary(reading: Reading, out: IO[str]) -> None:
+    """How many reports end in which way, and how many files have a fault.
+
+    The faults of one code come in the order of their paths, so a file that
+    has several is counted once.
+    """
+    ended, codes, folders = Counter[str](), Counter[str](), Counter[str]()
+    last: Dict[int, str] = {}
+    unfinished = sum(block.bag is None for block in reading.blocks)
+    if unfinished:
+        ended["isn't finished"] = unfinished
+    for record in reading.records():
+        code = record.get("code")
+        if "ended" in record:
+            ended[record["ended"]] += 1
+            last.clear()
+        elif code is not None and last.get(code) != record["path"]:
+            last[code] = record["path"]
+            fault = f"{code} {record['word']}"
+            codes[fault] += 1
+            bag = record["bag"] or "(no closing line)"
+            folders[f"{bag}: {first_folder(record['path'])} {fault}"] += 1
+    write_counts("reports by how they end", ended.most_common(), out)
+    write_counts("files by fault", sorted(codes.items()), out)
+    title = "files by bag, first folder and fault"
+    write_counts(title, folders.most_common(), out)
+
+
+def write_paths(reading: Reading, out: IO[str]) -> None:
+    """The paths that faults name: those of one file by several algorithms
+    follow each other. None may look like an option."""
+    last = None
+    for record in reading.records():
+        path = record.get("path")
+        is_asked = record.get("code") in reading.codes and path != last
+        if path is not None and is_asked and is_of_file(path):
+            out.write(f"{'./' if path.startswith('-') else ''}{path}\0")
+            last = path
+
+
+FORMS: Dict[str, Tuple[Callable[[Reading, IO[str]], None], str]] = {
+    "json": (write_json, "an object for each line (the default)"),
+    "csv": (write_csv, "values with commas between, safe for spreadsheets"),
+    "tsv": (write_tsv, "the same with tabs between"),
+    "summary": (write_summary, "how many files have each fault, and where"),
+}
+
+
+def codes_of(text: str) -> FrozenSet[int]:
+    """The codes that are given with commas between."""
+    words = text.split(",")
+    codes = frozenset(code for code in WORDS if str(code) in words)
+    if len(codes) != len(words):
+        raise argparse.ArgumentTypeError(
+            f"not codes with commas between, each once: {text}"
+        )
+    return codes
+
+
+def read_words(words: Sequence[str]) -> argparse.Namespace:
+    parser = Parser("bagit-keep report", USAGE, ABOUT, END)
+    for name, (_, says) in FORMS.items():
+        parser.option(f"--{name}", says, dest="form", const=name)
+    parser.option(
+        "--files",
+        "the paths of the faults of these codes, as 601,701, each ended by a"
+        " NUL byte",
+        "CODES",
+        type=codes_of,
+    )
+    parser.option("--round", "the reports of this round", "DIRECTORY")
+    read = parser.read(words)
+    if read.files and read.form:
+        raise Refused(f"--files doesn't go with --{read.form}")
+    if read.round is not None and (read.operands or read.files):
+        raise Refused("--round takes no report, and doesn't go with --files")
+    return read
+
+
+def read_round(reading: Reading, folder: str) -> None:
+    """Reads the reports of a round, in the order of its bags."""
+    for row in rounds.load(os.fsencode(folder)).rows():
+        bag = os.fsdecode(row.bag)
+        if row.report is None:
+            reading.lack(bag, row.result)
+        else:
+            reading.read(os.fsdecode(row.report), bag)
+
+
+def run(words: Sequence[str]) -> int:
+    """Does what the command `report` is asked for, and says its status."""
+    asked = read_words(words)
+    write = write_paths if asked.files else FORMS[asked.form or "json"][0]
+    if sys.stdout is None:
+        raise Refused("standard output is closed", 3)
+    try:
+        with open(
+            1, "w", encoding="utf-8", errors="surrogateescape", newline="",
+            closefd=False,
+        ) as out, tempfile.SpooledTemporaryFile(MOST_IN_MEMORY) as kept:
+            reading = Reading(kept, asked.files or frozenset())
+            if asked.round is not None:
+                read_round(reading, asked.round)
+            for name in asked.operands or ([] if asked.round else ["-"]):
+                reading.read(name)
+            if not reading.is_refused and not reading.is_unread:
+                write(reading, out)
+    except OSError as error:
+        raise Refused(f"it can't be written: {explained(error)}", 3) from error
+    return 2 if reading.is_refused else reading.status

@@ -1,0 +1,356 @@
+"""Rounds: what is on the disk of a check of many bags.
+
+A round is a folder:
+
+    list/directories   the directories, each ended by a NUL byte; the first
+                       has the number 1
+    list/options.json  how they are checked
+    list/profile.json  the profile, if there is one
+    lock               its byte N is locked by who checks the bag N
+    reports/000001-NAME.txt     the report of a check that came to its end
+    tries/000001-NAME.HEX.txt   of one that didn't, or hasn't yet
+    records/HEX.jsonl  of one process, a line for each check that has ended
+
+In NAME other bytes than letters, digits, `.`, `_` and `-` are written as `_`.
+`list` is written whole under another name, and then renamed.
+
+How a bag is, its faults and its status are read from its report, never from
+a record. A record has the SHA-256 of the report, without which the report
+counts for nothing.
+"""
+import errno
+import hashlib
+import json
+import os
+import re
+import shutil
+from contextlib import contextmanager, suppress
+from dataclasses import asdict, dataclass, fields
+from os.path import join
+from typing import IO, Dict, Iterator, List, Optional, Set, Tuple
+
+from .lines import VERDICTS, Report, encoded, report_of
+from .messages import Refused
+from .program import Asked, Ended, Verdict, named, verdict_of
+
+FORMAT = 2
+ALTERED = "its record or report was altered: remove it"
+
+
+def text_of(path: bytes) -> str:
+    """A path in JSON: a byte that isn't UTF-8 is one of U+DC80 to U+DCFF."""
+    return path.decode("utf-8", "surrogateescape")
+
+
+@contextmanager
+def naming(path: bytes) -> Iterator[None]:
+    """Has an error say which file it is of."""
+    try:
+        yield
+    except OSError as error:
+        file = error.filename or path
+        raise OSError(error.errno, error.strerror, file) from error
+
+
+def read_bytes(path: bytes) -> bytes:
+    with naming(path), open(path, "rb") as file:
+        return file.read()
+
+
+def write_synced(path: bytes, content: bytes) -> None:
+    with naming(path), open(path, "xb") as file:
+        file.write(content)
+        file.flush()
+        os.fsync(file)
+
+
+def sync_folder(path: bytes) -> None:
+    """Syncs a folder's names, where its file system can."""
+    folder = os.open(path, os.O_RDONLY | os.O_DIRECTORY)
+    try:
+        with naming(path):
+            os.fsync(folder)
+    except OSError as error:
+        if error.errno not in (errno.EINVAL, errno.ENOTSUP):
+            raise
+    finally:
+        os.close(folder)
+
+
+@dataclass(frozen=True)
+class Record:
+    """What is known of a check that has ended, beside its report.
+
+    `report` is the name of its report in the round; `why` says why it has no
+    result; `real` is the folder that was checked, with no links in its path;
+    `at` is the end in nanoseconds, by which the last of several is found.
+    """
+
+    number: int
+    bag: str
+    real: str
+    begun: str
+    ended: str
+    at: int
+    why: Optional[str] = None
+    version: Optional[str] = None
+    bagit_sha256: Optional[str] = None
+    report: Optional[str] = None
+    report_sha256: Optional[str] = None
+    seal: Optional[str] = None
+    files: Optional[int] = None
+    size: Optional[int] = None
+
+    def line(self) -> bytes:
+        """The record as a line of JSON."""
+        return json.dumps(asdict(self)).encode() + b"\n"
+
+
+def record_of(line: bytes) -> Optional[Record]:
+    """The record of a line; None where it isn't one, or was cut off."""
+    try:
+        found = json.loads(line)
+        record = Record(**found)
+    except (ValueError, TypeError, RecursionError):
+        return None
+    for field in fields(Record):
+        value, kind = found.get(field.name), str(field.type)
+        wanted = int if "int" in kind else str
+        is_left_out = value is None and "Optional" in kind
+        if not is_left_out and type(value) is not wanted:
+            return None
+    return record
+
+
+@dataclass(frozen=True)
+class Row:
+    """How a bag is, by the last check of it in a round.
+
+    The status is 3 where there is no result. `report` is the file that says
+    so, if there is one.
+    """
+
+    status: int
+    result: str
+    bag: bytes
+    faults: Optional[int] = None
+    report: Optional[bytes] = None
+    record: Optional[Record] = None
+    is_altered: bool = False
+
+
+@dataclass(frozen=True)
+class Round:
+    """A round that has its list."""
+
+    folder: bytes
+    directories: List[bytes]
+    asked: Asked
+    options: Dict[str, object]
+    records: Dict[int, List[Record]]
+    tried: Set[bytes]
+
+    def name_of(self, number: int) -> bytes:
+        """What the files of the bag of a number are called."""
+        base = os.path.basename(self.directories[number - 1])
+        name = re.sub(rb"[^A-Za-z0-9._-]", b"_", base)
+        return b"%06d-%s" % (number, name[:100])
+
+    def report_path(self, number: int) -> bytes:
+        return join(self.folder, b"reports", self.name_of(number) + b".txt")
+
+    def tries_of(self, number: int) -> List[bytes]:
+        """The reports of checks that didn't come to their end."""
+        place, name = join(self.folder, b"tries"), self.name_of(number)
+        return [
+            join(place, it)
+            for it in names_in(place)
+            if it.rsplit(b".", 2)[0] == name
+        ]
+
+    def row(self, number: int) -> Row:
+        """How the bag of a number is."""
+        path, bag = self.report_path(number), self.directories[number - 1]
+        try:
+            digest, report = read_report(path)
+        except FileNotFoundError:
+            return self.unfinished(number)
+        closing = report.closing
+        ended = Ended(closing.status if closing is not None else None)
+        verdict = self.judge(ended, report, bag)
+        for record in self.records.get(number, []):
+            is_of_it = (record.report_sha256, record.bag) == (
+                digest,
+                text_of(bag),
+            )
+            if is_of_it and verdict.status != 3:
+                return Row(
+                    verdict.status, verdict.result, bag, verdict.faults, path,
+                    record,
+                )
+        return Row(3, f"{ALTERED} ({encoded(path)})", bag, is_altered=True)
+
+    def judge(self, ended: Ended, report: Report, bag: bytes) -> Verdict:
+        return verdict_of(ended, report, named(bag)[0], self.asked.depth)
+
+    def unfinished(self, number: int) -> Row:
+        """The row of a bag without a result."""
+        bag, records = self.directories[number - 1], self.records.get(number)
+        if not records:
+            is_begun = self.name_of(number) in self.tried
+            return Row(3, "begun, not ended" if is_begun else "not begun", bag)
+        last = max(records, key=lambda record: record.at)
+        if last.report is not None:
+            path = join(self.folder, os.fsencode(last.report))
+            with suppress(OSError):
+                digest, report = read_report(path)
+                unread = self.judge(Ended(3), report, bag)
+                if digest == last.report_sha256:
+                    is_whole = report.closing is not None and not last.why
+                    return Row(
+                        3,
+                        unread.result if is_whole else last.why or ALTERED,
+                        bag,
+                        report.faults,
+                        path if is_whole else None,
+                        last,
+                    )
+        return Row(3, last.why or "not ended", bag, record=last)
+
+    def rows(self) -> List[Row]:
+        """The rows of all bags, in their order."""
+        return [self.row(it + 1) for it in range(len(self.directories))]
+
+
+def read_report(path: bytes) -> Tuple[str, Report]:
+    """The SHA-256 of a report's file, and what it says."""
+    digest = hashlib.sha256()
+
+    def lines(file: IO[bytes]) -> Iterator[bytes]:
+        for line in file:
+            digest.update(line)
+            yield line
+
+    with naming(path), open(path, "rb") as file:
+        rest = lines(file)
+        report = report_of(rest)
+        for _ in rest:
+            pass
+    return digest.hexdigest(), report
+
+
+def read_records(folder: bytes) -> Dict[int, List[Record]]:
+    """The records of a round, by the numbers of their bags."""
+    records: Dict[int, List[Record]] = {}
+    place = join(folder, b"records")
+    for name in sorted(names_in(place)):
+        with open(join(place, name), "rb") as file:
+            for record in filter(None, map(record_of, file)):
+                records.setdefault(record.number, []).append(record)
+    return records
+
+
+def names_in(folder: bytes) -> List[bytes]:
+    with suppress(FileNotFoundError):
+        return os.listdir(folder)
+    return []
+
+
+def load(folder: bytes) -> Round:
+    """The round in a folder."""
+    try:
+        listed = read_bytes(join(folder, b"list/directories"))
+        found = json.loads(read_bytes(join(folder, b"list/options.json")))
+    except (FileNotFoundError, NotADirectoryError) as error:
+        text = f"{encoded(folder)} is no round: it has no list"
+        raise Refused(text) from error
+    except ValueError:
+        found = None
+    if not isinstance(found, dict) or found.get("format") != FORMAT:
+        raise Refused(f"{encoded(folder)} is a round of another program", 3)
+    directories = listed.split(b"\0")[:-1]
+    if found["bags"] != len(directories) or found["depth"] not in VERDICTS:
+        raise Refused(f"the list of {encoded(folder)} was altered", 3)
+    profile = join(folder, b"list/profile.json")
+    asked = Asked(
+        found["depth"],
+        bool(found["clashes"]),
+        profile if found["profile"] else None,
+    )
+    if asked.profile and sha256_of(profile) != found["profile"]:
+        raise Refused(f"{encoded(profile)} was altered", 3)
+    tries = names_in(join(folder, b"tries"))
+    tried = {name.rsplit(b".", 2)[0] for name in tries}
+    records = read_records(folder)
+    return Round(folder, directories, asked, found, records, tried)
+
+
+def sha256_of(path: bytes) -> str:
+    return hashlib.sha256(read_bytes(path)).hexdigest()
+
+
+def options_of(
+    asked: Asked, directories: List[bytes], profile: Optional[bytes]
+) -> Dict[str, object]:
+    """What list/options.json says."""
+    return {
+        "format": FORMAT,
+        "bags": len(directories),
+        "depth": asked.depth,
+        "clashes": asked.clashes,
+        "profile": None if profile is None
+        else hashlib.sha256(profile).hexdigest(),
+    }
+
+
+def begin(
+    folder: bytes,
+    directories: List[bytes],
+    asked: Asked,
+    profile: Optional[bytes],
+) -> None:
+    """Makes the round's folder and its list, unless they are there."""
+    made = False
+    with suppress(FileExistsError):
+        os.mkdir(folder)
+        made = True
+    if not os.path.isdir(folder):
+        raise Refused(f"{encoded(folder)} is there, and is no folder")
+    names = os.listdir(folder)
+    if b"list" in names:
+        return
+    if [name for name in names if not name.startswith(b"list.")]:
+        raise Refused(
+            f"{encoded(folder)} is there, and is no round: a round makes a"
+            " folder of its own"
+        )
+    draft = join(folder, b"list." + os.urandom(8).hex().encode())
+    listed = b"".join(name + b"\0" for name in directories)
+    options = json.dumps(options_of(asked, directories, profile)).encode()
+    try:
+        os.mkdir(draft)
+        write_synced(join(draft, b"directories"), listed)
+        write_synced(join(draft, b"options.json"), options + b"\n")
+        if profile is not None:
+            write_synced(join(draft, b"profile.json"), profile)
+        sync_folder(draft)
+        publish_list(draft, join(folder, b"list"))
+        sync_folder(folder)
+        sync_folder(os.path.dirname(folder))
+    except OSError:
+        shutil.rmtree(draft, ignore_errors=True)
+        with suppress(OSError):
+            if made:
+                os.rmdir(folder)
+        raise
+
+
+def publish_list(draft: bytes, name: bytes) -> None:
+    """Gives the list its name; of several processes the first one's stands,
+    as a folder isn't renamed onto one that isn't empty."""
+    try:
+        os.rename(draft, name)
+    except OSError:
+        if not os.path.isdir(name):
+            raise
+        shutil.rmtree(draft, ignore_errors=True)

@@ -1,0 +1,72 @@
+"""The seal of a bag: one digest of all its tag files.
+
+A tag file is any file of the bag that isn't in `data`. The manifests are
+among them, and they have the digests of the payload; so whoever takes files
+out of a bag together with their lines alters its seal. It is the SHA-512 of
+what this writes in the folder of the bag, where `sort` is by bytes:
+
+    find . -path ./data -type d -prune -o -type f -printf '%P\\0' |
+        sort -z | xargs -0r sha512sum -z --
+"""
+import hashlib
+import os
+import stat
+from typing import Iterator, Tuple, Union
+
+Path = Union[str, bytes]
+PIECE = 1 << 20
+
+
+def seal_of(directory: Path) -> str:
+    """The seal of the bag at a directory, in hex.
+
+    An OSError where something can't be read, or is neither file nor folder.
+    """
+    place = os.path.join(os.fsencode(directory), b"")
+    seal = hashlib.sha512()
+    for path in sorted(tag_files(place)):
+        line = f"{sha512_of(place + path)}  ".encode() + path
+        seal.update(line + b"\0")
+    return seal.hexdigest()
+
+
+def tag_files(place: bytes) -> Iterator[bytes]:
+    """The paths of all files but those in `data`, in a folder that is given
+    with a slash at its end."""
+    folders = [b""]
+    while folders:
+        below = folders.pop()
+        with os.scandir(place + below) as entries:
+            for entry in entries:
+                path = below + entry.name
+                if not entry.is_dir(follow_symlinks=False):
+                    yield path
+                elif path != b"data":
+                    folders.append(path + b"/")
+
+
+def sha512_of(path: bytes) -> str:
+    """The SHA-512 of a file. A pipe isn't waited for, nor a link followed."""
+    flags = os.O_RDONLY | os.O_NOFOLLOW | os.O_NONBLOCK
+    digest = hashlib.sha512()
+    with open(os.open(path, flags), "rb", buffering=0) as file:
+        if not stat.S_ISREG(os.fstat(file.fileno()).st_mode):
+            raise OSError(0, "neither a file nor a folder", path)
+        while piece := file.read(PIECE):
+            digest.update(piece)
+    return digest.hexdigest()
+
+
+def payload_of(directory: Path) -> Tuple[int, int]:
+    """How many files, and how many bytes, are listed in `data`."""
+    files = count = 0
+    folders = [os.path.join(os.fsencode(directory), b"data")]
+    while folders:
+        with os.scandir(folders.pop()) as entries:
+            for entry in entries:
+                if entry.is_dir(follow_symlinks=False):
+                    folders.append(entry.path)
+                else:
+                    files += 1
+                    count += entry.stat(follow_symlinks=False).st_size
+    return files, count

@@ -1,0 +1,213 @@
+"""Runs of a stand-in for `bagit`, which ends in every way."""
+import os
+import signal
+import subprocess
+import sys
+import tempfile
+import threading
+import time
+import unittest
+from pathlib import Path
+from typing import Optional
+
+from bagitkeep.lines import Closing, Report
+from bagitkeep.program import (
+    Asked,
+    Ended,
+    Program,
+    Stopped,
+    Verdict,
+    find,
+    named,
+    verdict_of,
+)
+
+FAULT = "601 payload-file-missing data/a md5 - -"
+
+ENDS_WELL = {
+    "echo d is valid": Verdict(0, "d is valid", 0),
+    f"echo {FAULT}; echo d has faults: 1; exit 1": Verdict(
+        1, "d has faults: 1", 1
+    ),
+    f"echo {FAULT}; echo d unread data/b device, faults: 1; exit 3": Verdict(
+        3, "d unread data/b device, faults: 1", 1
+    ),
+}
+
+ENDS_WRONG = {
+    "exit 0": "ended with 0, without its closing line",
+    "exit 1": "ended with 1, without its closing line",
+    "exit 3": "ended with 3",
+    "echo bagit: out of memory >&2; exit 3": (
+        "ended with 3: bagit: out of memory"
+    ),
+    "printf '\\033[31m' >&2; exit 2": "ended with 2: %1B[31m",
+    "kill -9 $$": "was killed by signal 9",
+    "echo d is valid; kill -15 $$": "was killed by signal 15",
+    "echo d is valid; exit 1": "ended with 1, without its closing line",
+    "echo d is valid; exit 3": "ended with 3",
+    "printf 'd is valid'": "ended with 0, without its closing line",
+    "echo d is complete": "ended with 0, without its closing line",
+    "echo d made": "ended with 0, without its closing line",
+    "echo e is valid": "ended with 0, without its closing line",
+    "echo d is valid; echo d is valid": (
+        "ended with 0, without its closing line"
+    ),
+    f"echo {FAULT}; echo d is valid": "ended with 0, without its closing line",
+    f"echo {FAULT}; echo d has faults: 1": (
+        "ended with 0, without its closing line"
+    ),
+    f"echo {FAULT}; echo d has faults: 2; exit 1": (
+        "ended with 1, without its closing line"
+    ),
+    f"echo {FAULT}; echo d stopped, faults: 1; exit 1": (
+        "ended with 1, without its closing line"
+    ),
+    "echo d rest done, faults: 0; exit 1": (
+        "ended with 1, without its closing line"
+    ),
+    "echo d unread data/a device, faults: 0": (
+        "ended with 0, without its closing line"
+    ),
+}
+
+
+class Judged(unittest.TestCase):
+    """A verdict is a status and the closing line that belongs to it."""
+
+    def test_one_pair_for_each_status(self) -> None:
+        closings = {
+            Closing("d", "is valid"): 0,
+            Closing("d", "has faults", 1): 1,
+            Closing("d", "unread", 1, "a", "device"): 3,
+            Closing("d", "is complete"): None,
+            Closing("e", "is valid"): None,
+            Closing("d", "made"): None,
+            Closing("d", "stopped", 1): None,
+            None: None,
+        }
+        for closing, wanted in closings.items():
+            report = Report(closing and closing.faults or 0, closing)
+            for status in (*range(-20, 256), None):
+                verdict = verdict_of(Ended(status), report, "d", "full")
+                is_answer = status == wanted and wanted is not None
+                self.assertEqual(
+                    verdict.status, wanted if is_answer else 3, verdict
+                )
+                if verdict.status != 3:
+                    self.assertEqual(verdict.result, str(closing))
+
+    def test_each_depth_has_its_line(self) -> None:
+        ends = {
+            "full": "is valid",
+            "completeness-only": "is complete",
+            "fast": "agrees with its oxum",
+            "declaration-only": "has a good declaration",
+        }
+        for depth in ends:
+            for other, end in ends.items():
+                report = Report(0, Closing("d", end))
+                verdict = verdict_of(Ended(0), report, "d", depth)
+                self.assertEqual(verdict.status == 0, depth == other)
+
+
+class Runs(unittest.TestCase):
+    def setUp(self) -> None:
+        folder = tempfile.TemporaryDirectory()
+        self.addCleanup(folder.cleanup)
+        self.folder = Path(folder.name)
+
+    def program(self, script: str) -> Program:
+        path = self.folder / "bagit"
+        path.write_text(f"#!/bin/bash\n{script}\n")
+        path.chmod(0o755)
+        program = Program(str(path))
+        self.addCleanup(program.stop)
+        return program
+
+    def check(self, script: str, seconds: Optional[float] = None) -> Verdict:
+        with tempfile.TemporaryFile() as out:
+            return self.program(script).check("d", Asked(), out, seconds)
+
+    def test_answers(self) -> None:
+        for script, verdict in ENDS_WELL.items():
+            self.assertEqual(self.check(script), verdict, script)
+
+    def test_what_is_no_answer(self) -> None:
+        for script, result in ENDS_WRONG.items():
+            verdict = self.check(script)
+            self.assertEqual(verdict.status, 3, script)
+            self.assertEqual(verdict.result, f"bagit {result}", script)
+
+    def test_no_program(self) -> None:
+        with tempfile.TemporaryFile() as out, Program("/nowhere") as program:
+            verdict = program.check("d", Asked(), out)
+        result = "bagit couldn't be run: No such file or directory"
+        self.assertEqual(verdict, Verdict(3, result, 0))
+        self.assertIsNone(find("/nowhere"))
+
+    def test_no_status_is_had_where_sigchld_is_ignored(self) -> None:
+        old = signal.signal(signal.SIGCHLD, signal.SIG_IGN)
+        self.addCleanup(signal.signal, signal.SIGCHLD, old)
+        result = "bagit couldn't be run: SIGCHLD is ignored here"
+        for script in "echo d is valid", "echo d is valid; exit 3":
+            self.assertEqual(self.check(script), Verdict(3, result, 0))
+
+    def test_arguments(self) -> None:
+        asked = Asked("fast", True, "-p.json")
+        with tempfile.TemporaryFile() as out:
+            self.program('printf "%s|" "$@"').check("-d", asked, out)
+            out.seek(0)
+            words = "--validate|--fast|--clashes|--profile|-p.json|--|-d|"
+            self.assertEqual(out.read().decode(), words)
+
+    def test_name_that_is_not_utf_8(self) -> None:
+        odd = os.fsencode(self.folder) + b"/caf\xe9"
+        os.mkdir(odd)
+        self.assertEqual(named(odd), (".", odd))
+        with tempfile.TemporaryFile() as out:
+            script = self.program('pwd >&2; echo "${!#} is valid"')
+            verdict = script.check(odd, Asked(), out)
+        self.assertEqual(verdict, Verdict(0, ". is valid", 0))
+
+    def test_time_out(self) -> None:
+        verdict = self.check("sleep 60; echo d is valid", 0.2)
+        result = "bagit was killed after 0.2 seconds"
+        self.assertEqual(verdict, Verdict(3, result, 0))
+
+    def test_stop(self) -> None:
+        program = self.program("sleep 60; echo d is valid")
+        threading.Timer(0.3, program.stop).start()
+        with tempfile.TemporaryFile() as out:
+            verdict = program.check("d", Asked(), out)
+            self.assertEqual(verdict.result, "bagit was killed by signal 9")
+            self.assertEqual(program.running(), [])
+            with self.assertRaises(Stopped):
+                program.check("d", Asked(), out)
+
+    def test_none_goes_on_without_its_parent(self) -> None:
+        pids = self.folder / "pids"
+        sleeper = "sleep 60 & echo $! >>pids; setsid sleep 60 & echo $! >>pids"
+        self.program(f"cd {self.folder}; {sleeper}; echo $$ >>pids; wait")
+        code = (
+            "import sys, tempfile\n"
+            "from bagitkeep.program import Asked, Program\n"
+            "out = tempfile.TemporaryFile()\n"
+            "Program(sys.argv[1]).check('d', Asked(), out)\n"
+        )
+        words = [sys.executable, "-c", code, str(self.folder / "bagit")]
+        parent = subprocess.Popen(words, cwd=Path(__file__).parents[1])
+        while not pids.exists() or len(pids.read_text().splitlines()) < 3:
+            time.sleep(0.01)
+        parent.send_signal(signal.SIGKILL)
+        parent.wait()
+        until = time.monotonic() + 20
+        for pid in pids.read_text().split():
+            process = Path("/proc") / pid / "stat"
+            while process.exists() and " Z " not in process.read_text():
+                self.assertLess(time.monotonic(), until, "it goes on")
+                time.sleep(0.01)
+
+
+if __name__ == "__main__":
+    unittest.main()

@@ -1,0 +1,112 @@
+"""The pure parts of what writes reports as data."""
+import io
+import re
+import unittest
+from typing import FrozenSet
+
+from bagitkeep.lines import Closing, Unchecked
+from bagitkeep.report import (
+    Reading,
+    cell,
+    codes_of,
+    first_folder,
+    is_making,
+    is_of_file,
+    read_line,
+    write_json,
+    write_summary,
+)
+
+
+class Parts(unittest.TestCase):
+    def test_no_cell_is_a_formula(self) -> None:
+        texts = "=1", "+1", "-1", "@a", "\tx", "\rx", "'=1", "''@", "'a", "a"
+        for text in (*texts, "", "'", "a=1"):
+            shown = cell(text)
+            self.assertNotRegex(shown, "^[=+@\t\r-]")
+            back = re.sub("^'(?='*[=+@\t\r-])", "", shown)
+            self.assertEqual(back, text)
+
+    def test_paths_of_files(self) -> None:
+        for path in "data/a", "a", "-", "...", "a b":
+            self.assertTrue(is_of_file(path), path)
+        for path in "", "/a", "a//b", "../a", "a/.", "a\0":
+            self.assertFalse(is_of_file(path), path)
+
+    def test_first_folders(self) -> None:
+        folders = {"data/a": "data/", "data/x/y/z": "data/x/", "a": "./"}
+        folders.update({"tags/x/y": "tags/", "": "-"})
+        for path, folder in folders.items():
+            self.assertEqual(first_folder(path), folder)
+
+    def test_codes(self) -> None:
+        self.assertEqual(codes_of("601,701"), {601, 701})
+        for text in "", "601,", "601,601", "600", "no-oxum":
+            with self.assertRaises(Exception):
+                codes_of(text)
+
+    def test_a_key_or_a_bag_of_the_name_unchecked(self) -> None:
+        line = b"unchecked made\n"
+        self.assertEqual(read_line(line, True), Closing("unchecked", "made"))
+        self.assertEqual(read_line(line, False), Unchecked("made"))
+        for below in b"", b"d made\n", b"d not made: bad value\n":
+            self.assertTrue(is_making(below))
+        for below in b"d is valid\n", b"unchecked x\n":
+            self.assertFalse(is_making(below))
+
+
+class Readings(unittest.TestCase):
+    MISSING = b"601 payload-file-missing data/%s %s - -\n"
+
+    def read(
+        self, text: bytes, codes: FrozenSet[int] = frozenset()
+    ) -> Reading:
+        reading = Reading(io.BytesIO(), codes)
+        reading.read_lines("x", io.BytesIO(text), None)
+        return reading
+
+    def test_files_are_counted(self) -> None:
+        lines = [
+            self.MISSING % (name, alg)
+            for name in (b"a", b"b")
+            for alg in (b"md5", b"sha1")
+        ]
+        text = b"".join([*lines, b"d has faults: 4\n"])
+        out = io.StringIO()
+        write_summary(self.read(text + text), out)
+        self.assertIn("        4 601 payload-file-missing", out.getvalue())
+
+    def test_statuses(self) -> None:
+        reports = {
+            b"d is valid\n": 0,
+            self.MISSING % (b"a", b"md5") + b"d has faults: 1\n": 1,
+            b"d unread - device, faults: 0\n": 3,
+            b"": 3,
+            b"d is valid": 3,
+            self.MISSING % (b"a", b"md5"): 3,
+        }
+        for text, status in reports.items():
+            reading = self.read(text)
+            self.assertEqual((reading.status, reading.is_refused), (status, 0))
+
+    def test_what_is_refused(self) -> None:
+        wrong = (
+            b"what is this?\n",
+            self.MISSING % (b"a", b"md5") + b"d is valid\n",
+            b"d has faults: 1\n",
+        )
+        for text in wrong:
+            self.assertTrue(self.read(text).is_refused)
+
+    def test_each_fault_has_the_bag_of_its_report(self) -> None:
+        one = self.MISSING % (b"a", b"md5")
+        text = one + b"a has faults: 1\nb is valid\n" + one
+        out = io.StringIO()
+        write_json(self.read(text), out)
+        bags = [line.split(",")[0] for line in out.getvalue().splitlines()]
+        wanted = ['{"bag": "a"'] * 2 + ['{"bag": "b"', '{"bag": null']
+        self.assertEqual(bags, wanted)
+
+
+if __name__ == "__main__":
+    unittest.main()
