@@ -14,8 +14,8 @@ use Rattle.bag_renew.specs.Renewed.{payload_manifests, tag_manifests, writes_inf
 use Rattle.bag_renew.specs.declared.renewal.Renewal.{Renewal}
 
 -- those of these files that aren't kept
-abbrev pub unkept : Bag → List File → List File
-unkept bag files = filter (λ e. not (is_kept bag e.0)) files
+abbrev pub unkept : Bag → Renewal → List File → List File
+unkept bag renewal files = filter (λ e. not (is_kept bag renewal e.0)) files
 
 -- the change that puts a file
 abbrev pub put : File → FileChange
@@ -34,7 +34,7 @@ module _ (bag : Bag) (renewal : Renewal) where
   abbrev pub putting : List FileChange
   putting =
       map put (if writes_info bag renewal then info_files bag renewal else [])
-      ++ map put (unkept bag (payload_manifests bag renewal))
+      ++ map put (unkept bag renewal (payload_manifests bag renewal))
 
   -- the payload manifests of algorithms that are dropped are removed
   abbrev pub dropping : List FileChange
@@ -45,7 +45,8 @@ module _ (bag : Bag) (renewal : Renewal) where
   -- the declaration is put, where it isn't kept, and last the tag manifests
   abbrev pub closing : List FileChange
   closing =
-      map put (unkept bag (declaration_file bag ∷ [])) ++ map put (tag_manifests bag renewal)
+      map put (unkept bag renewal (declaration_file bag renewal ∷ []))
+      ++ map put (tag_manifests bag renewal)
 
   abbrev pub changes : List FileChange
   changes = opening ++ (clearing ++ (putting ++ (dropping ++ closing)))

@@ -14,7 +14,7 @@ use Rattle.bag_renew.specs.declared.renewal.Renewal.{Renewal}
 pub record IsComposed (bag : Bag) (renewal : Renewal) (files : List File) (info : Option (List ℕ))
     (composed : Composed) : Type 0 where
   pub first : composed.first.items ≡ first_from bag renewal files info
-  pub last : composed.last.items ≡ last_files bag
+  pub last : composed.last.items ≡ last_files bag renewal
   pub named : AreSummed (new_algs bag renewal) (named_from bag renewal files info)
       composed.named.items
 

@@ -6,12 +6,13 @@ use Rattle.bag_text.specs.Bytes.{Path}
 use Rattle.bag_text.specs.AlgList.{has_member}
 use Rattle.bag_text.specs.Path.{is_payload_path}
 use Rattle.bag_text.specs.declared.alg.Alg.{Alg}
+use Rattle.bag_text.specs.declared.rules.Rules.{Rules}
 use Rattle.bag_read.specs.ManifestName.{tag_path}
 use Rattle.bag_read.specs.declared.kind.Kind.{Kind}
 use Rattle.bag_read.specs.declared.kind.Kind.TheVariants.{Payload, Tag}
 use Rattle.bag_read.specs.declared.tag_name.TagName.{TagName}
 use Rattle.bag_read.specs.declared.tag_name.TagName.TheVariants.{Declaration, Info, Manifest}
-use Rattle.bag_tags.specs.Summed.{manifests_of}
+use Rattle.bag_tags.specs.Summed.{manifests_by}
 use Rattle.bag_tree.specs.Bag.{Bag}
 use Rattle.bag_tree.specs.ChangeFiles.{IsOfFile}
 use Rattle.bag_tree.specs.declared.file_change.FileChange.{FileChange}
@@ -56,17 +57,17 @@ removals_of kind algs = map (λ alg. Remove (tag_path (Manifest kind alg))) algs
 abbrev pub AreOfFiles : List FileChange → Type 0
 AreOfFiles changes = All (IsOfFile begun_file) changes
 
--- the tag manifests that give these digests are put
-abbrev pub tag_manifests_of : List Alg → List SummedFile → List FileChange
-tag_manifests_of algs files = map put (manifests_of Tag algs files)
+-- the tag manifests that give these digests are put, written by these rules
+abbrev pub tag_manifests_of : Rules → List Alg → List SummedFile → List FileChange
+tag_manifests_of rules algs files = map put (manifests_by rules Tag algs files)
 
 -- the file of this name stays, or is one whose bytes are kept
 abbrev pub keeps_bytes : List TagName → Path → Bool
 keeps_bytes kept path = stays path || list_any (λ name. bytes_eq (tag_path name) path) kept
 
 -- the declaration, where it is put, which is after manifests are dropped
-abbrev pub last_files : Bag → List File
-last_files bag = unkept bag (declaration_file bag ∷ [])
+abbrev pub last_files : Bag → Renewal → List File
+last_files bag renewal = unkept bag renewal (declaration_file bag renewal ∷ [])
 
 module _ (bag : Bag) (renewal : Renewal) where
   -- the tag files whose names a renewal writes, and that are kept
@@ -74,13 +75,13 @@ module _ (bag : Bag) (renewal : Renewal) where
   kept_names =
       map (Manifest Payload) (algs_where (is_kept_alg bag renewal))
       ++ ((if writes_info bag renewal then [] else Info ∷ [])
-      ++ (if is_kept bag (tag_path Declaration) then Declaration ∷ [] else []))
+      ++ (if is_kept bag renewal (tag_path Declaration) then Declaration ∷ [] else []))
 
   -- the tag files that are put before manifests are dropped
   abbrev pub first_files : List File
   first_files =
       (if writes_info bag renewal then info_files bag renewal else [])
-      ++ unkept bag (payload_manifests bag renewal)
+      ++ unkept bag renewal (payload_manifests bag renewal)
 
   -- the algorithms whose payload manifest is put
   abbrev pub written_algs : List Alg

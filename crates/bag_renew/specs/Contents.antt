@@ -11,7 +11,7 @@ use Rattle.bag_stages.specs.Payload.{payload}
 use Rattle.bag_tags.specs.Declaration.{declaration_text}
 use Rattle.bag_tags.specs.OnLines.{text_on_lines}
 use Rattle.bag_renew.specs.Renewed.{kept_or, manifest, named_tag_files, new_algs, new_elements}
-use Rattle.bag_renew.specs.Renewed.{renewed, stays, writes_info}
+use Rattle.bag_renew.specs.Renewed.{new_rules, renewed, stays, writes_info}
 use Rattle.bag_renew.specs.declared.renewal.Renewal.{Renewal}
 
 -- a file of the bag that stays: one of the payload, or a tag file that isn't written anew
@@ -22,7 +22,7 @@ IsOld bag path content =
 module _ (bag : Bag) (renewal : Renewal) where
   -- the bytes of a file that is kept, else these
   abbrev pub IsKeptOr : Path → List ℕ → List ℕ → Type 0
-  IsKeptOr path new text = text ≡ kept_or bag path new
+  IsKeptOr path new text = text ≡ kept_or bag renewal path new
 
   -- the text of a tag file whose name a renewal writes (2.1.1, 2.1.3, 2.2.1 and 2.2.2); fetch.txt
   -- isn't one
@@ -34,10 +34,11 @@ module _ (bag : Bag) (renewal : Renewal) where
   IsNewText Fetch text = ⊥
   IsNewText (Manifest Payload alg) text =
       Contains (new_algs bag renewal) alg
-      × IsKeptOr (tag_path (Manifest Payload alg)) (manifest alg (payload bag)) text
+      × IsKeptOr (tag_path (Manifest Payload alg))
+      (manifest (new_rules bag renewal) alg (payload bag)) text
   IsNewText (Manifest Tag alg) text =
       Contains (new_algs bag renewal) alg
-      × (text ≡ manifest alg (named_tag_files bag renewal))
+      × (text ≡ manifest (new_rules bag renewal) alg (named_tag_files bag renewal))
 
   abbrev pub IsNew : Path → List ℕ → Type 0
   IsNew path text = (name : TagName) × (path ≡ tag_path name) × IsNewText name text

@@ -4,9 +4,11 @@ use Rattle.std.specs.List.Sorted.{IsStrictlySortedBy}
 use Rattle.bag_text.specs.Bytes.{Path}
 use Rattle.bag_text.specs.Text.{text_cmp}
 use Rattle.bag_text.specs.declared.alg.Alg.{Alg}
+use Rattle.bag_text.specs.declared.rules.Rules.{Rules}
 use Rattle.bag_read.specs.ManifestName.{tag_path}
 use Rattle.bag_read.specs.declared.kind.Kind.TheVariants.{Payload}
 use Rattle.bag_read.specs.declared.tag_name.TagName.TheVariants.{Manifest}
+use Rattle.bag_facts.specs.Facts.{rules_in}
 use Rattle.bag_facts.specs.FactsOfBag.{IsFactsOf}
 use Rattle.bag_facts.specs.Wanted.{IsWanted, paths_of}
 use Rattle.bag_facts.specs.declared.facts.Facts.{Facts}
@@ -21,9 +23,11 @@ use Rattle.bag_renew.specs.declared.checked.Unchecked.{Unchecked}
 use Rattle.bag_renew.specs.declared.checked.Unchecked.TheVariants.{Faulty, Stopped}
 use Rattle.bag_tags.specs.declared.summed.SummedFile.{SummedFile}
 
--- the payload manifests that name these files of the payload, one for each algorithm
-abbrev pub manifests_for : List Alg → List File → List File
-manifests_for algs payload = map (λ alg. (tag_path (Manifest Payload alg), manifest alg payload)) algs
+-- the payload manifests that name these files of the payload, one for each algorithm, written by
+-- these rules
+abbrev pub manifests_for : Rules → List Alg → List File → List File
+manifests_for rules algs payload =
+    map (λ alg. (tag_path (Manifest Payload alg), manifest rules alg payload)) algs
 
 -- the tag files that are read were opened, each once, and then once each file of the bag that is to
 -- be read
@@ -40,14 +44,14 @@ OpensTwice old new =
     × (new.openings ≡ (old.openings ++ tags) ++ map (λ e. e.0) (files_of old.bag))
 
 -- Over any tree: there is a bag that has the files that were listed, and whose tag files say what
--- was read first; these manifests give the digests of the very bytes of which the digests that the
--- bag's manifests give were compared.
+-- was read first; these manifests, written by its rules, give the digests of the very bytes of which
+-- the digests that the bag's manifests give were compared.
 pub record AreOfSameBytes (algs : List Alg) (made : List File) : Type 0 where
   pub bag : Bag
   pub is_bag : IsBag bag
   pub files : List File
   pub compared : AreCompared bag true files
-  pub made_of : made ≡ manifests_for algs (payload_of files)
+  pub made_of : made ≡ manifests_for (rules_in bag) algs (payload_of files)
 
 -- All was read and checked: the tag files, of what they say no fault of stages 1 to 6 was found, and
 -- each listed file that is to be read, which has the digests that manifests give for it. Of an

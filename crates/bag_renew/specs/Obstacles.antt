@@ -1,6 +1,7 @@
 -- What keeps a bag without faults from being renewed (RFC 8493, 2).
 use Rattle.std.specs.Prelude.{ℕ, ◌≡◌, ◌≢◌, ◌⊎◌, ◌==◌, ◌&&◌, ◌||◌, Bool, true, false, not, List, [], ◌∷◌}
-use Rattle.std.specs.Prelude.{◌++◌, Option, Some, Contains, find, map, nat_eq}
+use Rattle.std.specs.Prelude.{◌++◌, Option, None, Some, Contains, bytes_eq, find, map, nat_eq}
+use Rattle.std.specs.Prelude.{if◌then◌else◌}
 use Rattle.std.specs.List.{list_any, starts_with}
 use Rattle.bag_text.specs.Bytes.{Name, Path}
 use Rattle.bag_text.specs.Alg.{algs}
@@ -11,12 +12,13 @@ use Rattle.bag_read.specs.ManifestName.{tag_path}
 use Rattle.bag_read.specs.declared.kind.Kind.{Kind}
 use Rattle.bag_read.specs.declared.kind.Kind.TheVariants.{Payload, Tag}
 use Rattle.bag_read.specs.declared.tag_name.TagName.TheVariants.{Declaration, Fetch, Info, Manifest}
-use Rattle.bag_facts.specs.Facts.{IsByV10}
-use Rattle.bag_stages.specs.TagFiles.{Names}
-use Rattle.bag_tags.specs.Writable.{begins_with_mark}
+use Rattle.bag_facts.specs.FactsOfBag.{IsByV097}
+use Rattle.bag_stages.specs.TagFiles.{Names, named_in}
+use Rattle.bag_tags.specs.Writable as by_rules
 use Rattle.bag_tree.specs.Bag.{Bag, HasFile, LacksFile, files_of}
-use Rattle.bag_renew.specs.Renewed.{begun_file, keeps, new_algs}
-use Rattle.bag_renew.specs.Telling.{AreUnmarked}
+use Rattle.bag_renew.specs.Renewed.{begun_file, is_kept_alg, keeps, new_algs, new_rules}
+use Rattle.bag_renew.specs.Renewed.{writes_payload_manifest}
+use Rattle.bag_renew.specs.Telling.{AreNameable, AreStillListed}
 use Rattle.bag_renew.specs.declared.fault.RenewFault.{RenewFault}
 use Rattle.bag_renew.specs.declared.fault.RenewFault.TheVariants as why
 use Rattle.bag_renew.specs.declared.renewal.Renewal.{Renewal}
@@ -53,37 +55,57 @@ IsInTheWay bag name =
 abbrev pub has_percent : Path → Bool
 has_percent path = list_any (λ c. c == percent) path
 
--- a path that begins with a blank or a *, which readers of manifests drop; or, of a bag of 0.97,
--- which spells it otherwise than one of 1.0, one with a %
-abbrev pub is_unnameable : Bool → Path → Bool
-is_unnameable is_kept path = begins_with_mark path || (not is_kept && has_percent path)
+-- a path that no line of a new manifest names; or, of a bag of 0.97 that becomes one of 1.0, which
+-- spells it otherwise, one with a %
+abbrev pub is_unnameable : Bag → Renewal → Path → Bool
+is_unnameable bag renewal path =
+    by_rules.is_unnameable (new_rules bag renewal) path
+    || (not (keeps bag renewal) && has_percent path)
 
 abbrev pub paths_of : Bag → List Path
 paths_of bag = map (λ e. e.0) (files_of bag)
 
 -- the first of them in path order, if any
-abbrev pub first_unnameable : Bag → Option Path
-first_unnameable bag = find (is_unnameable (keeps bag)) (paths_of bag)
+abbrev pub first_unnameable : Bag → Renewal → Option Path
+first_unnameable bag renewal = find (is_unnameable bag renewal) (paths_of bag)
+
+-- a payload manifest that is kept names the path
+abbrev pub is_named_by_kept : Bag → Renewal → Path → Bool
+is_named_by_kept bag renewal path =
+    list_any (λ alg.
+    is_kept_alg bag renewal alg && list_any (bytes_eq path) (named_in bag Payload alg)) algs
+
+-- a file of the payload that none of them names
+abbrev pub is_unlisted : Bag → Renewal → Path → Bool
+is_unlisted bag renewal path =
+    is_payload_path path && not (is_named_by_kept bag renewal path)
+
+-- the first of them in path order, if any, where no payload manifest is written
+abbrev pub first_unlisted : Bag → Renewal → Option Path
+first_unlisted bag renewal =
+    if writes_payload_manifest bag renewal then None
+    else find (is_unlisted bag renewal) (paths_of bag)
 
 -- nothing keeps the bag from being renewed
 pub record HasNoObstacle (bag : Bag) (renewal : Renewal) : Type 0 where
-  pub version : (keeps bag ≡ true) ⊎ (renewal.to_1_0 ≡ true)
-  pub fetch : IsByV10 bag ⊎ LacksFile bag (tag_path Fetch)
+  pub fetch : (keeps bag renewal ≡ true) ⊎ LacksFile bag (tag_path Fetch)
   pub some_alg : new_algs bag renewal ≢ []
   pub free : AreFree bag
   pub own : ¬ (IsNamedAsTag bag begun_file)
-  pub unmarked : AreUnmarked bag
-  pub spelled : (keeps bag ≡ true)
+  pub nameable : AreNameable (new_rules bag renewal) bag
+  pub spelled : (keeps bag renewal ≡ true)
       ⊎ ((path : Path) → HasFile bag path → has_percent path ≡ false)
+  pub listed : AreStillListed bag renewal
 
 -- the fault is one for which the bag isn't renewed, though it may have no fault itself; memory may
 -- run out at any bag
 abbrev pub IsObstacle : Bag → Renewal → RenewFault → Type 0
-IsObstacle bag renewal why.Version = (keeps bag ≡ false) × (renewal.to_1_0 ≡ false)
-IsObstacle bag renewal why.Fetch = (keeps bag ≡ false) × HasFile bag (tag_path Fetch)
+IsObstacle bag renewal why.Fetch = (keeps bag renewal ≡ false) × HasFile bag (tag_path Fetch)
 IsObstacle bag renewal why.NoAlgorithm = new_algs bag renewal ≡ []
 IsObstacle bag renewal (why.InTheWay name) = IsInTheWay bag name
-IsObstacle bag renewal (why.Unnameable path) = first_unnameable bag ≡ Some path
+IsObstacle bag renewal (why.Unnameable path) = first_unnameable bag renewal ≡ Some path
+IsObstacle bag renewal (why.Unlisted path) =
+    IsByV097 bag × (first_unlisted bag renewal ≡ Some path)
 IsObstacle bag renewal why.Memory = Unit {0}
 IsObstacle bag renewal fault = ⊥
 

@@ -1,9 +1,8 @@
 -- The bags on the way from a bag to the renewed one (RFC 8493, 3).
-use Rattle.std.specs.Prelude.{ℕ, ◌≡◌, ◌⊎◌, false}
+use Rattle.std.specs.Prelude.{ℕ, ◌≡◌, ◌⊎◌, false, true}
 use Rattle.bag_text.specs.Bytes.{Path}
 use Rattle.bag_text.specs.declared.alg.Alg.{Alg}
 use Rattle.bag_read.specs.declared.kind.Kind.TheVariants.{Tag}
-use Rattle.bag_facts.specs.Facts.{IsByV10}
 use Rattle.bag_facts.specs.declared.fault.Fault.{Fault}
 use Rattle.bag_stages.specs.TagFiles.{Names}
 use Rattle.bag_tree.specs.Bag.{Bag, HasFile}
@@ -12,7 +11,7 @@ use Rattle.bag_report.specs.Valid.{HasNoFault, IsFaultOf}
 use Rattle.bag_renew.specs.Changes.{after, changes}
 use Rattle.bag_renew.specs.Laws.{IsOutOfTheWay}
 use Rattle.bag_renew.specs.Obstacles.{has_percent}
-use Rattle.bag_renew.specs.Renewed.{begun_file}
+use Rattle.bag_renew.specs.Renewed.{begun_file, keeps}
 use Rattle.bag_renew.specs.Valid.{CanRenew, HasGoodInfo, IsDamage}
 use Rattle.bag_renew.specs.declared.renewal.Renewal.{Renewal}
 
@@ -24,10 +23,11 @@ NoTagManifestNamesBegun bag = (alg : Alg) → ¬ (Names bag Tag alg begun_file)
 abbrev pub HasNoPercent : Bag → Type 0
 HasNoPercent bag = (path : Path) → HasFile bag path → has_percent path ≡ false
 
--- A bag that can be renewed in place; one of 0.97 has no % in a path, which 1.0 spells otherwise.
+-- A bag that can be renewed in place; one of 0.97 that becomes one of 1.0 has no % in a path, which
+-- 1.0 spells otherwise.
 pub record CanRenewInPlace (bag : Bag) (renewal : Renewal) : Type 0 where
   pub can : CanRenew bag renewal
-  pub spelled : IsByV10 bag ⊎ HasNoPercent bag
+  pub spelled : (keeps bag renewal ≡ true) ⊎ HasNoPercent bag
   pub info : HasGoodInfo bag renewal
   pub way : IsOutOfTheWay bag
   pub begun : NoTagManifestNamesBegun bag

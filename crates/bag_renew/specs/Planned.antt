@@ -11,7 +11,8 @@ use Rattle.bag_renew.specs.Compared.{AreCompared}
 use Rattle.bag_renew.specs.Composing.{is_tag_file, keeps_bytes, kept_names, last_files, written_algs}
 use Rattle.bag_renew.specs.NewInfo.{IsInfoAfter}
 use Rattle.bag_renew.specs.NewManifests.{manifests_for}
-use Rattle.bag_renew.specs.Renewed.{File, in_path_order, manifest, new_algs, reads_payload, with_path}
+use Rattle.bag_renew.specs.Renewed.{File, in_path_order, manifest, new_algs, new_rules}
+use Rattle.bag_renew.specs.Renewed.{reads_payload, with_path}
 use Rattle.bag_renew.specs.Summed.{IsInfoAmong, payload_of}
 use Rattle.bag_renew.specs.declared.renewal.Renewal.{Renewal}
 
@@ -20,7 +21,8 @@ module _ (bag : Bag) (renewal : Renewal) (files : List File) (info : Option (Lis
   -- the files that are put first: bag-info.txt, and the payload manifests that aren't kept
   abbrev pub first_from : List File
   first_from =
-      with_path (tag_path Info) info ++ manifests_for (written_algs bag renewal) (payload_of files)
+      with_path (tag_path Info) info
+      ++ manifests_for (new_rules bag renewal) (written_algs bag renewal) (payload_of files)
 
   -- the tag files that keep their bytes
   abbrev pub kept_from : List File
@@ -28,11 +30,12 @@ module _ (bag : Bag) (renewal : Renewal) (files : List File) (info : Option (Lis
 
   -- what tag manifests name
   abbrev pub named_from : List File
-  named_from = in_path_order (kept_from ++ (first_from ++ last_files bag))
+  named_from = in_path_order (kept_from ++ (first_from ++ last_files bag renewal))
 
   abbrev pub tag_manifests_from : List File
   tag_manifests_from =
-      map (λ alg. (tag_path (Manifest Tag alg), manifest alg named_from)) (new_algs bag renewal)
+      map (λ alg. (tag_path (Manifest Tag alg), manifest (new_rules bag renewal) alg named_from))
+      (new_algs bag renewal)
 
   -- all changes: files are removed by their names, and these are put
   abbrev pub changes_from : List FileChange
@@ -41,7 +44,7 @@ module _ (bag : Bag) (renewal : Renewal) (files : List File) (info : Option (Lis
       ++ (clearing bag renewal
       ++ (map put first_from
       ++ (dropping bag renewal
-      ++ (map put (last_files bag) ++ map put tag_manifests_from))))
+      ++ (map put (last_files bag renewal) ++ map put tag_manifests_from))))
 
 -- Over any tree: there is a bag that has the files that were listed, and whose tag files say what
 -- was read of them first. The changes are of bytes that were read then, and of which each digest

@@ -22,7 +22,7 @@ use Rattle.bag_read.specs.Oxum.{oxum_text}
 use Rattle.bag_stages.specs.Payload.{oxum, payload}
 use Rattle.bag_tags.specs.Declaration.{declaration_text}
 use Rattle.bag_tags.specs.Element.{NewElement}
-use Rattle.bag_tags.specs.Entry.{NewEntry, manifest_text}
+use Rattle.bag_tags.specs.Entry.{NewEntry, manifest_text_by}
 use Rattle.bag_tags.specs.OnLines.{text_on_lines}
 use Rattle.bag_renew.specs.Elements.{asks_nothing, elements_of, renewed_elements}
 use Rattle.bag_renew.specs.declared.renewal.Renewal.{Renewal}
@@ -39,9 +39,9 @@ begun_file = codes ".bagit-begun"
 abbrev pub entries_of : Alg → List File → List NewEntry
 entries_of alg files = map (λ e. (digest alg e.1, e.0)) files
 
--- the manifest that names these files, in their order
-abbrev pub manifest : Alg → List File → Content
-manifest alg files = manifest_text (entries_of alg files)
+-- the manifest that names these files, in their order, their paths spelled by these rules
+abbrev pub manifest : Rules → Alg → List File → Content
+manifest rules alg files = manifest_text_by rules (entries_of alg files)
 
 -- files in the order of their paths
 abbrev pub in_path_order : List File → List File
@@ -70,17 +70,21 @@ stays path =
 abbrev pub kept_tag_files : Bag → List File
 kept_tag_files bag = filter (λ e. stays e.0) (files_of bag)
 
--- a bag of version 1.0 keeps what needs no change, and one of 0.97 nothing
 abbrev pub is_v10 : Rules → Bool
 is_v10 V10 = true
 is_v10 V097 = false
 
-abbrev pub keeps : Bag → Bool
-keeps bag = is_v10 (rules_in bag)
+-- the rules of the renewed bag: those of the bag, unless it is to become one of 1.0
+abbrev pub new_rules : Bag → Renewal → Rules
+new_rules bag renewal = if renewal.to_1_0 then V10 else rules_in bag
+
+-- a bag whose rules stay keeps what needs no change, and one that becomes one of 1.0 nothing
+abbrev pub keeps : Bag → Renewal → Bool
+keeps bag renewal = is_v10 (rules_in bag) || not renewal.to_1_0
 
 -- a file that is there and is kept
-abbrev pub is_kept : Bag → Path → Bool
-is_kept bag path = keeps bag && has_file bag path
+abbrev pub is_kept : Bag → Renewal → Path → Bool
+is_kept bag renewal path = keeps bag renewal && has_file bag path
 
 -- the file at a path, if any
 abbrev pub with_path : Path → Option Content → List File
@@ -91,15 +95,16 @@ abbrev pub file_at : Bag → Path → List File
 file_at bag path = with_path path (file bag path)
 
 -- the bytes of a file that is kept, else these
-abbrev pub kept_or : Bag → Path → List ℕ → List ℕ
-kept_or bag path text = if keeps bag then unwrap_or (file bag path) text else text
-
--- the declaration (2.1.1)
-abbrev pub declaration_file : Bag → File
-declaration_file bag =
-    (tag_path Declaration, kept_or bag (tag_path Declaration) declaration_text)
+abbrev pub kept_or : Bag → Renewal → Path → List ℕ → List ℕ
+kept_or bag renewal path text =
+    if keeps bag renewal then unwrap_or (file bag path) text else text
 
 module _ (bag : Bag) (renewal : Renewal) where
+  -- the declaration (2.1.1)
+  abbrev pub declaration_file : File
+  declaration_file =
+      (tag_path Declaration, kept_or bag renewal (tag_path Declaration) declaration_text)
+
   -- the algorithms of the manifests: those that it had, and that are added, but for those that are
   -- dropped
   abbrev pub is_new_alg : Alg → Bool
@@ -117,7 +122,7 @@ module _ (bag : Bag) (renewal : Renewal) where
 
   -- the metadata is written where something is asked of it, and where nothing is kept
   abbrev pub writes_info : Bool
-  writes_info = not (keeps bag && asks_nothing renewal.elements)
+  writes_info = not (keeps bag renewal && asks_nothing renewal.elements)
 
   -- the metadata, if any
   abbrev pub info_files : List File
@@ -125,12 +130,12 @@ module _ (bag : Bag) (renewal : Renewal) where
       if writes_info then (tag_path Info, text_on_lines new_elements) ∷ []
       else file_at bag (tag_path Info)
 
-  -- a payload manifest for each algorithm names the whole payload (2.1.3); one that is kept has the
-  -- bytes that it had
+  -- a payload manifest for each algorithm names the whole payload (2.1.3), but one that is kept has
+  -- the bytes that it had
   abbrev pub payload_manifest : Alg → File
   payload_manifest alg =
       let path = tag_path (Manifest Payload alg) in
-      (path, kept_or bag path (manifest alg (payload bag)))
+      (path, kept_or bag renewal path (manifest (new_rules bag renewal) alg (payload bag)))
 
   abbrev pub payload_manifests : List File
   payload_manifests = map payload_manifest new_algs
@@ -139,14 +144,16 @@ module _ (bag : Bag) (renewal : Renewal) where
   abbrev pub named_tag_files : List File
   named_tag_files =
       in_path_order
-      (kept_tag_files bag ++ (declaration_file bag ∷ (info_files ++ payload_manifests)))
+      (kept_tag_files bag ++ (declaration_file ∷ (info_files ++ payload_manifests)))
 
   abbrev pub tag_manifests : List File
-  tag_manifests = map (λ alg. (tag_path (Manifest Tag alg), manifest alg named_tag_files)) new_algs
+  tag_manifests =
+      map (λ alg.
+      (tag_path (Manifest Tag alg), manifest (new_rules bag renewal) alg named_tag_files)) new_algs
 
   -- the tag files whose names a renewal writes
   abbrev pub new_tag_files : List File
-  new_tag_files = declaration_file bag ∷ (info_files ++ (payload_manifests ++ tag_manifests))
+  new_tag_files = declaration_file ∷ (info_files ++ (payload_manifests ++ tag_manifests))
 
   -- The renewed bag: the payload and the folders as they are, and of tag files these.
   unfoldable pub renewed : Bag
@@ -157,7 +164,7 @@ module _ (bag : Bag) (renewal : Renewal) where
 
   -- an algorithm whose payload manifest is kept
   abbrev pub is_kept_alg : Alg → Bool
-  is_kept_alg alg = is_new_alg alg && is_kept bag (tag_path (Manifest Payload alg))
+  is_kept_alg alg = is_new_alg alg && is_kept bag renewal (tag_path (Manifest Payload alg))
 
   -- an algorithm whose payload manifest is there, and is dropped
   abbrev pub is_dropped_alg : Alg → Bool

@@ -7,7 +7,6 @@ use Rattle.bag_text.specs.declared.alg.Alg.{Alg}
 use Rattle.bag_text.specs.declared.code.Code.TheVariants.{PayloadSumDiffers}
 use Rattle.bag_read.specs.ManifestName.{tag_path}
 use Rattle.bag_read.specs.declared.tag_name.TagName.TheVariants.{Fetch, Info}
-use Rattle.bag_facts.specs.Facts.{IsByV10}
 use Rattle.bag_facts.specs.declared.fault.Fault.{Fault}
 use Rattle.bag_report.specs.Report.{asks}
 use Rattle.bag_report.specs.Valid.{HasNoFault, IsFaultOf, full}
@@ -16,21 +15,24 @@ use Rattle.bag_stages.specs.Payload.{oxum}
 use Rattle.bag_tags.specs.OnLines.{is_bad_long_element}
 use Rattle.bag_tree.specs.Bag.{Bag, IsBag, LacksFile, file}
 use Rattle.bag_renew.specs.Elements.{has_label}
-use Rattle.bag_renew.specs.Renewed.{is_dropped_alg, is_kept_alg, new_algs, new_elements, renewed, writes_info}
-use Rattle.bag_renew.specs.Telling.{AreUnmarked}
+use Rattle.bag_renew.specs.Renewed.{is_dropped_alg, is_kept_alg, keeps, new_algs, new_elements}
+use Rattle.bag_renew.specs.Renewed.{new_rules, renewed, writes_info}
+use Rattle.bag_renew.specs.Telling.{AreNameable, AreStillListed}
 use Rattle.bag_renew.specs.declared.renewal.Renewal.{Renewal}
 
 -- a file of the payload has another digest than a manifest gives
 abbrev pub IsDamage : Fault → Type 0
 IsDamage f = f.code ≡ PayloadSumDiffers
 
--- A bag that can be renewed: it has no fault but damage of the payload; one of 0.97 has nothing to
--- fetch, since it spells paths otherwise; and an algorithm is left.
+-- A bag that can be renewed: it has no fault but damage of the payload; one of 0.97 that becomes one
+-- of 1.0 has nothing to fetch, since it spells paths otherwise; an algorithm is left, and manifests
+-- that name the whole payload.
 pub record CanRenew (bag : Bag) (renewal : Renewal) : Type 0 where
   pub is_bag : IsBag bag
   pub damaged : (f : Fault) → IsFaultOf bag f → IsDamage f
-  pub fetch : IsByV10 bag ⊎ LacksFile bag (tag_path Fetch)
-  pub unmarked : AreUnmarked bag
+  pub fetch : (keeps bag renewal ≡ true) ⊎ LacksFile bag (tag_path Fetch)
+  pub nameable : AreNameable (new_rules bag renewal) bag
+  pub listed : AreStillListed bag renewal
   pub some_alg : new_algs bag renewal ≢ []
 
 -- the bag-info.txt that is there is a text, and the renewed bag has no fault of it

@@ -16,9 +16,11 @@ pub enum RenewFault {
     InTheWay(Text),
     /// No manifest can name the file with this path.
     Unnameable(Text),
-    /// The bag is of version 0.97, and wasn't asked to become one of 1.0.
-    Version,
-    /// The bag is of version 0.97 and has `fetch.txt`, whose paths 1.0 spells otherwise.
+    /// No payload manifest that is left would name this file of the payload. The rules of 0.97 let a
+    /// manifest name a part of the payload.
+    Unlisted(Text),
+    /// The bag of version 0.97 is to become one of 1.0, which spells the paths of its `fetch.txt`
+    /// otherwise.
     Fetch,
     /// The tree refused to list its files, or to read one.
     ReadStopped(Stop),

@@ -29,7 +29,7 @@ pub struct Renewal {
     pub unchecked: bool,
     /// What is asked of `bag-info.txt`.
     pub elements: ElementChanges,
-    /// A bag of version 0.97 becomes one of 1.0, of which else none is renewed.
+    /// A bag of version 0.97 becomes one of 1.0. Else it stays one of 0.97.
     pub to_1_0: bool,
 }
 
