@@ -27,6 +27,7 @@ pub use Rattle.bag_read.specs.declared.kind.Kind.{Kind}
 pub use Rattle.bag_read.specs.declared.kind.Kind.TheVariants.{Payload, Tag}
 pub use Rattle.bag_read.specs.declared.tag_name.TagName.{TagName}
 pub use Rattle.bag_read.specs.declared.tag_name.TagName.TheVariants.{Declaration, Fetch, Info, Manifest}
+pub use Rattle.bag_facts.specs.Facts.{rules_in}
 pub use Rattle.bag_stages.specs.Payload.{payload}
 pub use Rattle.bag_text.proofs.ListOf.{contains_back, contains_behind, contains_cases, contains_either, contains_first}
 pub use Rattle.bag_text.proofs.ListOf.{contains_front, contains_nothing}
@@ -49,8 +50,8 @@ pub use Rattle.bag_tree.specs.declared.file_change.FileChange.TheVariants.{Put, 
 pub use Rattle.bag_renew.specs.Changes.{after, changes, clearing, closing, dropping, opening, put, putting, unkept}
 pub use Rattle.bag_renew.specs.Laws.{ChangesKeepPayload, ChangesRenew, HasKnownManifests, IsOutOfTheWay}
 pub use Rattle.bag_renew.specs.Renewed.{File, algs_where, begun_file, declaration_file, has_payload_manifest}
-pub use Rattle.bag_renew.specs.Renewed.{has_tag_manifest, info_files, is_kept, is_new_alg, keeps, kept_or}
-pub use Rattle.bag_renew.specs.Renewed.{kept_tag_files, manifest, named_tag_files, new_algs, new_elements}
+pub use Rattle.bag_renew.specs.Renewed.{has_tag_manifest, info_files, is_kept, is_kept_alg, is_new_alg, keeps, kept_or}
+pub use Rattle.bag_renew.specs.Renewed.{kept_tag_files, manifest, named_tag_files, new_algs, new_elements, new_rules}
 pub use Rattle.bag_renew.specs.Renewed.{new_tag_files, payload_manifest, payload_manifests, renewed, stays}
 pub use Rattle.bag_renew.specs.Renewed.{tag_manifests, with_path, writes_info}
 pub use Rattle.bag_renew.specs.declared.renewal.Renewal.{Renewal}

@@ -1,43 +1,74 @@
--- The bytes of a file that is kept, where it is there and the bag keeps it.
-use Rattle.bag_renew.proofs.Common.{◌≡◌, ◌⊎◌, ◌&&◌, ◌∙◌, inl, inr, ℕ, Bool, true, false, cond, List, Option, None, Some}
-use Rattle.bag_renew.proofs.Common.{is_some, refl, ap, sym, and_parts, Bag, file, has_file, is_kept, keeps, kept_or}
+-- The bytes of a file that is kept, where it is there and the bag keeps it; and the rules of a bag that
+-- keeps what needs no change.
+use Rattle.bag_renew.proofs.Common.{◌≡◌, ◌⊎◌, ◌&&◌, ◌||◌, ◌∙◌, inl, inr, ℕ, Bool, true, false, not, cond, List}
+use Rattle.bag_renew.proofs.Common.{Option, None, Some, is_some, refl, ap, sym, and_parts, false≢true}
+use Rattle.bag_renew.proofs.Common.{Bag, file, has_file, is_kept, keeps, kept_or, new_rules, Renewal, rules_in}
 use Rattle.std.specs.Option.{unwrap_or}
 use Rattle.bag_text.specs.declared.rules.Rules.{Rules}
 use Rattle.bag_text.specs.declared.rules.Rules.TheVariants.{V10, V097}
-use Rattle.bag_facts.specs.Facts.{IsByV10, rules_in}
+use Rattle.bag_facts.specs.Facts.{IsByV10}
+use Rattle.bag_facts.specs.FactsOfBag.{IsByV097}
 use Rattle.bag_renew.specs.Renewed.{is_v10}
 
-v10_so : (rules : Rules) → is_v10 rules ≡ true → rules ≡ V10
-v10_so V10 is = refl
-v10_so V097 is = cc
+-- ---- the rules, by whether the bag keeps what needs no change
 
-pub keeps_v10 : (bag : Bag) → keeps bag ≡ true → IsByV10 bag
-keeps_v10 bag is = v10_so (rules_in bag) is
+rules_stay : (rules : Rules) (to_1_0 : Bool) → (is_v10 rules || not to_1_0) ≡ true → cond to_1_0 V10 rules ≡ rules
+rules_stay rules false is = refl
+rules_stay V10 true is = refl
+rules_stay V097 true is = absurd (false≢true is)
 
-module _ (bag : Bag) (path new : List ℕ) where
-  abbrev pub WasKept : Type 0
-  WasKept = (is_kept bag path ≡ true) × (file bag path ≡ Some (kept_or bag path new))
+rules_change : (rules : Rules) (to_1_0 : Bool) → (is_v10 rules || not to_1_0) ≡ false
+    → (rules ≡ V097) × (to_1_0 ≡ true)
+rules_change V097 true is = (refl, refl)
+rules_change V097 false is = absurd (false≢true (sym is))
+rules_change V10 to_1_0 is = absurd (false≢true (sym is))
 
-  abbrev pub WasWritten : Type 0
-  WasWritten = (is_kept bag path ≡ false) × (kept_or bag path new ≡ new)
+module _ (bag : Bag) (renewal : Renewal) where
+  -- it has the rules that it had
+  pub keeps_rules : keeps bag renewal ≡ true → new_rules bag renewal ≡ rules_in bag
+  keeps_rules is = rules_stay (rules_in bag) renewal.to_1_0 is
 
-  by_parts : (k : Bool) (o : Option (List ℕ)) → keeps bag ≡ k → file bag path ≡ o → WasKept ⊎ WasWritten
-  by_parts false o k at =
-      inr (ap (λ b. b && has_file bag path) k, ap (λ b. cond b (unwrap_or (file bag path) new) new) k)
-  by_parts true None k at =
-      inr (
-        ap (λ b. b && has_file bag path) k ∙ ap is_some at,
-        ap (λ b. cond b (unwrap_or (file bag path) new) new) k ∙ ap (λ o. unwrap_or o new) at,
-      )
-  by_parts true (Some old) k at =
-      inl (
-        ap (λ b. b && has_file bag path) k ∙ ap is_some at,
-        at
-            ∙ ap Some (sym (ap (λ b. cond b (unwrap_or (file bag path) new) new) k ∙ ap (λ o. unwrap_or o new) at)),
-      )
+  -- one of 1.0 keeps what needs no change
+  pub v10_keeps : IsByV10 bag → keeps bag renewal ≡ true
+  v10_keeps is = ap (λ rules. is_v10 rules || not renewal.to_1_0) is
 
-  pub kept_or_written : WasKept ⊎ WasWritten
-  kept_or_written = by_parts (keeps bag) (file bag path) refl refl
+  -- else it is one of 0.97 that becomes one of 1.0
+  pub is_old : keeps bag renewal ≡ false → IsByV097 bag
+  is_old is = (rules_change (rules_in bag) renewal.to_1_0 is).0
 
-  pub of_v10 : is_kept bag path ≡ true → IsByV10 bag
-  of_v10 is = keeps_v10 bag (and_parts (keeps bag) (has_file bag path) is).0
+  pub becomes_v10 : keeps bag renewal ≡ false → new_rules bag renewal ≡ V10
+  becomes_v10 is = ap (λ b. cond b V10 (rules_in bag)) (rules_change (rules_in bag) renewal.to_1_0 is).1
+
+  -- ---- the bytes at a path
+
+  module _ (path new : List ℕ) where
+    abbrev pub WasKept : Type 0
+    WasKept = (is_kept bag renewal path ≡ true) × (file bag path ≡ Some (kept_or bag renewal path new))
+
+    abbrev pub WasWritten : Type 0
+    WasWritten = (is_kept bag renewal path ≡ false) × (kept_or bag renewal path new ≡ new)
+
+    by_parts : (k : Bool) (o : Option (List ℕ)) → keeps bag renewal ≡ k → file bag path ≡ o → WasKept ⊎ WasWritten
+    by_parts false o k at =
+        inr (ap (λ b. b && has_file bag path) k, ap (λ b. cond b (unwrap_or (file bag path) new) new) k)
+    by_parts true None k at =
+        inr (
+          ap (λ b. b && has_file bag path) k ∙ ap is_some at,
+          ap (λ b. cond b (unwrap_or (file bag path) new) new) k ∙ ap (λ o. unwrap_or o new) at,
+        )
+    by_parts true (Some old) k at =
+        inl (
+          ap (λ b. b && has_file bag path) k ∙ ap is_some at,
+          at
+              ∙ ap Some (sym (ap (λ b. cond b (unwrap_or (file bag path) new) new) k ∙ ap (λ o. unwrap_or o new) at)),
+        )
+
+    pub kept_or_written : WasKept ⊎ WasWritten
+    kept_or_written = by_parts (keeps bag renewal) (file bag path) refl refl
+
+  pub kept_keeps : (path : List ℕ) → is_kept bag renewal path ≡ true → keeps bag renewal ≡ true
+  kept_keeps path is = (and_parts (keeps bag renewal) (has_file bag path) is).0
+
+  -- where a file is kept, so are the rules
+  pub kept_rules : (path : List ℕ) → is_kept bag renewal path ≡ true → new_rules bag renewal ≡ rules_in bag
+  kept_rules path is = keeps_rules (kept_keeps path is)

@@ -5,7 +5,7 @@ use Rattle.bag_renew.proofs.Common.{contains_behind, contains_cases, contains_ei
 use Rattle.bag_renew.proofs.Common.{contains_front, contains_mapped, mapped_contains, is_payload_path, tag_path}
 use Rattle.bag_renew.proofs.Common.{Payload, Tag, TagName, Declaration, Info, Fetch, Manifest, Alg, payload, Bag}
 use Rattle.bag_renew.proofs.Common.{file, files_of, File, declaration_file, info_files, kept_tag_files, manifest}
-use Rattle.bag_renew.proofs.Common.{named_tag_files, new_algs, new_elements, new_tag_files, payload_manifest}
+use Rattle.bag_renew.proofs.Common.{named_tag_files, new_algs, new_elements, new_rules, new_tag_files, payload_manifest}
 use Rattle.bag_renew.proofs.Common.{payload_manifests, stays, tag_manifests, with_path, writes_info, Renewal}
 use Rattle.bag_facts.proofs.Mapped.{kept, passed}
 use Rattle.bag_renew.specs.Contents.{IsNew, IsNewText, IsOld, Stands}
@@ -67,11 +67,11 @@ module _ (bag : Bag) (renewal : Renewal) where
   pub tag_new : (q c : List ℕ) → Contains (tag_manifests bag renewal) (q, c) → IsNew bag renewal q c
   tag_new q c h =
       let m =
-      contains_mapped {B = File} (λ alg. (tag_path (Manifest Tag alg), manifest alg (named_tag_files bag renewal)))
+      contains_mapped {B = File} (λ alg. (tag_path (Manifest Tag alg), manifest (new_rules bag renewal) alg (named_tag_files bag renewal)))
       (new_algs bag renewal) (q, c) h in
       (Manifest Tag m.0, sym (ap (λ (y : File). y.0) m.2), (m.1, sym (ap (λ (y : File). y.1) m.2)))
 
-  pub declaration_new : (q c : List ℕ) → ◌≡◌ {A = File} (declaration_file bag) (q, c) → IsNew bag renewal q c
+  pub declaration_new : (q c : List ℕ) → ◌≡◌ {A = File} (declaration_file bag renewal) (q, c) → IsNew bag renewal q c
   declaration_new q c e = (Declaration, sym (ap (λ (y : File). y.0) e), sym (ap (λ (y : File). y.1) e))
 
   abbrev info_text : List ℕ
@@ -84,7 +84,7 @@ module _ (bag : Bag) (renewal : Renewal) where
 
   new_member : (q c : List ℕ) → Contains (new_tag_files bag renewal) (q, c) → IsNew bag renewal q c
   new_member q c h =
-      elim (contains_cases (declaration_file bag) (info_files bag renewal ++ manifests) (q, c) h) [
+      elim (contains_cases (declaration_file bag renewal) (info_files bag renewal ++ manifests) (q, c) h) [
         | inl e ↦ declaration_new q c e
         | inr k ↦ elim (contains_either (info_files bag renewal) manifests (q, c) k) [
           | inl i ↦ info_new q c i
@@ -124,23 +124,23 @@ module _ (bag : Bag) (renewal : Renewal) where
   info_listed c h = in_one (tag_path Info) info_text (writes_info bag renewal) (file bag (tag_path Info)) c h
 
   pub tag_listed : (alg : Alg) → Contains (new_algs bag renewal) alg
-      → Contains (tag_manifests bag renewal) (tag_path (Manifest Tag alg), manifest alg (named_tag_files bag renewal))
+      → Contains (tag_manifests bag renewal) (tag_path (Manifest Tag alg), manifest (new_rules bag renewal) alg (named_tag_files bag renewal))
   tag_listed alg h =
-      mapped_contains {B = File} (λ alg. (tag_path (Manifest Tag alg), manifest alg (named_tag_files bag renewal)))
+      mapped_contains {B = File} (λ alg. (tag_path (Manifest Tag alg), manifest (new_rules bag renewal) alg (named_tag_files bag renewal)))
       (new_algs bag renewal) alg h
 
   behind_two : (e : File) → Contains manifests e → Contains (new_tag_files bag renewal) e
   behind_two e h =
-      contains_behind (declaration_file bag) (info_files bag renewal ++ manifests) e
+      contains_behind (declaration_file bag renewal) (info_files bag renewal ++ manifests) e
       (contains_back (info_files bag renewal) manifests e h)
 
   new_listed : (tag : TagName) (c : List ℕ) → IsNewText bag renewal tag c
       → Contains (new_tag_files bag renewal) (tag_path tag, c)
   new_listed Declaration c h =
       subst (λ t. Contains (new_tag_files bag renewal) (tag_path Declaration, t)) (sym h)
-      (contains_first (declaration_file bag) (info_files bag renewal ++ manifests))
+      (contains_first (declaration_file bag renewal) (info_files bag renewal ++ manifests))
   new_listed Info c h =
-      contains_behind (declaration_file bag) (info_files bag renewal ++ manifests) (tag_path Info, c)
+      contains_behind (declaration_file bag renewal) (info_files bag renewal ++ manifests) (tag_path Info, c)
       (contains_front (info_files bag renewal) manifests (tag_path Info, c) (info_listed c h))
   new_listed (Manifest Payload alg) c h =
       subst (λ t. Contains (new_tag_files bag renewal) (tag_path (Manifest Payload alg), t)) (sym h.1)
@@ -148,7 +148,7 @@ module _ (bag : Bag) (renewal : Renewal) where
       (contains_front (payload_manifests bag renewal) (tag_manifests bag renewal) (payload_manifest bag renewal alg)
       (payload_listed alg h.0)))
   new_listed (Manifest Tag alg) c h =
-      let one : File = (tag_path (Manifest Tag alg), manifest alg (named_tag_files bag renewal)) in
+      let one : File = (tag_path (Manifest Tag alg), manifest (new_rules bag renewal) alg (named_tag_files bag renewal)) in
       subst (λ t. Contains (new_tag_files bag renewal) (tag_path (Manifest Tag alg), t)) (sym h.1)
       (behind_two one
       (contains_back (payload_manifests bag renewal) (tag_manifests bag renewal) one (tag_listed alg h.0)))
