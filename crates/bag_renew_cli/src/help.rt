@@ -2,8 +2,8 @@
 
 /// What the program does.
 pub(crate) const ABOUT: &str = "\
-Renews bags in place (BagIt 1.0, RFC 8493): manifests of further algorithms, elements of
-bag-info.txt, the version.
+Renews bags in place (BagIt 1.0, RFC 8493, and 0.97): manifests of further algorithms, elements
+of bag-info.txt, the version, which stays unless --to-1.0 is given.
 
 Each payload file is read once at most, where an algorithm is added or dropped or the version
 changes; its old digests are compared with the very bytes of which the new ones are computed. A bag

@@ -34,10 +34,10 @@ pub const IN_THE_WAY: &str = " in the way";
 
 pub const CANT_BE_NAMED: &str = " can't be named";
 
-/// The bag's version, where it is one that isn't renewed without being asked to.
-pub const VERSION: &str = "version 0.97";
+/// After the path of a file of the payload that no payload manifest would name.
+pub const IN_NO_MANIFEST: &str = " would be in no manifest";
 
-/// The file that a bag of that version has.
+/// The file that a bag of version 0.97 has, which is to become one of 1.0.
 pub const FETCH: &str = "fetch.txt";
 
 /// Before the file that couldn't be read, put or removed.

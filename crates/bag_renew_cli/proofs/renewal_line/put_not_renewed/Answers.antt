@@ -9,5 +9,5 @@ returns-in-InTheWay g c = rw c.in-InTheWay.is (rw c.as_str.ensures at c.put_path
 pub returns-in-Unnameable : goal.returns-in-Unnameable
 returns-in-Unnameable g c = rw c.in-Unnameable.is (rw c.as_str-in-Unnameable.ensures at c.put_path-in-Unnameable.ensures)
 
-pub returns-in-Version : goal.returns-in-Version
-returns-in-Version g c = rw c.in-Version.is c.put_reason-in-Version.ensures
+pub returns-in-Unlisted : goal.returns-in-Unlisted
+returns-in-Unlisted g c = rw c.in-Unlisted.is (rw c.as_str-in-Unlisted.ensures at c.put_path-in-Unlisted.ensures)
