@@ -25,7 +25,9 @@ CAUSES = "device|special|name|not-found|changed|too-many|exists|memory"
 NOT_RENEWED = re.compile(rf"d not renewed: (?:(read|put|remove) (\S+) (?:{CAUSES})|out of memory)\n")
 COMPLAINT = re.compile(r"bagit-renew: (out of memory|output refused)\n")
 INFO, PRIVATE = b"bag-info.txt", 0o100600
-PAYLOAD = {"data/first.txt": b"one", "data/letters/50%.txt": b"two", "data/empty": b"", "data/large": b"x" * 200_000}
+PLAIN = {b"data/first.txt": b"one", b"data/empty": b"", b"data/large": b"x" * 200_000}
+PAYLOAD = {**PLAIN, b"data/letters/50%.txt": b"two"}
+FETCHED = b"http://example.org/ - data/letters/50%.txt\n"
 
 
 class Case(NamedTuple):
@@ -40,31 +42,31 @@ class Case(NamedTuple):
         return renew.renewed(self.top, self.options)
 
 
-def make_bag(top, version, algorithms, tag_algorithms):
+def make_bag(top, version, algorithms, tag_algorithms, payload=PAYLOAD):
     """A valid bag; what isn't said of it is the same for all."""
-    payload = {path.encode(): content for path, content in PAYLOAD.items() if version == "1.0" or "%" not in path}
     files = {b"metadata/dc.xml": b"<dc/>", b"bag-info.txt": b"Contact-Name: Ann\nBag-Size: 1 KB\n on\n two lines\n"}
     files[b"bagit.txt"] = f"BagIt-Version: {version}\nTag-File-Character-Encoding: UTF-8\n".encode()
     for algorithm in algorithms:
-        files[renew.manifest_path(algorithm)] = renew.manifest_of(algorithm, payload)
-    tags = {renew.tag_manifest_path(algorithm): renew.manifest_of(algorithm, files) for algorithm in tag_algorithms}
+        files[renew.manifest_path(algorithm)] = renew.manifest_of(algorithm, payload, version)
+    tags = {renew.tag_manifest_path(name): renew.manifest_of(name, files, version) for name in tag_algorithms}
     renew.write({**payload, **files, **tags}, top)
     os.chmod(f"{top}/{INFO.decode()}", 0o600)
     demand(renew.is_valid(top), renew.why_invalid(top))
 
 
 def cases():
-    make_bag("md5", "1.0", ["md5"], ["md5"])
-    make_bag("two", "1.0", ["md5", "sha256"], ["md5", "sha1"])
     make_bag("old", "0.97", ["md5"], ["md5"])
+    make_bag("two", "1.0", ["md5", "sha256"], ["md5", "sha1"])
+    make_bag("plain", "0.97", ["md5"], ["md5"], PLAIN)
+    (Path("old") / renew.FETCH.decode()).write_bytes(FETCHED)
     (Path("two") / BEGUN.decode()).write_bytes(b"begun")
     element = (("Contact-Name", "Bob"), ("External-Identifier", "A 2026/17"))
-    yield Case("SHA-512 beside MD5", "md5", Options(add=("sha512",)), True)
+    yield Case("SHA-512 beside MD5 in a bag of 0.97", "old", Options(add=("sha512",)), True)
     without_md5 = Options(drop=("md5",), unset=("bag-size",), set=element)
     yield Case("elements, and without MD5", "two", without_md5, True)
     yield Case("the same unchecked", "two", without_md5._replace(unchecked=True), False)
     to_1_0 = Options(add=("sha256",), drop=("md5",), set=element, to_1_0=True)
-    yield Case("0.97 with MD5 to 1.0 with SHA-256", "old", to_1_0, True)
+    yield Case("0.97 with MD5 to 1.0 with SHA-256", "plain", to_1_0, True)
 
 
 # ---- calls
@@ -151,7 +153,7 @@ class Judge:
     def check_modes(self, before, after):
         """A file has the mode of the one in whose place it is, or of bagit.txt; until then nobody else can open it."""
         for path, stat in after.stats.items():
-            mode = before.stats.get(path, before.stats[b"bagit.txt"]).st_mode
+            mode = before.stats[renew.owned_as(path, before.stats)].st_mode
             content, info = after.files[path], self.wanted.files[INFO]
             if path == BEGUN:
                 may_be = (PRIVATE,) if content and info.startswith(content) else (PRIVATE, mode)

@@ -8,7 +8,8 @@ usage: renew.py valid FOLDER..
 `valid` names the first reason why a folder isn't a valid bag; the status is 1 then. `renewed` writes the bag that
 `bagit-renew OPTIONS FOLDER` must leave to NEW, a new folder, or says why it must be refused; the status is 1 then.
 
-Bags are of version 1.0 or 0.97, with tag files in UTF-8, and manifests by the six algorithms below. Paths are bytes.
+Bags are of version 1.0 or 0.97, each read and written by its own rules, with tag files in UTF-8, and manifests by the six
+algorithms below. Paths are bytes.
 """
 import hashlib
 import os
@@ -339,12 +340,27 @@ def info_of(elements):
     return "".join(lines).encode()
 
 
-def manifest_of(algorithm, files):
+def spelled(path, version):
+    """How a manifest spells a path: the ends of lines escaped, and by 1.0 the percent sign too (2.1.3)."""
+    percent = path.replace(b"%", b"%25") if version == "1.0" else path
+    return percent.replace(b"\n", b"%0A").replace(b"\r", b"%0D")
+
+
+def manifest_of(algorithm, files, version):
     text = b""
     for path, content in sorted(files.items()):
-        spelled = path.replace(b"%", b"%25").replace(b"\n", b"%0A").replace(b"\r", b"%0D")
-        text += hashlib.new(algorithm, content).hexdigest().encode() + b"  " + spelled + b"\n"
+        text += hashlib.new(algorithm, content).hexdigest().encode() + b"  " + spelled(path, version) + b"\n"
     return text
+
+
+def becomes_1_0(files, options):
+    """Whether a bag of 0.97 becomes one of 1.0, of which nothing but the payload and other tag files stays as it is."""
+    return options.to_1_0 and known_version(files) == "0.97"
+
+
+def new_version(files, options):
+    """The version of the renewed bag."""
+    return "1.0" if options.to_1_0 else known_version(files)
 
 
 def algorithms_left(files, options):
@@ -361,16 +377,37 @@ def reads_payload(files, options):
     and not unchecked."""
     there = {*algorithms_of(files)}
     is_compared = not (options.unchecked or there.isdisjoint(options.drop))
-    return is_compared or known_version(files) == "0.97" or not {*algorithms_left(files, options)} <= there
+    return is_compared or becomes_1_0(files, options) or not {*algorithms_left(files, options)} <= there
 
 
-def is_named(files, path, version):
-    """Whether a tag manifest names a path; of one that doesn't read that isn't known."""
-    manifests = [manifest for is_tag, _, manifest in manifests_of(files) if is_tag]
+def paths_named(files, manifests):
+    """The paths that these manifests name; all where one of them doesn't read, since then that isn't known."""
     try:
-        return any(path in entries_of(manifest, files[manifest], version) for manifest in manifests)
+        return {path for one in manifests for path in entries_of(one, files[one], known_version(files))}
     except Invalid:
-        return False
+        return {*files}
+
+
+def is_named(files, path):
+    """Whether a tag manifest names a path."""
+    return path in paths_named(files, [manifest for is_tag, _, manifest in manifests_of(files) if is_tag])
+
+
+def unnameable(files, options):
+    """The paths, in order, that no new manifest can name: its reader would drop a blank or a star at the front, and by
+    0.97 take `%0A` or `%0D` for the end of a line. On the way from 0.97 to 1.0, which spell a `%` otherwise, one with it."""
+    found = rb"[ \t*]|.*%" if becomes_1_0(files, options) else rb"[ \t*]"
+    if new_version(files, options) == "0.97":
+        found += rb"|.*%0[AaDd]"
+    return [path for path in sorted(files) if re.match(found, path, re.S)]
+
+
+def unlisted(files, options):
+    """The payload files, in order, that by 0.97 only manifests name that are dropped, where none is written."""
+    left = [*map(manifest_path, algorithms_left(files, options))]
+    if new_version(files, options) != "0.97" or not {*left} <= {*files}:
+        return []
+    return sorted({*payload_of(files)} - paths_named(files, left))
 
 
 def refusals(folder, files, options):
@@ -379,19 +416,20 @@ def refusals(folder, files, options):
         yield "bad value"
     if not algorithms_left(files, options):
         yield "no algorithm"
-    version = known_version(files)
-    if version == "0.97" and not options.to_1_0:
-        yield "version 0.97"
-    elif version == "0.97" and FETCH in files:
+    if becomes_1_0(files, options) and FETCH in files:
         yield "fetch.txt"
     for name in (BEGUN, DECLARATION, INFO, *map(manifest_path, ALGORITHMS), *map(tag_manifest_path, ALGORITHMS)):
-        if any(path.startswith(name + b"/") for path in files) or name == BEGUN and is_named(files, name, version):
+        if any(path.startswith(name + b"/") for path in files) or name == BEGUN and is_named(files, name):
             yield f"{name.decode()} in the way"
-    for path in files:
-        if path != BEGUN and (path[:1] in (b" ", b"\t", b"*") or version == "0.97" and b"%" in path):
-            yield f"{field(path)} can't be named"
+    yield from (f"{field(path)} can't be named" for path in unnameable(files, options)[:1])
+    yield from (f"{field(path)} would be in no manifest" for path in unlisted(files, options)[:1])
     if why_invalid(folder, reads_payload(files, options)):
         yield "fault"
+
+
+def owned_as(path, files):
+    """The file whose mode, owner and group one that is put has: that in whose place it comes, else bagit.txt."""
+    return path if path in files else DECLARATION
 
 
 class Renewed(NamedTuple):
@@ -412,19 +450,20 @@ def renewed(folder, options):
         reasons = ["read"]
     if reasons:
         raise Refused(*reasons)
-    is_old, payload, algorithms = version_of(files) == "0.97", payload_of(files), algorithms_left(files, options)
-    added = [name for name in algorithms if is_old or manifest_path(name) not in files]
-    put = {manifest_path(name): manifest_of(name, payload) for name in added}
-    if is_old:
+    keeps_nothing, version = becomes_1_0(files, options), new_version(files, options)
+    payload, algorithms = payload_of(files), algorithms_left(files, options)
+    added = [name for name in algorithms if keeps_nothing or manifest_path(name) not in files]
+    put = {manifest_path(name): manifest_of(name, payload, version) for name in added}
+    if keeps_nothing:
         put[DECLARATION] = DECLARED
-    if is_old or options.has_elements():
+    if keeps_nothing or options.has_elements():
         elements = elements_of(files, version_of(files))
         put[INFO] = info_of(renewed_elements(elements, options, oxum_of(files)))
     gone = {BEGUN, *map(manifest_path, {*ALGORITHMS} - {*algorithms})}
     made = {path: content for path, content in files.items() if path not in gone and not is_tag_manifest(path)}
     made.update(put)
     named = {path: content for path, content in made.items() if path not in payload}
-    tag_manifests = {tag_manifest_path(name): manifest_of(name, named) for name in algorithms}
+    tag_manifests = {tag_manifest_path(name): manifest_of(name, named, version) for name in algorithms}
     return Renewed({**made, **tag_manifests}, {*put, *tag_manifests})
 
 

@@ -16,13 +16,15 @@ from renew import ALGORITHMS, BEGUN, Options, Refused, field
 
 NAMES = ("a", "b", "c d", "%", "50%25", "é", "e\u0301", "it's", "z\n", "\r", "-n", "ü" * 40)
 TAG_FILES = ("notes.txt", "manifest-SHA256.txt", "metadata/dc.xml", "metadata/deep/ü 100%.xml", "z/tagmanifest-md5.txt")
-UNNAMEABLE = ("*star", " blank", "\ttab/in it")
+UNNAMEABLE = ("*star", " blank", "\ttab/in it", "50%0a", "notes/%0D%")
 LABELS = ("Contact-Name", "contact-name", "External-Identifier", "External-identifier", "Bag-Size", "Ort", "Näme", "x")
 VALUES = ("", "Ann", "A 2026/17", "=", "a: b", "50 %", "Zürich", "on two\nlines", "on\nthree\nlines", "\non the second")
 BAD = (("", "x"), ("a:b", "x"), ("a ", "x"), ("Payload-Oxum", "1.1"), ("payload-oxum", ""), ("x", "\rb"), ("x", "a\n\nb"))
 IN_THE_WAY = (BEGUN.decode(), f"{BEGUN.decode()}/a", "bag-info.txt/a", "tagmanifest-sha224.txt/a")
-COUNTED = ("bags", "renewed", "refused", "with a fault", "of 0.97", "without reading the payload", "manifests printed")
-COUNTS = dict.fromkeys(COUNTED, 0)
+MODES = (0o644, 0o644, 0o600, 0o640, 0o444)
+COUNTED = ("bags", "renewed", "of 0.97 that stay so", "of 0.97 to 1.0", "without reading the payload", "manifests printed")
+REASONS = ("fault", "fetch.txt", "can't be named", "would be in no manifest")
+COUNTS = dict.fromkeys((*COUNTED, "refused", *REASONS), 0)
 
 
 class Wrong(Exception):
@@ -38,8 +40,7 @@ def demand(is_so, *what):
 
 
 def spelled(path, version):
-    percent = path.replace("%", "%25") if version == "1.0" else path
-    return percent.replace("\n", "%0A").replace("\r", "%0D")
+    return renew.spelled(path.encode(), version).decode()
 
 
 def manifest(draw, algorithm, files, version):
@@ -67,22 +68,21 @@ def info(draw, version, oxum):
 
 def make_bag(draw, top):
     """A bag without a fault in most cases."""
-    version, files = draw.choice(("1.0", "1.0", "1.0", "0.97")), {}
-    names = [name for name in NAMES if version == "1.0" or "%" not in name or draw.random() < 0.03]
+    version, files = draw.choice(("1.0", "0.97")), {}
+    has_percent = version == "1.0" or draw.random() < 0.5
+    names = [name for name in NAMES if has_percent or "%" not in name]
     for name in (f"data/{folder}{name}" for folder in ("", "one/", "z/y/") for name in names if draw.random() < 0.3):
         files[name] = draw.randbytes(draw.choice((0, 1, 3, 5000, 70_000)))
     payload = dict(files)
     for name in TAG_FILES:
-        if draw.random() < 0.3 and (version == "1.0" or "%" not in name or draw.random() < 0.1):
+        if draw.random() < 0.3 and (has_percent or "%" not in name):
             files[name] = draw.randbytes(9)
     if draw.random() < 0.03:
         files[draw.choice(UNNAMEABLE)] = b"x"
     encoding = draw.choice(("UTF-8", "UTF-8", "utf-8"))
     files["bagit.txt"] = f"BagIt-Version: {version}\nTag-File-Character-Encoding: {encoding}\n".encode()
     algorithms = draw.sample(ALGORITHMS, draw.choice((1, 1, 2, 3)))
-    for place, algorithm in enumerate(algorithms):
-        share = 1 if version == "1.0" or not place else 0.6  # (By 0.97 one manifest names each file.)
-        named = {path: content for path, content in payload.items() if draw.random() < share}
+    for algorithm, named in shares(draw, payload, algorithms, version).items():
         files[f"manifest-{algorithm}.txt"] = manifest(draw, algorithm, named, version)
     if draw.random() < 0.7:
         files["bag-info.txt"] = info(draw, version, f"{sum(map(len, payload.values()))}.{len(payload)}")
@@ -101,6 +101,19 @@ def make_bag(draw, top):
     for name in ("empty", "data/none/here"):
         if draw.random() < 0.2:
             (top / name).mkdir(parents=True)
+    for name in files:
+        if not name.startswith("data/"):
+            (top / name).chmod(draw.choice(MODES))
+
+
+def shares(draw, payload, algorithms, version):
+    """What each payload manifest names: by 1.0 all, and by 0.97 each file is named by some, in half the bags all by one."""
+    named, whole = {algorithm: dict(payload) for algorithm in algorithms}, draw.choice((None, algorithms[0]))
+    for path in payload if version == "0.97" else ():
+        for algorithm in draw.sample(algorithms, draw.randrange(len(algorithms))):
+            if algorithm != whole:
+                del named[algorithm][path]
+    return named
 
 
 def add_tag_manifests(draw, version, files):
@@ -140,7 +153,7 @@ def draw_options(draw):
         unset=tuple(draw.choice(LABELS) for _ in range(draw.choice(counts))),
         set=tuple(element() for _ in range(draw.choice(counts))),
         append=tuple(element() for _ in range(draw.choice(counts))),
-        to_1_0=draw.random() < 0.6,
+        to_1_0=draw.random() < 0.4,
         unchecked=draw.random() < 0.4,
     )
 
@@ -157,8 +170,11 @@ class Look(NamedTuple):
 
     def file(self, path):
         """A file as itself, so that one that was written anew is another."""
-        stat = self.stats[path]
-        return self.files[path], stat.st_ino, stat.st_mtime_ns, stat.st_mode, stat.st_uid, stat.st_gid
+        return self.files[path], self.stats[path].st_ino, self.stats[path].st_mtime_ns, self.owned(path)
+
+    def owned(self, path):
+        """Its mode, owner and group."""
+        return self.stats[path].st_mode, self.stats[path].st_uid, self.stats[path].st_gid
 
     def same(self):
         return {path: self.file(path) for path in self.files}, self.folders
@@ -213,7 +229,8 @@ def check_refused(programs, top, options, reasons):
         demand(not complaint, complaint)
         demand(look(top).same() == before.same(), f"{words}: a bag that was refused was changed")
     COUNTS["refused"] += 1
-    COUNTS["with a fault"] += "fault" in reasons
+    for name in REASONS:
+        COUNTS[name] += any(reason.endswith(name) for reason in reasons)
 
 
 def check_said(said, top, before, wanted):
@@ -252,6 +269,9 @@ def check_left(before, after, wanted):
         demand(there == right, f"{path} is {there}, and should be {right}")
     for path in wanted.untouched(before.files):
         demand(after.file(path) == before.file(path), f"{path} was touched")
+    for path in wanted.put:
+        owned = before.owned(renew.owned_as(path, before.files))
+        demand(after.owned(path) == owned, f"{path} has {after.owned(path)}, and should have {owned}")
     demand(after.folders == before.folders, "there are other folders")
 
 
@@ -267,7 +287,7 @@ def check_again(programs, top, options):
 def check_printed(programs, draw, top):
     """The manifest that is printed is the one that would be added; of a bag with a fault none is."""
     algorithm, before, faults = draw.choice(ALGORITHMS), look(top), programs.faults(top)
-    wanted = (0, renew.manifest_of(algorithm, renew.payload_of(before.files)), "")
+    wanted = (0, renew.manifest_of(algorithm, renew.payload_of(before.files), renew.known_version(before.files)), "")
     if faults:
         wanted = (1, b"", f"{top} not renewed: fault {faults[0]}\n")
     ended = programs.run("--print", algorithm, top)
@@ -293,7 +313,8 @@ def try_bag(programs, seed):
         check_refused(programs, top, options, refused.args)
         return
     before = renew.held(top)
-    COUNTS["of 0.97"] += renew.version_of(before) == "0.97"
+    if renew.version_of(before) == "0.97":
+        COUNTS["of 0.97 to 1.0" if options.to_1_0 else "of 0.97 that stay so"] += 1
     COUNTS["without reading the payload"] += not renew.reads_payload(before, options)
     check_renewed(programs, top, options, wanted)
     check_again(programs, top, options)

@@ -48,8 +48,8 @@ class Renewing:
         declared = renew.DECLARED.replace(b"1.0", self.renewal.version.encode())
         files = {renew.DECLARATION: declared, renew.INFO: INFO, b"metadata/dc.xml": b"<dc/>"}
         for algorithm in self.renewal.algorithms:
-            files[renew.manifest_path(algorithm)] = renew.manifest_of(algorithm, payload)
-        tags = {name: renew.manifest_of(name, files) for name in self.renewal.tag_algorithms}
+            files[renew.manifest_path(algorithm)] = renew.manifest_of(algorithm, payload, self.renewal.version)
+        tags = {name: renew.manifest_of(name, files, self.renewal.version) for name in self.renewal.tag_algorithms}
         tags = {renew.tag_manifest_path(name): content for name, content in tags.items()}
         renew.write({**payload, **files, **tags, renew.BEGUN: b"begun"}, self.folder)
         self.before = look(self.folder)
