@@ -112,10 +112,10 @@ module _ (bag : Bag) (renewal : Renewal) where
   kept_by true added dropped k is = grind arith
   kept_by false added dropped k is = grind arith
 
-  pub kept_is : keeps bag ≡ true → (alg : Alg)
+  pub kept_is : keeps bag renewal ≡ true → (alg : Alg)
       → is_kept_alg bag renewal alg ≡ (has_payload_manifest bag alg && not (has_member renewal.dropped alg))
   kept_is is alg =
-      kept_by (has_payload_manifest bag alg) (has_member renewal.added alg) (has_member renewal.dropped alg) (keeps bag)
+      kept_by (has_payload_manifest bag alg) (has_member renewal.added alg) (has_member renewal.dropped alg) (keeps bag renewal)
       is
 
   -- a payload manifest is written where some new algorithm isn't kept

@@ -5,7 +5,7 @@ use Rattle.bag_renew.proofs.Common.{TagName, Declaration, Info, Manifest, Alg, B
 use Rattle.bag_renew.proofs.Common.{Remove, changes, clearing, closing, dropping, opening, put, putting, unkept}
 use Rattle.bag_renew.proofs.Common.{IsOutOfTheWay, File, begun_file, declaration_file, algs_where}
 use Rattle.bag_renew.proofs.Common.{has_payload_manifest, has_tag_manifest, info_files, is_kept, kept_or, manifest}
-use Rattle.bag_renew.proofs.Common.{named_tag_files, new_algs, new_elements, payload, payload_manifests}
+use Rattle.bag_renew.proofs.Common.{named_tag_files, new_algs, new_elements, new_rules, payload, payload_manifests}
 use Rattle.bag_renew.proofs.Common.{tag_manifests, with_path, writes_info, Renewal}
 use Rattle.bag_tags.specs.OnLines.{text_on_lines}
 use Rattle.bag_renew.proofs.ManyChanges.{all_both}
@@ -20,10 +20,10 @@ module _ (bag : Bag) (renewal : Renewal) where
   info_text = text_on_lines (new_elements bag renewal)
 
   abbrev payload_text : Alg → List ℕ
-  payload_text alg = kept_or bag (tag_path (Manifest Payload alg)) (manifest alg (payload bag))
+  payload_text alg = kept_or bag renewal (tag_path (Manifest Payload alg)) (manifest (new_rules bag renewal) alg (payload bag))
 
   abbrev tag_text : Alg → List ℕ
-  tag_text alg = manifest alg (named_tag_files bag renewal)
+  tag_text alg = manifest (new_rules bag renewal) alg (named_tag_files bag renewal)
 
   -- the metadata that is put
   abbrev pub info_put : List File
@@ -72,15 +72,15 @@ module _ (bag : Bag) (renewal : Renewal) where
 
     of_putting : AllByRecursion Of (putting bag renewal)
     of_putting =
-        all_both Of (map put info_put) (map put (unkept bag (payload_manifests bag renewal)))
+        all_both Of (map put info_put) (map put (unkept bag renewal (payload_manifests bag renewal)))
         (of_info (writes_info bag renewal) info_text (file bag (tag_path Info)))
-        (of_puts (λ e. not (is_kept bag e.0)) (payload_manifests bag renewal)
+        (of_puts (λ e. not (is_kept bag renewal e.0)) (payload_manifests bag renewal)
         (of_manifests Payload payload_text (new_algs bag renewal)))
 
     of_closing : AllByRecursion Of (closing bag renewal)
     of_closing =
-        all_both Of (map put (unkept bag (declaration_file bag ∷ []))) (map put (tag_manifests bag renewal))
-        (of_puts (λ e. not (is_kept bag e.0)) (declaration_file bag ∷ []) (tags Declaration tt, tt))
+        all_both Of (map put (unkept bag renewal (declaration_file bag renewal ∷ []))) (map put (tag_manifests bag renewal))
+        (of_puts (λ e. not (is_kept bag renewal e.0)) (declaration_file bag renewal ∷ []) (tags Declaration tt, tt))
         (of_all_puts (tag_manifests bag renewal) (of_manifests Tag tag_text (new_algs bag renewal)))
 
     pub of_back : AllByRecursion Of back

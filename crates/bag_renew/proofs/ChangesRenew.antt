@@ -10,7 +10,8 @@ use Rattle.bag_renew.proofs.Common.{exact_texts, after_changes, FileChange, Put,
 use Rattle.bag_renew.proofs.Common.{closing, dropping, opening, put, putting, unkept, ChangesKeepPayload}
 use Rattle.bag_renew.proofs.Common.{ChangesRenew, HasKnownManifests, IsOutOfTheWay, File, begun_file}
 use Rattle.bag_renew.proofs.Common.{declaration_file, algs_where, has_payload_manifest, has_tag_manifest, is_kept}
-use Rattle.bag_renew.proofs.Common.{is_new_alg, keeps, kept_or, manifest, new_algs, payload, payload_manifests}
+use Rattle.bag_renew.proofs.Common.{is_new_alg, keeps, kept_or, manifest, new_algs, new_rules, payload}
+use Rattle.bag_renew.proofs.Common.{payload_manifests}
 use Rattle.bag_renew.proofs.Common.{stays, tag_manifests, writes_info, Renewal}
 use Rattle.bag_renew.specs.Renewed.{renewed}
 use Rattle.std.specs.FinMap as fin
@@ -49,9 +50,9 @@ module _ (bag : Bag) (renewal : Renewal) where
     there = ap is_some at
 
     -- what is kept has the bytes that it had
-    kept_text : (path new : List ℕ) → q ≡ path → is_kept bag path ≡ true → c ≡ kept_or bag path new
+    kept_text : (path new : List ℕ) → q ≡ path → is_kept bag renewal path ≡ true → c ≡ kept_or bag renewal path new
     kept_text path new same is =
-        sym (ap (λ b. cond b (unwrap_or (file bag path) new) new) (and_parts (keeps bag) (has_file bag path) is).0
+        sym (ap (λ b. cond b (unwrap_or (file bag path) new) new) (and_parts (keeps bag renewal) (has_file bag path) is).0
         ∙ ap (λ o. unwrap_or o new) (ap (file bag) (sym same) ∙ at))
 
     as_declaration : q ≡ tag_path Declaration → IsNew bag renewal q c
@@ -59,7 +60,7 @@ module _ (bag : Bag) (renewal : Renewal) where
       Declaration,
       same,
       kept_text (tag_path Declaration) declaration_text same
-          (true_unless (is_kept bag (tag_path Declaration))
+          (true_unless (is_kept bag renewal (tag_path Declaration))
           (λ out. none _ (in_back bag renewal _ (declaration_in bag renewal out)) same)),
     )
 
@@ -81,7 +82,7 @@ module _ (bag : Bag) (renewal : Renewal) where
         path = tag_path (Manifest Payload alg)
 
         text : List ℕ
-        text = manifest alg (payload bag)
+        text = manifest (new_rules bag renewal) alg (payload bag)
 
         has : HasFile bag (tag_path (Manifest Payload alg))
         has = subst (HasFile bag) same there
@@ -97,9 +98,9 @@ module _ (bag : Bag) (renewal : Renewal) where
             (not (has_member renewal.dropped alg))
             (or_left (has_payload_manifest bag alg) (has_member renewal.added alg) has) (ap not not_dropped))
 
-        by_kept : is_kept bag (tag_path (Manifest Payload alg)) ≡ true
+        by_kept : is_kept bag renewal (tag_path (Manifest Payload alg)) ≡ true
         by_kept =
-            true_unless (is_kept bag (tag_path (Manifest Payload alg)))
+            true_unless (is_kept bag renewal (tag_path (Manifest Payload alg)))
             (λ out. none _ (in_back bag renewal _ (manifest_in bag renewal alg new out)) same)
 
     named_manifest : (kind : Kind) → is_manifest_name kind q ≡ true
@@ -146,9 +147,9 @@ module _ (bag : Bag) (renewal : Renewal) where
   abbrev IsLeft : TagName → List ℕ → Type 0
   IsLeft tag c = (file bag (tag_path tag) ≡ Some c) × ((alg : Alg) → tag ≢ Manifest Tag alg)
 
-  still_there : (path new c : List ℕ) → is_kept bag path ≡ true → c ≡ kept_or bag path new → file bag path ≡ Some c
+  still_there : (path new c : List ℕ) → is_kept bag renewal path ≡ true → c ≡ kept_or bag renewal path new → file bag path ≡ Some c
   still_there path new c is text =
-      let both = and_parts (keeps bag) (has_file bag path) is in
+      let both = and_parts (keeps bag renewal) (has_file bag path) is in
       let content = content_of (file bag path) both.1 in
       content.1
       ∙ ap Some (sym (text ∙ ap (λ b. cond b (unwrap_or (file bag path) new) new) both.0
@@ -156,9 +157,9 @@ module _ (bag : Bag) (renewal : Renewal) where
 
   new_in : (tag : TagName) (c : List ℕ) → IsNewText bag renewal tag c
       → Contains last (Put (tag_path tag) c) ⊎ IsLeft tag c
-  new_in Declaration c h = by_test (is_kept bag (tag_path Declaration)) refl
+  new_in Declaration c h = by_test (is_kept bag renewal (tag_path Declaration)) refl
     where
-      by_test : (b : Bool) → is_kept bag (tag_path Declaration) ≡ b
+      by_test : (b : Bool) → is_kept bag renewal (tag_path Declaration) ≡ b
           → Contains last (Put (tag_path Declaration) c) ⊎ IsLeft Declaration c
       by_test true is =
           inr (
@@ -178,13 +179,13 @@ module _ (bag : Bag) (renewal : Renewal) where
             λ alg same. let clash : Info ≡ Manifest Tag alg = same in cc,
           )
   new_in Fetch c h = absurd h
-  new_in (Manifest Payload a) c h = by_test (is_kept bag (tag_path (Manifest Payload a))) refl
+  new_in (Manifest Payload a) c h = by_test (is_kept bag renewal (tag_path (Manifest Payload a))) refl
     where
-      by_test : (b : Bool) → is_kept bag (tag_path (Manifest Payload a)) ≡ b
+      by_test : (b : Bool) → is_kept bag renewal (tag_path (Manifest Payload a)) ≡ b
           → Contains last (Put (tag_path (Manifest Payload a)) c) ⊎ IsLeft (Manifest Payload a) c
       by_test true is =
           inr (
-            still_there (tag_path (Manifest Payload a)) (manifest a (payload bag)) c is h.1,
+            still_there (tag_path (Manifest Payload a)) (manifest (new_rules bag renewal) a (payload bag)) c is h.1,
             λ alg same. let clash : Manifest Payload a ≡ Manifest Tag alg = same in cc,
           )
       by_test false out =
@@ -222,11 +223,11 @@ module _ (bag : Bag) (renewal : Renewal) where
   none_removed : (q c : List ℕ) → IsNew bag renewal q c → Contains last (Remove q) → ⊥
   none_removed q c (tag, path, text) has =
       elim (contains_either (putting bag renewal) (dropping bag renewal ++ closing bag renewal) (Remove q) has) [
-        | inl puts ↦ removed_in_two (info_put bag renewal) (unkept bag (payload_manifests bag renewal)) puts
+        | inl puts ↦ removed_in_two (info_put bag renewal) (unkept bag renewal (payload_manifests bag renewal)) puts
         | inr more ↦ elim (contains_either (dropping bag renewal) (closing bag renewal) (Remove q) more) [
           | inl drops ↦ dropped_one (contains_mapped (λ alg. Remove (tag_path (Manifest Payload alg)))
               (algs_where (is_dropped bag renewal)) (Remove q) drops)
-          | inr ends ↦ removed_in_two (unkept bag (declaration_file bag ∷ [])) (tag_manifests bag renewal) ends
+          | inr ends ↦ removed_in_two (unkept bag renewal (declaration_file bag renewal ∷ [])) (tag_manifests bag renewal) ends
         ]
       ]
     where

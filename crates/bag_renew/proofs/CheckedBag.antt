@@ -3,7 +3,7 @@ use Rattle.bag_renew.proofs.Common.{Bool, ◌≡◌, ◌≢◌, ◌<◌, ◌∷�
 use Rattle.bag_renew.proofs.Common.{map, filter}
 use Rattle.bag_renew.proofs.Common.{Contains, contains_mapped, mapped_contains, text_cmp, arith, refl, sym, ap, subst, ◌∙◌, inl, inr, All-contains}
 use Rattle.bag_renew.proofs.Common.{contains_nothing, contains_first, contains_behind, Alg, Bag, file, files_of, payload}
-use Rattle.bag_renew.proofs.Common.{is_payload_path, Payload, Tag, Kind, tag_path, Manifest, File}
+use Rattle.bag_renew.proofs.Common.{is_payload_path, Payload, Tag, Kind, tag_path, Manifest, File, rules_in}
 use Rattle.std.proofs.lemmas.List.Elements.{All-from_recursion}
 use Rattle.std.proofs.lemmas.List.Kept.{IsStrictlySortedBy-filter}
 use Rattle.std.proofs.lemmas.Simd.{map-map}
@@ -14,6 +14,7 @@ use Rattle.bag_text.specs.Code.{stage}
 use Rattle.bag_text.specs.Lines.{lines_of_file}
 use Rattle.bag_text.specs.declared.code.Code.{Code}
 use Rattle.bag_text.specs.declared.code.Code.TheVariants.{PayloadSumDiffers, TagSumDiffers}
+use Rattle.bag_text.specs.declared.rules.Rules.{Rules}
 use Rattle.bag_text.proofs.ListOf.{each_from_members, nothing_listed}
 use Rattle.bag_facts.proofs.Mapped.{kept, passed}
 use Rattle.bag_facts.specs.FactsOfBag.{IsFactsOf}
@@ -41,8 +42,8 @@ use Rattle.bag_stages.proofs.MetadataFaults.{metadata_of_stage_three}
 use Rattle.bag_stages.proofs.PartFaults.{parts_of_stage_two}
 use Rattle.bag_stages.proofs.ValidityFaults.{validity_of_stage_seven}
 use Rattle.bag_stages.specs.ValidityStage.{Differs, IsOfValidity, ValidityHolds}
-use Rattle.bag_tags.specs.Entry.{NewEntry, manifest_text}
-use Rattle.bag_tags.specs.Summed.{manifests_of, summed_entry}
+use Rattle.bag_tags.specs.Entry.{NewEntry, manifest_text_by}
+use Rattle.bag_tags.specs.Summed.{manifests_by, summed_entry}
 use Rattle.bag_tree.specs.Digest.{digest}
 use Rattle.bag_tree.specs.DigestsOf.{sum_at}
 use Rattle.bag_tree.specs.Bag.{IsBag}
@@ -321,17 +322,18 @@ module _ (algs : List Alg) (alg : Alg) (has : Contains algs alg) where
   entries_are _ _ h = absurd h
 
 module _ (algs : List Alg) (files : List File) (summed : List SummedFile) (are : AreSummed algs files summed) where
-  pub manifests_some : (some : List Alg) → ((alg : Alg) → Contains some alg → Contains algs alg)
-      → manifests_of Payload some (filter (λ one. is_payload_path one.path) summed) ≡ manifests_for some (payload_of files)
-  manifests_some [] has = refl
-  manifests_some (alg ∷ some) has =
+  pub manifests_some : (rules : Rules) (some : List Alg) → ((alg : Alg) → Contains some alg → Contains algs alg)
+      → manifests_by rules Payload some (filter (λ one. is_payload_path one.path) summed)
+      ≡ manifests_for rules some (payload_of files)
+  manifests_some rules [] has = refl
+  manifests_some rules (alg ∷ some) has =
       let entries = entries_are algs alg (has alg (contains_first alg some)) files summed are in
-      let others = manifests_some some (λ other c. has other (contains_behind alg some other c)) in
-      λ i. (tag_path (Manifest Payload alg), manifest_text (entries i)) ∷ others i
+      let others = manifests_some rules some (λ other c. has other (contains_behind alg some other c)) in
+      λ i. (tag_path (Manifest Payload alg), manifest_text_by rules (entries i)) ∷ others i
 
-  pub manifests_are : manifests_of Payload algs (filter (λ one. is_payload_path one.path) summed)
-      ≡ manifests_for algs (payload_of files)
-  manifests_are = manifests_some algs (λ alg has. has)
+  pub manifests_are : (rules : Rules) → manifests_by rules Payload algs (filter (λ one. is_payload_path one.path) summed)
+      ≡ manifests_for rules algs (payload_of files)
+  manifests_are rules = manifests_some rules algs (λ alg has. has)
 
 no_bytes : lines_of_file [] ≡ []
 unfolding is_utf8 chars
@@ -419,27 +421,31 @@ module _ (facts : Facts) (with_payload : Bool) (algs : List Alg) (old new : Tree
   sums_are = subst (λ files. AreSummed algs files summed) files_are h.checked.sums
 
 -- so it is where all was read
-module _ (algs : List Alg) (old new : TreeState) (summed : List SummedFile)
-    (all : HasCheckedAll algs old new summed) where
+module _ (rules : Rules) (algs : List Alg) (old new : TreeState) (summed : List SummedFile)
+    (all : HasCheckedAll rules algs old new summed) where
   -- the manifests are those of its payload, whatever tree it is
-  pub same_bytes : (made : List File) → made ≡ manifests_of Payload algs (filter (λ one. is_payload_path one.path) summed)
+  pub same_bytes : (made : List File)
+      → made ≡ manifests_by rules Payload algs (filter (λ one. is_payload_path one.path) summed)
       → AreOfSameBytes algs made
   same_bytes made is = record {
     bag = all.2.seen.0;
     is_bag = all.2.seen.1;
     files = all.2.checked.files;
     compared = compared all.0 true algs old new summed all.1 all.2 all.2.seen.0 all.2.seen.2;
-    made_of = is ∙ manifests_are algs all.2.checked.files summed all.2.checked.sums;
+    made_of = is
+        ∙ manifests_are algs all.2.checked.files summed all.2.checked.sums rules
+        ∙ ap (λ by. manifests_for by algs (payload_of all.2.checked.files)) (all.3 all.2.seen.0 all.2.seen.2);
   }
 
   module _ (honest : IsTrue old.honest) where
     pub of_the_bag : (made : List File)
-        → made ≡ manifests_of Payload algs (filter (λ one. is_payload_path one.path) summed)
-        → made ≡ manifests_for algs (payload old.bag)
+        → made ≡ manifests_by rules Payload algs (filter (λ one. is_payload_path one.path) summed)
+        → made ≡ manifests_for (rules_in old.bag) algs (payload old.bag)
     of_the_bag made is =
         is ∙ manifests_are algs (files_to_read true (files_of old.bag)) summed
-        (sums_are all.0 true algs old new summed all.1 all.2 honest)
-        ∙ ap (λ files. manifests_for algs (payload_of files)) (all_files (files_of old.bag))
+        (sums_are all.0 true algs old new summed all.1 all.2 honest) rules
+        ∙ ap (λ files. manifests_for rules algs (payload_of files)) (all_files (files_of old.bag))
+        ∙ ap (λ by. manifests_for by algs (payload old.bag)) (all.3 old.bag (all.2.of_bag honest))
 
     pub has_no_fault : HasNoFault old.bag
     has_no_fault = none_at_all all.0 true algs old new summed all.1 all.2 honest refl

@@ -3,7 +3,7 @@ use Rattle.bag_renew.proofs.Common.{◌≡◌, ◌++◌, ◌∙◌, ℕ, Bool, t
 use Rattle.bag_renew.proofs.Common.{filter, is_some, sym, ap, subst, append_assoc, map-append}
 use Rattle.bag_renew.proofs.Common.{or_right, Tag, Manifest, tag_path, Bag, files_of, File, FileChange, changes}
 use Rattle.bag_renew.proofs.Common.{clearing, cond, dropping, opening, put, info_files, manifest}
-use Rattle.bag_renew.proofs.Common.{named_tag_files, new_algs, payload_manifests, unkept}
+use Rattle.bag_renew.proofs.Common.{named_tag_files, new_algs, new_rules, payload_manifests, unkept}
 use Rattle.bag_renew.proofs.Common.{writes_info, Alg, Info, Payload, Renewal, [], is_payload_path}
 use Rattle.bag_renew.proofs.CheckedBag.{manifests_some}
 use Rattle.bag_renew.proofs.NamedFiles.{all_named, old_files}
@@ -12,7 +12,8 @@ use Rattle.bag_renew.proofs.WrittenManifests.{info_put, manifests_put, tag_manif
 use Rattle.bag_renew.specs.Composing.{AreInPathOrder, first_files, is_tag_file, is_tag_path}
 use Rattle.bag_renew.specs.Composing.{keeps_bytes, kept_names, last_files, of_path, tag_manifests_of, written_algs}
 use Rattle.bag_renew.specs.NewInfo.{IsInfoAfter, IsNewInfo}
-use Rattle.bag_tags.specs.Summed.{manifests_of}
+use Rattle.bag_text.specs.declared.rules.Rules.{Rules}
+use Rattle.bag_tags.specs.Summed.{manifests_by}
 use Rattle.bag_renew.specs.Planned.{changes_from, first_from, kept_from, named_from, tag_manifests_from}
 use Rattle.bag_renew.specs.Renewed.{in_path_order, reads_payload, with_path}
 use Rattle.bag_renew.specs.Summed.{AreSummed, files_to_read, is_to_read}
@@ -42,13 +43,13 @@ module _ (bag : Bag) (renewal : Renewal) where
     -- the files that are put first
     pub first_is : (summed payload : List SummedFile) (first : List File)
         → AreSummed (new_algs bag renewal) files summed → payload ≡ filter (of_path is_payload_path) summed
-        → first ≡ with_path (tag_path Info) info ++ manifests_of Payload (written_algs bag renewal) payload
+        → first ≡ with_path (tag_path Info) info ++ manifests_by (new_rules bag renewal) Payload (written_algs bag renewal) payload
         → first ≡ first_from bag renewal files info
     first_is summed payload first are some is =
         is
         ∙ ap (λ xs. with_path (tag_path Info) info ++ xs)
-        (ap (manifests_of Payload (written_algs bag renewal)) some
-        ∙ manifests_some (new_algs bag renewal) files summed are (written_algs bag renewal)
+        (ap (manifests_by (new_rules bag renewal) Payload (written_algs bag renewal)) some
+        ∙ manifests_some (new_rules bag renewal) (new_algs bag renewal) files summed are (written_algs bag renewal)
         (written_is_new bag renewal))
 
     -- the digests of the tag files that keep their bytes
@@ -61,7 +62,7 @@ module _ (bag : Bag) (renewal : Renewal) where
 
     -- and of what tag manifests name
     pub named_summed : (algs : List Alg) (tags named : List SummedFile) (first last : List File)
-        → algs ≡ new_algs bag renewal → first ≡ first_from bag renewal files info → last ≡ last_files bag
+        → algs ≡ new_algs bag renewal → first ≡ first_from bag renewal files info → last ≡ last_files bag renewal
         → AreSummed (new_algs bag renewal) (kept_from bag renewal files info) tags
         → ((some : List File) → AreSummed algs some tags → AreInPathOrder algs (some ++ (first ++ last)) named)
         → AreSummed (new_algs bag renewal) (named_from bag renewal files info) named
@@ -71,24 +72,25 @@ module _ (bag : Bag) (renewal : Renewal) where
         (subst (λ some. AreInPathOrder some (old ++ (first ++ last)) named) new
         (in_order old (subst (λ some. AreSummed some old tags) (sym new) are)))
 
-    pub tag_manifests_put : (algs : List Alg) (named : List SummedFile) → algs ≡ new_algs bag renewal
+    pub tag_manifests_put : (rules : Rules) (algs : List Alg) (named : List SummedFile)
+        → rules ≡ new_rules bag renewal → algs ≡ new_algs bag renewal
         → AreSummed (new_algs bag renewal) (named_from bag renewal files info) named
-        → tag_manifests_of algs named ≡ map put (tag_manifests_from bag renewal files info)
-    tag_manifests_put algs named new are =
-        ap (λ some. tag_manifests_of some named) new
-        ∙ ap (map put) (tag_manifests_are (new_algs bag renewal) (named_from bag renewal files info) named are)
+        → tag_manifests_of rules algs named ≡ map put (tag_manifests_from bag renewal files info)
+    tag_manifests_put rules algs named by_rules new are =
+        (λ i. tag_manifests_of (by_rules i) (new i) named)
+        ∙ ap (map put) (tag_manifests_are (new_rules bag renewal) (new_algs bag renewal) (named_from bag renewal files info) named are)
 
     -- the changes
     pub changes_are : (made before first gone last manifests : List FileChange)
         → made ≡ (((before ++ first) ++ gone) ++ last) ++ manifests
         → before ≡ opening bag renewal ++ clearing bag renewal
         → first ≡ map put (first_from bag renewal files info) → gone ≡ dropping bag renewal
-        → last ≡ map put (last_files bag) → manifests ≡ map put (tag_manifests_from bag renewal files info)
+        → last ≡ map put (last_files bag renewal) → manifests ≡ map put (tag_manifests_from bag renewal files info)
         → made ≡ changes_from bag renewal files info
     changes_are made before first gone last manifests is before_is first_is gone_is last_is manifests_are =
         is ∙ (λ i. (((before_is i ++ first_is i) ++ gone_is i) ++ last_is i) ++ manifests_are i)
         ∙ joined (opening bag renewal) (clearing bag renewal) (map put (first_from bag renewal files info))
-        (dropping bag renewal) (map put (last_files bag)) (map put (tag_manifests_from bag renewal files info))
+        (dropping bag renewal) (map put (last_files bag renewal)) (map put (tag_manifests_from bag renewal files info))
 
   -- ---- and where these are those of the bag
 
@@ -107,18 +109,18 @@ module _ (bag : Bag) (renewal : Renewal) where
 
     named_of_bag : named_from bag renewal read_files info ≡ named_tag_files bag renewal
     named_of_bag =
-        (λ i. in_path_order (kept_of_bag i ++ (first_of_bag i ++ last_files bag))) ∙ all_named bag renewal
+        (λ i. in_path_order (kept_of_bag i ++ (first_of_bag i ++ last_files bag renewal))) ∙ all_named bag renewal
 
     abbrev written : List File
     written = cond (writes_info bag renewal) (info_files bag renewal) []
 
     pub changes_of_bag : changes_from bag renewal read_files info ≡ changes bag renewal
     changes_of_bag =
-        let manifests = unkept bag (payload_manifests bag renewal) in λ i.
+        let manifests = unkept bag renewal (payload_manifests bag renewal) in λ i.
         opening bag renewal
         ++ (clearing bag renewal
         ++ ((ap (map put) first_of_bag ∙ map-append put written manifests) i
         ++ (dropping bag renewal
-        ++ (map put (last_files bag)
-        ++ map put (map (λ (alg : Alg). (tag_path (Manifest Tag alg), manifest alg (named_of_bag i)))
+        ++ (map put (last_files bag renewal)
+        ++ map put (map (λ (alg : Alg). (tag_path (Manifest Tag alg), manifest (new_rules bag renewal) alg (named_of_bag i)))
         (new_algs bag renewal))))))

@@ -23,10 +23,10 @@ module _ (bag : Bag) (renewal : Renewal) where
   metadata = info_put bag renewal
 
   abbrev manifests : List File
-  manifests = unkept bag (payload_manifests bag renewal)
+  manifests = unkept bag renewal (payload_manifests bag renewal)
 
   abbrev declarations : List File
-  declarations = unkept bag (declaration_file bag ∷ [])
+  declarations = unkept bag renewal (declaration_file bag renewal ∷ [])
 
   put_is : (e : File) (q c : List ℕ) → put e ≡ Put q c → e ≡ (q, c)
   put_is e q c same = let path : e.0 ≡ q = cc in let content : e.1 ≡ c = cc in (λ i. (path i, content i))
@@ -54,10 +54,10 @@ module _ (bag : Bag) (renewal : Renewal) where
   ]
   put_in_clearing false q c has = contains_nothing (Put q c) has
 
-  put_in_unkept : (es : List File) (q c : List ℕ) → Contains (map put (unkept bag es)) (Put q c)
+  put_in_unkept : (es : List File) (q c : List ℕ) → Contains (map put (unkept bag renewal es)) (Put q c)
       → Contains es (q, c)
   put_in_unkept es q c has =
-      (kept (λ (e : File). not (is_kept bag e.0)) es (q, c) (put_in_puts (unkept bag es) q c has)).1
+      (kept (λ (e : File). not (is_kept bag renewal e.0)) es (q, c) (put_in_puts (unkept bag renewal es) q c has)).1
 
   info_in_put : (b : Bool) (es : List File) (e : File) → Contains (cond b es []) e → Contains es e
   info_in_put true es e has = has
@@ -74,8 +74,8 @@ module _ (bag : Bag) (renewal : Renewal) where
   put_in_closing : (q c : List ℕ) → Contains (closing bag renewal) (Put q c) → IsNew bag renewal q c
   put_in_closing q c has =
       elim (contains_either (map put declarations) (map put (tag_manifests bag renewal)) (Put q c) has) [
-        | inl one ↦ elim (contains_cases (declaration_file bag) [] (q, c)
-            (put_in_unkept (declaration_file bag ∷ []) q c one)) [
+        | inl one ↦ elim (contains_cases (declaration_file bag renewal) [] (q, c)
+            (put_in_unkept (declaration_file bag renewal ∷ []) q c one)) [
               | inl same ↦ declaration_new bag renewal q c same
               | inr none ↦ absurd (contains_nothing {A = File} (q, c) none)
             ]
@@ -115,18 +115,18 @@ module _ (bag : Bag) (renewal : Renewal) where
       contains_back (putting bag renewal) (dropping bag renewal ++ closing bag renewal) d
       (contains_back (dropping bag renewal) (closing bag renewal) d has)
 
-  unkept_in : (es : List File) (e : File) → Contains es e → is_kept bag e.0 ≡ false
-      → Contains (map put (unkept bag es)) (put e)
+  unkept_in : (es : List File) (e : File) → Contains es e → is_kept bag renewal e.0 ≡ false
+      → Contains (map put (unkept bag renewal es)) (put e)
   unkept_in es e has out =
-      mapped_contains put (unkept bag es) e
-      (passed (λ (e : File). not (is_kept bag e.0)) es e (ap not out) has)
+      mapped_contains put (unkept bag renewal es) e
+      (passed (λ (e : File). not (is_kept bag renewal e.0)) es e (ap not out) has)
 
-  pub declaration_in : is_kept bag (tag_path Declaration) ≡ false → Contains last (put (declaration_file bag))
+  pub declaration_in : is_kept bag renewal (tag_path Declaration) ≡ false → Contains last (put (declaration_file bag renewal))
   declaration_in out =
-      in_closing (put (declaration_file bag))
+      in_closing (put (declaration_file bag renewal))
       (contains_front (map put declarations) (map put (tag_manifests bag renewal))
-      (put (declaration_file bag))
-      (unkept_in (declaration_file bag ∷ []) (declaration_file bag) (contains_first (declaration_file bag) []) out))
+      (put (declaration_file bag renewal))
+      (unkept_in (declaration_file bag renewal ∷ []) (declaration_file bag renewal) (contains_first (declaration_file bag renewal) []) out))
 
   pub info_in : writes_info bag renewal ≡ true → (c : List ℕ) → IsNewText bag renewal Info c
       → Contains last (Put (tag_path Info) c)
@@ -138,7 +138,7 @@ module _ (bag : Bag) (renewal : Renewal) where
       (subst (λ b. Contains (cond b (info_files bag renewal) []) one) (sym written) (info_listed bag renewal c new))))
 
   pub manifest_in : (alg : Alg) → Contains (new_algs bag renewal) alg
-      → is_kept bag (tag_path (Manifest Payload alg)) ≡ false
+      → is_kept bag renewal (tag_path (Manifest Payload alg)) ≡ false
       → Contains last (put (payload_manifest bag renewal alg))
   manifest_in alg has out =
       let one = payload_manifest bag renewal alg in

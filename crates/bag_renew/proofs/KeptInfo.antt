@@ -50,8 +50,8 @@ module _ (bag : Bag) (renewal : Renewal) (can : CanRenew bag renewal) (kept : wr
 
   same_rules : rules_in now ≡ rules_in bag
   same_rules =
-      let both = unnegated (keeps bag && asks_nothing renewal.elements) kept in
-      by_v10 bag renewal ∙ sym (keeps_v10 bag (and_parts (keeps bag) (asks_nothing renewal.elements) both).0)
+      let both = unnegated (keeps bag renewal && asks_nothing renewal.elements) kept in
+      by_v10 bag renewal ∙ sym (keeps_v10 bag (and_parts (keeps bag renewal) (asks_nothing renewal.elements) both).0)
 
   same_oxum : oxum now ≡ oxum bag
   same_oxum = ap oxum_of_files (same_payload bag renewal)

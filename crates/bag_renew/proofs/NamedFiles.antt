@@ -7,7 +7,7 @@ use Rattle.bag_renew.proofs.Common.{contains_first, contains_front, contains_map
 use Rattle.bag_renew.proofs.Common.{find, get-from_entries, nat_list_cmp_total, exact_texts, text_cmp}
 use Rattle.bag_renew.proofs.Common.{tag_path, TagName, Declaration, Info, Manifest, Payload, Alg, Bag, file, files_of}
 use Rattle.bag_renew.proofs.Common.{payload, File, declaration_file, info_files, is_kept, is_new_alg, kept_or}
-use Rattle.bag_renew.proofs.Common.{kept_tag_files, manifest, named_tag_files, new_algs, new_elements, new_tag_files}
+use Rattle.bag_renew.proofs.Common.{kept_tag_files, manifest, named_tag_files, new_algs, new_elements, new_rules, new_tag_files}
 use Rattle.bag_renew.proofs.Common.{payload_manifest, payload_manifests, stays, tag_manifests, unkept, writes_info}
 use Rattle.bag_renew.proofs.Common.{Renewal}
 use Rattle.std.specs.FinMap as fin
@@ -58,13 +58,13 @@ module _ (bag : Bag) (renewal : Renewal) where
   old_files = filter keeps_path (filter is_tag_file (files_of bag))
 
   abbrev put_files : List File
-  put_files = first_files bag renewal ++ last_files bag
+  put_files = first_files bag renewal ++ last_files bag renewal
 
   abbrev others : List File
   others = info_files bag renewal ++ payload_manifests bag renewal
 
   abbrev named : List File
-  named = kept_tag_files bag ++ (declaration_file bag ∷ others)
+  named = kept_tag_files bag ++ (declaration_file bag renewal ∷ others)
 
   -- ---- each is there once
 
@@ -75,13 +75,13 @@ module _ (bag : Bag) (renewal : Renewal) where
       contains_back (payload bag) (kept_tag_files bag ++ new_files) (q, c)
       (contains_back (kept_tag_files bag) new_files (q, c) k) in
       let manifests = payload_manifests bag renewal ++ tag_manifests bag renewal in
-      from_all bag renewal q c (elim (contains_either (kept_tag_files bag) (declaration_file bag ∷ others) (q, c) h) [
+      from_all bag renewal q c (elim (contains_either (kept_tag_files bag) (declaration_file bag renewal ∷ others) (q, c) h) [
         | inl old ↦ contains_back (payload bag) (kept_tag_files bag ++ new_files) (q, c)
             (contains_front (kept_tag_files bag) new_files (q, c) old)
-        | inr new ↦ behind (elim (contains_cases (declaration_file bag) others (q, c) new) [
+        | inr new ↦ behind (elim (contains_cases (declaration_file bag renewal) others (q, c) new) [
           | inl is ↦ subst (Contains new_files) is
-              (contains_first (declaration_file bag) (info_files bag renewal ++ manifests))
-          | inr k ↦ contains_behind (declaration_file bag) (info_files bag renewal ++ manifests) (q, c)
+              (contains_first (declaration_file bag renewal) (info_files bag renewal ++ manifests))
+          | inr k ↦ contains_behind (declaration_file bag renewal) (info_files bag renewal ++ manifests) (q, c)
               (elim (contains_either (info_files bag renewal) (payload_manifests bag renewal) (q, c) k) [
                 | inl info ↦ contains_front (info_files bag renewal) manifests (q, c) info
                 | inr own ↦ contains_back (info_files bag renewal) manifests (q, c)
@@ -99,7 +99,7 @@ module _ (bag : Bag) (renewal : Renewal) where
   info_names = cond (writes_info bag renewal) [] (Info ∷ [])
 
   abbrev declaration_names : List TagName
-  declaration_names = cond (is_kept bag (tag_path Declaration)) (Declaration ∷ []) []
+  declaration_names = cond (is_kept bag renewal (tag_path Declaration)) (Declaration ∷ []) []
 
   abbrev manifest_names : List TagName
   manifest_names = map (Manifest Payload) (algs_where (is_kept_alg bag renewal))
@@ -110,7 +110,7 @@ module _ (bag : Bag) (renewal : Renewal) where
       (contains_front info_names declaration_names Info
       (subst (λ b. Contains (cond b [] (Info ∷ [])) Info) (sym other) (contains_first Info [])))
 
-  declaration_name : is_kept bag (tag_path Declaration) ≡ true → Contains names Declaration
+  declaration_name : is_kept bag renewal (tag_path Declaration) ≡ true → Contains names Declaration
   declaration_name is =
       contains_back manifest_names (info_names ++ declaration_names) Declaration
       (contains_back info_names declaration_names Declaration
@@ -127,7 +127,7 @@ module _ (bag : Bag) (renewal : Renewal) where
   IsKeptFor name =
       ((alg : Alg) × (is_kept_alg bag renewal alg ≡ true) × (Manifest Payload alg ≡ name))
       ⊎ (((writes_info bag renewal ≡ false) × (Info ≡ name))
-      ⊎ ((is_kept bag (tag_path Declaration) ≡ true) × (Declaration ≡ name)))
+      ⊎ ((is_kept bag renewal (tag_path Declaration) ≡ true) × (Declaration ≡ name)))
 
   info_by : (b : Bool) (name : TagName) → Contains (cond b [] (Info ∷ [])) name → (b ≡ false) × (Info ≡ name)
   info_by true name has = absurd (contains_nothing name has)
@@ -151,7 +151,7 @@ module _ (bag : Bag) (renewal : Renewal) where
         inl (m.0, passes (is_kept_alg bag renewal) m.0 m.1, m.2))
     | inr rest ↦ inr (elim (contains_either info_names declaration_names name rest) [
       | inl info ↦ inl (info_by (writes_info bag renewal) name info)
-      | inr declaration ↦ inr (declaration_by (is_kept bag (tag_path Declaration)) name declaration)
+      | inr declaration ↦ inr (declaration_by (is_kept bag renewal (tag_path Declaration)) name declaration)
     ])
   ]
 
@@ -181,13 +181,13 @@ module _ (bag : Bag) (renewal : Renewal) where
 
   other_named : (e : File) → Contains others e → Contains named e
   other_named e h =
-      contains_back (kept_tag_files bag) (declaration_file bag ∷ others) e
-      (contains_behind (declaration_file bag) others e h)
+      contains_back (kept_tag_files bag) (declaration_file bag renewal ∷ others) e
+      (contains_behind (declaration_file bag renewal) others e h)
 
-  declaration_named : Contains named (declaration_file bag)
+  declaration_named : Contains named (declaration_file bag renewal)
   declaration_named =
-      contains_back (kept_tag_files bag) (declaration_file bag ∷ others) (declaration_file bag)
-      (contains_first (declaration_file bag) others)
+      contains_back (kept_tag_files bag) (declaration_file bag renewal ∷ others) (declaration_file bag renewal)
+      (contains_first (declaration_file bag renewal) others)
 
   info_named : (e : File) → Contains (info_files bag renewal) e → Contains named e
   info_named e h = other_named e (contains_front (info_files bag renewal) (payload_manifests bag renewal) e h)
@@ -196,22 +196,22 @@ module _ (bag : Bag) (renewal : Renewal) where
   manifest_named e h = other_named e (contains_back (info_files bag renewal) (payload_manifests bag renewal) e h)
 
   -- the bytes of a file that is kept
-  kept_content : (path new c : List ℕ) → is_kept bag path ≡ true → file bag path ≡ Some c → kept_or bag path new ≡ c
-  kept_content path new c is at = elim (kept_or_written bag path new) [
-    | inl kept ↦ (let both : Some (kept_or bag path new) ≡ Some c = sym kept.1 ∙ at in cc)
+  kept_content : (path new c : List ℕ) → is_kept bag renewal path ≡ true → file bag path ≡ Some c → kept_or bag renewal path new ≡ c
+  kept_content path new c is at = elim (kept_or_written bag renewal path new) [
+    | inl kept ↦ (let both : Some (kept_or bag renewal path new) ≡ Some c = sym kept.1 ∙ at in cc)
     | inr written ↦ absurd (false≢true (sym written.0 ∙ is))
   ]
 
   abbrev kept_alg_parts : (alg : Alg) → is_kept_alg bag renewal alg ≡ true
-      → (is_new_alg bag renewal alg ≡ true) × (is_kept bag (tag_path (Manifest Payload alg)) ≡ true)
-  kept_alg_parts alg is = and_parts (is_new_alg bag renewal alg) (is_kept bag (tag_path (Manifest Payload alg))) is
+      → (is_new_alg bag renewal alg ≡ true) × (is_kept bag renewal (tag_path (Manifest Payload alg)) ≡ true)
+  kept_alg_parts alg is = and_parts (is_new_alg bag renewal alg) (is_kept bag renewal (tag_path (Manifest Payload alg))) is
 
   name_named : (name : TagName) (c : List ℕ) → IsKeptFor name → file bag (tag_path name) ≡ Some c
       → Contains named (tag_path name, c)
   name_named name c (inl (alg, is, same)) at =
       let path = tag_path (Manifest Payload alg) in
       let two = kept_alg_parts alg is in
-      let content = kept_content path (manifest alg (payload bag)) c two.1 (ap (λ n. file bag (tag_path n)) same ∙ at) in
+      let content = kept_content path (manifest (new_rules bag renewal) alg (payload bag)) c two.1 (ap (λ n. file bag (tag_path n)) same ∙ at) in
       manifest_named (tag_path name, c) (subst (Contains (payload_manifests bag renewal))
       (λ i. (tag_path (same i), content i))
       (mapped_contains {B = File} (payload_manifest bag renewal) (new_algs bag renewal) alg
@@ -230,7 +230,7 @@ module _ (bag : Bag) (renewal : Renewal) where
   old_named q c h =
       let two = old_in q c h in
       elim (or_cases (stays q) (list_any (λ name. bytes_eq (tag_path name) q) names) two.0) [
-        | inl so ↦ contains_front (kept_tag_files bag) (declaration_file bag ∷ others) (q, c)
+        | inl so ↦ contains_front (kept_tag_files bag) (declaration_file bag renewal ∷ others) (q, c)
             (passed (λ (e : File). stays e.0) (files_of bag) (q, c) so (listed bag.files q c two.1))
         | inr some ↦ (
             let one = from_any (λ name. bytes_eq (tag_path name) q) names some in
@@ -249,14 +249,14 @@ module _ (bag : Bag) (renewal : Renewal) where
   put_named : (e : File) → Contains put_files e → Contains named e
   put_named e h =
       let info_put = cond (writes_info bag renewal) (info_files bag renewal) [] in
-      elim (contains_either (first_files bag renewal) (last_files bag) e h) [
-        | inl first ↦ elim (contains_either info_put (unkept bag (payload_manifests bag renewal)) e first) [
+      elim (contains_either (first_files bag renewal) (last_files bag renewal) e h) [
+        | inl first ↦ elim (contains_either info_put (unkept bag renewal (payload_manifests bag renewal)) e first) [
           | inl info ↦ info_named e (info_put_by (writes_info bag renewal) e info)
           | inr own ↦ manifest_named e
-              (kept (λ (x : File). not (is_kept bag x.0)) (payload_manifests bag renewal) e own).1
+              (kept (λ (x : File). not (is_kept bag renewal x.0)) (payload_manifests bag renewal) e own).1
         ]
-        | inr last ↦ elim (contains_cases (declaration_file bag) [] e
-            (kept (λ (x : File). not (is_kept bag x.0)) (declaration_file bag ∷ []) e last).1) [
+        | inr last ↦ elim (contains_cases (declaration_file bag renewal) [] e
+            (kept (λ (x : File). not (is_kept bag renewal x.0)) (declaration_file bag renewal ∷ []) e last).1) [
               | inl is ↦ subst (Contains named) is declaration_named
               | inr none ↦ absurd (contains_nothing e none)
             ]
@@ -271,16 +271,16 @@ module _ (bag : Bag) (renewal : Renewal) where
   in_put e h = contains_back old_files put_files e h
 
   in_first : (e : File) → Contains (first_files bag renewal) e → Contains all_of e
-  in_first e h = in_put e (contains_front (first_files bag renewal) (last_files bag) e h)
+  in_first e h = in_put e (contains_front (first_files bag renewal) (last_files bag renewal) e h)
 
-  declaration_there : Contains all_of (declaration_file bag)
-  declaration_there = elim (kept_or_written bag (tag_path Declaration) declaration_text) [
-    | inl was ↦ contains_front old_files put_files (declaration_file bag)
-        (in_old Declaration (kept_or bag (tag_path Declaration) declaration_text) (declaration_name was.0) was.1)
-    | inr written ↦ in_put (declaration_file bag)
-        (contains_back (first_files bag renewal) (last_files bag) (declaration_file bag)
-        (passed (λ (x : File). not (is_kept bag x.0)) (declaration_file bag ∷ []) (declaration_file bag)
-        (ap not written.0) (contains_first (declaration_file bag) [])))
+  declaration_there : Contains all_of (declaration_file bag renewal)
+  declaration_there = elim (kept_or_written bag renewal (tag_path Declaration) declaration_text) [
+    | inl was ↦ contains_front old_files put_files (declaration_file bag renewal)
+        (in_old Declaration (kept_or bag renewal (tag_path Declaration) declaration_text) (declaration_name was.0) was.1)
+    | inr written ↦ in_put (declaration_file bag renewal)
+        (contains_back (first_files bag renewal) (last_files bag renewal) (declaration_file bag renewal)
+        (passed (λ (x : File). not (is_kept bag renewal x.0)) (declaration_file bag renewal ∷ []) (declaration_file bag renewal)
+        (ap not written.0) (contains_first (declaration_file bag renewal) [])))
   ]
 
   abbrev info_put : List File
@@ -289,7 +289,7 @@ module _ (bag : Bag) (renewal : Renewal) where
   info_there_by : (b : Bool) → writes_info bag renewal ≡ b → (q c : List ℕ) → Contains (info_files bag renewal) (q, c)
       → Contains all_of (q, c)
   info_there_by true is q c h =
-      in_first (q, c) (contains_front info_put (unkept bag (payload_manifests bag renewal)) (q, c)
+      in_first (q, c) (contains_front info_put (unkept bag renewal (payload_manifests bag renewal)) (q, c)
       (subst (λ b. Contains (cond b (info_files bag renewal) []) (q, c)) (sym is) h))
   info_there_by false is q c h =
       let text : List ℕ = text_on_lines (new_elements bag renewal) in
@@ -303,21 +303,21 @@ module _ (bag : Bag) (renewal : Renewal) where
   manifest_there alg has =
       let path = tag_path (Manifest Payload alg) in
       let one = payload_manifest bag renewal alg in
-      elim (kept_or_written bag path (manifest alg (payload bag))) [
+      elim (kept_or_written bag renewal path (manifest (new_rules bag renewal) alg (payload bag))) [
         | inl was ↦ contains_front old_files put_files one
-            (in_old (Manifest Payload alg) (kept_or bag path (manifest alg (payload bag)))
-            (manifest_name_in alg (and_from (is_new_alg bag renewal alg) (is_kept bag path)
+            (in_old (Manifest Payload alg) (kept_or bag renewal path (manifest (new_rules bag renewal) alg (payload bag)))
+            (manifest_name_in alg (and_from (is_new_alg bag renewal alg) (is_kept bag renewal path)
             (passes (is_new_alg bag renewal) alg has) was.0)) was.1)
         | inr written ↦ in_first one
-            (contains_back info_put (unkept bag (payload_manifests bag renewal)) one
-            (passed (λ (x : File). not (is_kept bag x.0)) (payload_manifests bag renewal) one (ap not written.0)
+            (contains_back info_put (unkept bag renewal (payload_manifests bag renewal)) one
+            (passed (λ (x : File). not (is_kept bag renewal x.0)) (payload_manifests bag renewal) one (ap not written.0)
             (mapped_contains {B = File} (payload_manifest bag renewal) (new_algs bag renewal) alg has)))
       ]
 
   named_there : (q c : List ℕ) → Contains named (q, c) → Contains all_of (q, c)
-  named_there q c h = elim (contains_either (kept_tag_files bag) (declaration_file bag ∷ others) (q, c) h) [
+  named_there q c h = elim (contains_either (kept_tag_files bag) (declaration_file bag renewal ∷ others) (q, c) h) [
     | inl old ↦ contains_front old_files put_files (q, c) (stays_in_old q c old)
-    | inr new ↦ elim (contains_cases (declaration_file bag) others (q, c) new) [
+    | inr new ↦ elim (contains_cases (declaration_file bag renewal) others (q, c) new) [
       | inl is ↦ subst (Contains all_of) is declaration_there
       | inr k ↦ elim (contains_either (info_files bag renewal) (payload_manifests bag renewal) (q, c) k) [
         | inl info ↦ info_there_by (writes_info bag renewal) refl q c info
@@ -329,7 +329,7 @@ module _ (bag : Bag) (renewal : Renewal) where
   ]
 
   -- what keeps its bytes, and what is put, are what tag manifests name
-  pub all_named : in_path_order (old_files ++ (first_files bag renewal ++ last_files bag)) ≡ named_tag_files bag renewal
+  pub all_named : in_path_order (old_files ++ (first_files bag renewal ++ last_files bag renewal)) ≡ named_tag_files bag renewal
   all_named =
       same_in_order all_of named (λ q c h. elim (contains_either old_files put_files (q, c) h) [
         | inl old ↦ old_named q c old

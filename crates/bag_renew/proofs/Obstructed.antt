@@ -6,7 +6,8 @@ use Rattle.bag_renew.proofs.Common.{contains_either, contains_first, contains_ma
 use Rattle.bag_renew.proofs.Common.{list_any, and_from, and_parts, tag_path, algs, Alg, Kind, Payload, Tag}
 use Rattle.bag_renew.proofs.Common.{TagName, Declaration, Info, Fetch, Manifest, bytes_eq-Decides, codes, false_from_ne_true}
 use Rattle.bag_renew.proofs.Common.{first_component, get_or, is_payload_path, suc, take, zero}
-use Rattle.bag_renew.proofs.Common.{Bag, HasFile, files_of, has_file, under, keeps, new_algs, Renewal, begun_file}
+use Rattle.bag_renew.proofs.Common.{Bag, HasFile, files_of, has_file, under, keeps, new_algs, new_rules, Renewal}
+use Rattle.bag_renew.proofs.Common.{begun_file, both_ways, bytes_eq, is_kept_alg, IsTrue, one_text, rules_in, text_itself}
 use Rattle.std.specs.Prelude.{MatchOption, find}
 use Rattle.std.specs.Option.{option_map}
 use Rattle.std.proofs.lemmas.Simd.{map-map}
@@ -14,18 +15,19 @@ use Rattle.bag_text.specs.Path.{slash}
 use Rattle.bag_text.specs.declared.rules.Rules.{Rules}
 use Rattle.bag_text.specs.declared.rules.Rules.TheVariants.{V10, V097}
 use Rattle.bag_facts.proofs.ListedFiles.{file_listed, listed_file}
-use Rattle.bag_facts.specs.Facts.{IsByV10, rules_in}
-use Rattle.bag_facts.specs.FactsOfBag.{IsFactsOf}
+use Rattle.bag_facts.specs.FactsOfBag.{IsByV097, IsFactsOf}
 use Rattle.bag_facts.specs.declared.facts.Facts.{Facts}
-use Rattle.bag_tags.specs.Writable.{begins_with_mark}
+use Rattle.bag_stages.specs.TagFiles.{named_in}
+use Rattle.bag_tags.specs.Writable as by_rules
 use Rattle.bag_tree.proofs.ListingLaw.{listings_are_of_the_bag}
 use Rattle.bag_tree.proofs.Within.{prefix_test}
-use Rattle.bag_tree.specs.Bag.{LacksFile}
 use Rattle.bag_tree.specs.declared.listing.FileEntry.{FileEntry}
-use Rattle.bag_renew.specs.Obstacles.{AreFree, HasBelow, HasNoObstacle, IsInTheWay, IsNamedAsTag, first_unnameable}
-use Rattle.bag_renew.specs.Obstacles.{has_percent, is_below, is_below_some, is_unnameable}
+use Rattle.bag_renew.specs.Obstacles.{AreFree, HasBelow, HasNoObstacle, IsInTheWay, IsNamedAsTag, first_unlisted}
+use Rattle.bag_renew.specs.Obstacles.{first_unnameable, has_percent, is_below, is_below_some, is_unlisted}
+use Rattle.bag_renew.specs.Obstacles.{is_unnameable, is_unnameable_by}
 use Rattle.bag_renew.specs.Obstacles.{manifest_names, paths_of, reserved_names}
-use Rattle.bag_renew.specs.Renewed.{is_v10}
+use Rattle.bag_renew.specs.Renewed.{is_v10, writes_payload_manifest}
+use Rattle.bag_renew.specs.Telling.{AreStillListed, IsNamedByKept, IsToBeNamed}
 use Rattle.bag_tree.specs.Listing.{entry_of_file}
 
 module _ {A : Type 0} (p : A → Bool) where
@@ -143,6 +145,12 @@ last_false true k b old e = grind arith
 last_false false true b old e = grind arith
 last_false false false b old e = e
 
+-- what isn't one of two things together, while it is the first
+not_false : (a b : Bool) → a ≡ true → (a && not b) ≡ false → b ≡ true
+not_false true true is e = refl
+not_false true false is e = absurd (false≢true (sym e))
+not_false false b is e = absurd (false≢true is)
+
 module _ (bag : Bag) (facts : Facts) (of : IsFactsOf bag facts) where
   abbrev files : List FileEntry
   files = facts.listing.files
@@ -156,15 +164,30 @@ module _ (bag : Bag) (facts : Facts) (of : IsFactsOf bag facts) where
       ∙ map-map path entry_of_file (files_of bag)
 
   -- the first of the listed files that can't be named is the first of the bag
-  pub first_is : (is_kept : Bool) (listed : List FileEntry) (found : Option FileEntry) → is_kept ≡ keeps bag
-      → listed ≡ files → found ≡ find (λ entry. is_unnameable is_kept entry.path) listed
-      → option_map path found ≡ first_unnameable bag
-  first_is is_kept listed found is same first =
+  first_where : (test : List ℕ → Bool) (listed : List FileEntry) (found : Option FileEntry) → listed ≡ files
+      → found ≡ find (λ entry. test entry.path) listed → option_map path found ≡ find test (paths_of bag)
+  first_where test listed found same first =
       ap (option_map path) first
-      ∙ ap (λ entries. option_map path (find (λ entry. is_unnameable is_kept entry.path) entries)) same
-      ∙ found_mapped path (is_unnameable is_kept) files
-      ∙ ap (find (is_unnameable is_kept)) paths_are
-      ∙ ap (λ b. find (is_unnameable b) (paths_of bag)) is
+      ∙ ap (λ entries. option_map path (find (λ entry. test entry.path) entries)) same
+      ∙ found_mapped path test files
+      ∙ ap (find test) paths_are
+
+  pub first_is : (renewal : Renewal) (rules : Rules) (is_kept : Bool) (listed : List FileEntry) (found : Option FileEntry)
+      → rules ≡ new_rules bag renewal → is_kept ≡ keeps bag renewal → listed ≡ files
+      → found ≡ find (λ entry. is_unnameable_by rules is_kept entry.path) listed
+      → option_map path found ≡ first_unnameable bag renewal
+  first_is renewal rules is_kept listed found by is same first =
+      first_where (is_unnameable_by rules is_kept) listed found same first
+      ∙ (λ i. find (is_unnameable_by (by i) (is i)) (paths_of bag))
+
+  -- so is the first that no kept manifest names
+  pub first_unlisted_is : (renewal : Renewal) (found : Option FileEntry)
+      → writes_payload_manifest bag renewal ≡ false
+      → found ≡ find (λ entry. is_unlisted bag renewal entry.path) files
+      → option_map path found ≡ first_unlisted bag renewal
+  first_unlisted_is renewal found none first =
+      first_where (is_unlisted bag renewal) files found refl first
+      ∙ sym (ap (λ b. cond b None (find (is_unlisted bag renewal) (paths_of bag))) none)
 
   path_there : (name : List ℕ) → HasFile bag name → Contains (map path files) name
   path_there name has = file_listed bag files name of.listing.files has
@@ -217,32 +240,51 @@ module _ (bag : Bag) (facts : Facts) (of : IsFactsOf bag facts) where
           (sym (none_passes is_found listed some.0 (sym none) (subst (λ xs. Contains xs some.0) (sym same) some.1))
           ∙ and_from (not (is_payload_path some.0.path)) (list_any (λ n. is_below n some.0.path) names) other above)
 
-  -- where none is found, each path can be named
-  module _ (none : first_unnameable bag ≡ None) (name : List ℕ) (has : HasFile bag name) where
-    nameable : (begins_with_mark name || (not (keeps bag) && has_percent name)) ≡ false
-    nameable =
-        none_passes (is_unnameable (keeps bag)) (paths_of bag) name none
-        (subst (λ paths. Contains paths name) paths_are (path_there name has))
+  among_paths : (name : List ℕ) → HasFile bag name → Contains (paths_of bag) name
+  among_paths name has = subst (λ paths. Contains paths name) paths_are (path_there name has)
 
-    pub unmarked : begins_with_mark name ≡ false
-    unmarked = first_false (begins_with_mark name) (not (keeps bag) && has_percent name) nameable
+  module _ (renewal : Renewal) where
+    -- where none is found, each path can be named
+    module _ (none : first_unnameable bag renewal ≡ None) (name : List ℕ) (has : HasFile bag name) where
+      abbrev unnamed : Bool
+      unnamed = by_rules.is_unnameable (new_rules bag renewal) name
 
-    pub unescaped : keeps bag ≡ false → has_percent name ≡ false
-    unescaped old = last_false (begins_with_mark name) (keeps bag) (has_percent name) old nameable
+      none_found : (unnamed || (not (keeps bag renewal) && has_percent name)) ≡ false
+      none_found = none_passes (is_unnameable bag renewal) (paths_of bag) name none (among_paths name has)
+
+      pub nameable : unnamed ≡ false
+      nameable = first_false unnamed (not (keeps bag renewal) && has_percent name) none_found
+
+      pub unescaped : keeps bag renewal ≡ false → has_percent name ≡ false
+      unescaped old = last_false unnamed (keeps bag renewal) (has_percent name) old none_found
+
+    -- where none is unlisted, each file of the payload is named by a manifest that is kept
+    module _ (none : find (λ entry. is_unlisted bag renewal entry.path) files ≡ None) (name : List ℕ)
+        (to_name : IsToBeNamed bag Payload name) where
+      abbrev naming : Alg → Bool
+      naming alg = is_kept_alg bag renewal alg && list_any (bytes_eq name) (named_in bag Payload alg)
+
+      some_names : list_any naming algs ≡ true
+      some_names =
+          not_false (is_payload_path name) (list_any naming algs) to_name.1
+          (none_passes (is_unlisted bag renewal) (paths_of bag) name
+          (sym (first_where (is_unlisted bag renewal) files None refl (sym none))) (among_paths name to_name.0))
+
+      pub named_by_kept : IsNamedByKept bag renewal name
+      named_by_kept =
+          let one = from_any naming algs some_names in
+          let both = and_parts (is_kept_alg bag renewal one.0) (list_any (bytes_eq name) (named_in bag Payload one.0)) one.2
+          in
+          let path = from_any (bytes_eq name) (named_in bag Payload one.0) both.1 in (
+            one.0,
+            both.0,
+            subst (Contains (named_in bag Payload one.0)) (sym (one_text name path.0 path.2)) path.1,
+          )
 
 -- what holds where nothing was found
 pub at_none : {A : Type 0} (P : Type 0) (Q : A → Type 0) (found : Option A) → found ≡ None → MatchOption found P Q → P
 at_none P Q None e h = h
 at_none P Q (Some x) e h = let clash : Some x ≡ None = e in cc
-
-by_rules : (rules : Rules) → is_v10 rules ≡ true → rules ≡ V10
-by_rules V10 e = refl
-by_rules V097 e = cc
-
-either : (k t : Bool) → (not k && not t) ≡ false → (k ≡ true) ⊎ (t ≡ true)
-either true t e = inl refl
-either false true e = inr refl
-either false false e = absurd (false≢true (sym e))
 
 fetch_by : (k h : Bool) → (not k && h) ≡ false → (k ≡ true) ⊎ (h ≡ false)
 fetch_by true h e = inl refl
@@ -254,21 +296,48 @@ kept_or_not false P old = inr (old refl)
 
 -- nothing keeps the bag from being renewed, where each of these doesn't
 module _ (bag : Bag) (renewal : Renewal) (facts : Facts) (of : IsFactsOf bag facts)
-    (version : (not (keeps bag) && not renewal.to_1_0) ≡ false)
-    (fetch : (not (keeps bag) && has_file bag (tag_path Fetch)) ≡ false)
+    (fetch : (not (keeps bag renewal) && has_file bag (tag_path Fetch)) ≡ false)
     (some_alg : new_algs bag renewal ≢ []) (free : AreFree bag) (own : ¬ (IsNamedAsTag bag begun_file))
-    (none : first_unnameable bag ≡ None) where
-  old_fetch : (keeps bag ≡ true) ⊎ (has_file bag (tag_path Fetch) ≡ false) → IsByV10 bag ⊎ LacksFile bag (tag_path Fetch)
-  old_fetch (inl new) = inl (by_rules (rules_in bag) new)
-  old_fetch (inr lacks) = inr lacks
-
+    (none : first_unnameable bag renewal ≡ None) (listed : AreStillListed bag renewal) where
   pub no_obstacle : HasNoObstacle bag renewal
   no_obstacle = record {
-    version = either (keeps bag) renewal.to_1_0 version;
-    fetch = old_fetch (fetch_by (keeps bag) (has_file bag (tag_path Fetch)) fetch);
+    fetch = fetch_by (keeps bag renewal) (has_file bag (tag_path Fetch)) fetch;
     some_alg = some_alg;
     free = free;
     own = own;
-    unmarked = unmarked bag facts of none;
-    spelled = kept_or_not (keeps bag) _ (λ old name has. unescaped bag facts of none name has old);
+    nameable = nameable bag facts of renewal none;
+    spelled = kept_or_not (keeps bag renewal) _ (λ old name has. unescaped bag facts of renewal none name has old);
+    listed = listed;
   }
+
+-- ---- what the rules, or a manifest that is written, tell of what is listed
+
+v10_or_v097 : (rules : Rules) (b : Bool) → (is_v10 rules || b) ≡ true → (rules ≡ V10) ⊎ (b ≡ true)
+v10_or_v097 V10 b is = inl refl
+v10_or_v097 V097 b is = inr is
+
+neither_of : (rules : Rules) (b : Bool) → (is_v10 rules || b) ≡ false → (rules ≡ V097) × (b ≡ false)
+neither_of V10 b is = absurd (false≢true (sym is))
+neither_of V097 b is = (refl, is)
+
+module _ (bag : Bag) (renewal : Renewal) where
+  pub all_listed : (is_v10 (rules_in bag) || writes_payload_manifest bag renewal) ≡ true → AreStillListed bag renewal
+  all_listed is = elim (v10_or_v097 (rules_in bag) (writes_payload_manifest bag renewal) is) [
+    | inl v10 ↦ inl v10
+    | inr writes ↦ inr (inl writes)
+  ]
+
+  -- else it is of 0.97, and none is written
+  pub none_names_all : (is_v10 (rules_in bag) || writes_payload_manifest bag renewal) ≡ false
+      → IsByV097 bag × (writes_payload_manifest bag renewal ≡ false)
+  none_names_all is = neither_of (rules_in bag) (writes_payload_manifest bag renewal) is
+
+-- it is named just where it is in the list of names
+pub names_by : (path : List ℕ) (paths : List (List ℕ)) (b : Bool) → (IsTrue b → Contains paths path)
+    → (Contains paths path → IsTrue b) → b ≡ list_any (bytes_eq path) paths
+names_by path paths b to back =
+    both_ways b (list_any (bytes_eq path) paths)
+    (λ is. any_from (bytes_eq path) paths path (to is) (text_itself path))
+    (λ some.
+    let one = from_any (bytes_eq path) paths some in
+    back (subst (Contains paths) (sym (one_text path one.0 one.2)) one.1))

@@ -3,8 +3,9 @@ use Rattle.bag_renew.proofs.Common.{◌≡◌, ◌++◌, ◌∷◌, ◌∙◌, �
 use Rattle.bag_renew.proofs.Common.{map, refl, sym, subst, All-append, All-cons, All-nil, map-append}
 use Rattle.bag_renew.proofs.Common.{in_base, Info, Declaration, Manifest, Payload, Tag, TagName, Kind, tag_path, Alg}
 use Rattle.bag_renew.proofs.Common.{File, FileChange, Put, Remove, begun_file, put, with_path}
-use Rattle.bag_tags.specs.Entry.{manifest_text}
-use Rattle.bag_tags.specs.Summed.{manifests_of, summed_entry}
+use Rattle.bag_text.specs.declared.rules.Rules.{Rules}
+use Rattle.bag_tags.specs.Entry.{manifest_text_by}
+use Rattle.bag_tags.specs.Summed.{manifests_by, summed_entry}
 use Rattle.bag_tree.specs.ChangeFiles.{IsOfFile}
 use Rattle.bag_renew.specs.Composing.{AreOfFiles, removals_of, tag_manifests_of}
 use Rattle.bag_tags.specs.declared.summed.SummedFile.{SummedFile}
@@ -33,31 +34,32 @@ pub removals_of_files : (kind : Kind) (algs : List Alg) → AreOfFiles (removals
 removals_of_files kind algs =
     each_of_file (λ (alg : Alg). Remove (tag_path (Manifest kind alg))) (λ alg. in_base (Manifest kind alg)) algs
 
-abbrev text_for : Alg → List SummedFile → List ℕ
-text_for alg files = manifest_text (map (summed_entry alg) files)
+abbrev text_for : Rules → Alg → List SummedFile → List ℕ
+text_for rules alg files = manifest_text_by rules (map (summed_entry alg) files)
 
-manifests_of_files : (kind : Kind) (algs : List Alg) (files : List SummedFile)
-    → AreOfFiles (map put (manifests_of kind algs files))
-manifests_of_files kind [] files = none_of_files
-manifests_of_files kind (alg ∷ algs) files =
-    All-cons (IsOfFile begun_file) _ _ (tag_put (Manifest kind alg) (text_for alg files))
-    (manifests_of_files kind algs files)
+manifests_of_files : (rules : Rules) (kind : Kind) (algs : List Alg) (files : List SummedFile)
+    → AreOfFiles (map put (manifests_by rules kind algs files))
+manifests_of_files rules kind [] files = none_of_files
+manifests_of_files rules kind (alg ∷ algs) files =
+    All-cons (IsOfFile begun_file) _ _ (tag_put (Manifest kind alg) (text_for rules alg files))
+    (manifests_of_files rules kind algs files)
 
-pub tag_manifests_of_files : (algs : List Alg) (files : List SummedFile) → AreOfFiles (tag_manifests_of algs files)
-tag_manifests_of_files algs files = manifests_of_files Tag algs files
+pub tag_manifests_of_files : (rules : Rules) (algs : List Alg) (files : List SummedFile)
+    → AreOfFiles (tag_manifests_of rules algs files)
+tag_manifests_of_files rules algs files = manifests_of_files rules Tag algs files
 
 info_of_files : (info : Option (List ℕ)) → AreOfFiles (map put (with_path (tag_path Info) info))
 info_of_files None = none_of_files
 info_of_files (Some text) = one_of_files (Put (tag_path Info) text) (tag_put Info text)
 
 -- the files that are put first
-pub first_of_files : (made : List File) (info : Option (List ℕ)) (algs : List Alg) (files : List SummedFile)
-    → made ≡ with_path (tag_path Info) info ++ manifests_of Payload algs files → AreOfFiles (map put made)
-first_of_files made info algs files is =
+pub first_of_files : (rules : Rules) (made : List File) (info : Option (List ℕ)) (algs : List Alg) (files : List SummedFile)
+    → made ≡ with_path (tag_path Info) info ++ manifests_by rules Payload algs files → AreOfFiles (map put made)
+first_of_files rules made info algs files is =
     let some = with_path (tag_path Info) info in
-    subst AreOfFiles (sym ((λ i. map put (is i)) ∙ map-append put some (manifests_of Payload algs files)))
-    (both_of_files (map put some) (map put (manifests_of Payload algs files)) (info_of_files info)
-    (manifests_of_files Payload algs files))
+    subst AreOfFiles (sym ((λ i. map put (is i)) ∙ map-append put some (manifests_by rules Payload algs files)))
+    (both_of_files (map put some) (map put (manifests_by rules Payload algs files)) (info_of_files info)
+    (manifests_of_files rules Payload algs files))
 
 -- and last
 pub last_of_files : (made : List File) (file : File) (text : List ℕ) (b : Bool) → file ≡ (tag_path Declaration, text)

@@ -139,13 +139,13 @@ module _ (bag : Bag) (renewal : Renewal) (asks : AsksNoReading renewal) where
   had true added dropped none new = new
   had false added dropped none new = absurd (false≢true (sym (ap (λ a. a && not dropped) none) ∙ new))
 
-  kept : keeps bag ≡ true → (alg : Alg) → is_new_alg bag renewal alg ≡ true → is_kept_alg bag renewal alg ≡ true
+  kept : keeps bag renewal ≡ true → (alg : Alg) → is_new_alg bag renewal alg ≡ true → is_kept_alg bag renewal alg ≡ true
   kept is alg new =
       kept_is bag renewal is alg
       ∙ had (has_payload_manifest bag alg) (has_member renewal.added alg) (has_member renewal.dropped alg)
       (asks.added alg) new
 
-  none_written : keeps bag ≡ true → writes_payload_manifest bag renewal ≡ false
+  none_written : keeps bag renewal ≡ true → writes_payload_manifest bag renewal ≡ false
   none_written is =
       let test = λ (alg : Alg). not (is_kept_alg bag renewal alg) in
       list_any_none test (new_algs bag renewal)
@@ -159,12 +159,12 @@ module _ (bag : Bag) (renewal : Renewal) (asks : AsksNoReading renewal) where
   neither false false drops none (inl is) = absurd (false≢true is)
   neither false false drops none (inr is) = is
 
-  none_read : keeps bag ≡ true → reads_payload bag renewal ≡ false
+  none_read : keeps bag renewal ≡ true → reads_payload bag renewal ≡ false
   none_read is =
       neither (writes_payload_manifest bag renewal) renewal.unchecked (drops_payload_manifest bag renewal)
       (none_written is) (elim asks.dropped [ inl un ↦ inl un | inr none ↦ inr (none_dropped bag renewal none) ])
 
-  by_version : HasNoObstacle bag renewal → keeps bag ≡ true
+  by_version : HasNoObstacle bag renewal → keeps bag renewal ≡ true
   by_version free =
       elim free.version [ inl is ↦ is | inr to ↦ absurd (false≢true (sym asks.version ∙ to)) ]
 

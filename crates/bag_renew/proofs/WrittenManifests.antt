@@ -4,12 +4,14 @@ use Rattle.bag_renew.proofs.Common.{Option, None, Some, map, filter, refl, sym, 
 use Rattle.bag_renew.proofs.Common.{contains_behind, contains_first, any_from, algs, is_payload_path}
 use Rattle.bag_renew.proofs.Common.{and_parts, false≢true, or_left, tag_path, Payload, Tag, Info, Manifest, Alg, Bag, file}
 use Rattle.bag_renew.proofs.Common.{files_of, payload, File, is_kept, is_new_alg, info_files, manifest, new_algs}
+use Rattle.bag_renew.proofs.Common.{new_rules}
 use Rattle.bag_renew.proofs.Common.{new_elements, payload_manifest, payload_manifests, unkept, with_path, writes_info}
-use Rattle.bag_renew.proofs.Common.{Renewal, Tag}
+use Rattle.bag_renew.proofs.Common.{Renewal}
 use Rattle.bag_text.proofs.AlgSets.{each_is_listed}
-use Rattle.bag_tags.specs.Entry.{manifest_text}
+use Rattle.bag_text.specs.declared.rules.Rules.{Rules}
+use Rattle.bag_tags.specs.Entry.{manifest_text_by}
 use Rattle.bag_tags.specs.OnLines.{text_on_lines}
-use Rattle.bag_tags.specs.Summed.{manifests_of, summed_entry}
+use Rattle.bag_tags.specs.Summed.{manifests_by, summed_entry}
 use Rattle.bag_renew.proofs.AlgsMade.{any_where, has_member_where}
 use Rattle.bag_renew.proofs.AlgsWhere.{alg_in, passes}
 use Rattle.bag_renew.proofs.KeptOr.{kept_or_written}
@@ -40,11 +42,12 @@ mapped_alike f g (x ∷ xs) same =
     λ i. same x (contains_first x xs) i ∷ rest i
 
 -- the tag manifests that are put
-pub tag_manifests_are : (algs : List Alg) (files : List File) (summed : List SummedFile) → AreSummed algs files summed
-    → manifests_of Tag algs summed ≡ map (λ alg. (tag_path (Manifest Tag alg), manifest alg files)) algs
-tag_manifests_are algs files summed are =
+pub tag_manifests_are : (rules : Rules) (algs : List Alg) (files : List File) (summed : List SummedFile)
+    → AreSummed algs files summed
+    → manifests_by rules Tag algs summed ≡ map (λ alg. (tag_path (Manifest Tag alg), manifest rules alg files)) algs
+tag_manifests_are rules algs files summed are =
     mapped_alike {B = File} _ _ algs (λ alg has i.
-    (tag_path (Manifest Tag alg), manifest_text (entries_are algs alg has files summed are i)))
+    (tag_path (Manifest Tag alg), manifest_text_by rules (entries_are algs alg has files summed are i)))
 
 no_members : {A : Type 0} (xs : List A) → ((x : A) → Contains xs x → ⊥) → xs ≡ []
 no_members [] none = refl
@@ -56,10 +59,10 @@ module _ (bag : Bag) (renewal : Renewal) where
 
   -- the manifest of an algorithm that isn't kept
   abbrev new_manifest : Alg → File
-  new_manifest alg = (path_of alg, manifest alg (payload bag))
+  new_manifest alg = (path_of alg, manifest (new_rules bag renewal) alg (payload bag))
 
   abbrev is_written : Alg → Bool
-  is_written alg = is_new_alg bag renewal alg && not (is_kept bag (path_of alg))
+  is_written alg = is_new_alg bag renewal alg && not (is_kept bag renewal (path_of alg))
 
   -- ---- which are written
 
@@ -72,39 +75,39 @@ module _ (bag : Bag) (renewal : Renewal) where
       same_where _ is_written (λ alg.
       (λ i. has_member_where (is_new_alg bag renewal) alg i
       && not (has_member_where (is_kept_alg bag renewal) alg i))
-      ∙ both_by (is_new_alg bag renewal alg) (is_kept bag (path_of alg)))
+      ∙ both_by (is_new_alg bag renewal alg) (is_kept bag renewal (path_of alg)))
 
   written_new : (alg : Alg) → Contains (algs_where is_written) alg → is_new_alg bag renewal alg ≡ true
   written_new alg has =
-      (and_parts (is_new_alg bag renewal alg) (not (is_kept bag (path_of alg))) (passes is_written alg has)).0
+      (and_parts (is_new_alg bag renewal alg) (not (is_kept bag renewal (path_of alg))) (passes is_written alg has)).0
 
-  manifest_is : (alg : Alg) → is_kept bag (path_of alg) ≡ false → payload_manifest bag renewal alg ≡ new_manifest alg
-  manifest_is alg other = elim (kept_or_written bag (path_of alg) (manifest alg (payload bag))) [
+  manifest_is : (alg : Alg) → is_kept bag renewal (path_of alg) ≡ false → payload_manifest bag renewal alg ≡ new_manifest alg
+  manifest_is alg other = elim (kept_or_written bag renewal (path_of alg) (manifest (new_rules bag renewal) alg (payload bag))) [
     | inl kept ↦ absurd (false≢true (sym other ∙ kept.0))
     | inr written ↦ λ i. (path_of alg, written.1 i)
   ]
 
-  one_by : (alg : Alg) (new kept : Bool) (front : List Alg) (rest : List Alg) → is_kept bag (path_of alg) ≡ kept
-      → unkept bag (map (payload_manifest bag renewal) front) ≡ map new_manifest rest
-      → unkept bag (map (payload_manifest bag renewal) (cond new (alg ∷ front) front))
+  one_by : (alg : Alg) (new kept : Bool) (front : List Alg) (rest : List Alg) → is_kept bag renewal (path_of alg) ≡ kept
+      → unkept bag renewal (map (payload_manifest bag renewal) front) ≡ map new_manifest rest
+      → unkept bag renewal (map (payload_manifest bag renewal) (cond new (alg ∷ front) front))
       ≡ map new_manifest (cond (new && not kept) (alg ∷ rest) rest)
   one_by alg false kept front rest is same = same
   one_by alg true true front rest is same =
-      ap (λ b. cond (not b) (payload_manifest bag renewal alg ∷ unkept bag (map (payload_manifest bag renewal) front))
-      (unkept bag (map (payload_manifest bag renewal) front))) is ∙ same
+      ap (λ b. cond (not b) (payload_manifest bag renewal alg ∷ unkept bag renewal (map (payload_manifest bag renewal) front))
+      (unkept bag renewal (map (payload_manifest bag renewal) front))) is ∙ same
   one_by alg true false front rest is same =
-      ap (λ b. cond (not b) (payload_manifest bag renewal alg ∷ unkept bag (map (payload_manifest bag renewal) front))
-      (unkept bag (map (payload_manifest bag renewal) front))) is ∙ (λ i. manifest_is alg is i ∷ same i)
+      ap (λ b. cond (not b) (payload_manifest bag renewal alg ∷ unkept bag renewal (map (payload_manifest bag renewal) front))
+      (unkept bag renewal (map (payload_manifest bag renewal) front))) is ∙ (λ i. manifest_is alg is i ∷ same i)
 
   unkept_of : (some : List Alg)
-      → unkept bag (map (payload_manifest bag renewal) (filter (is_new_alg bag renewal) some))
+      → unkept bag renewal (map (payload_manifest bag renewal) (filter (is_new_alg bag renewal) some))
       ≡ map new_manifest (filter is_written some)
   unkept_of [] = refl
   unkept_of (alg ∷ some) =
-      one_by alg (is_new_alg bag renewal alg) (is_kept bag (path_of alg)) (filter (is_new_alg bag renewal) some)
+      one_by alg (is_new_alg bag renewal alg) (is_kept bag renewal (path_of alg)) (filter (is_new_alg bag renewal) some)
       (filter is_written some) refl (unkept_of some)
 
-  unkept_are : unkept bag (payload_manifests bag renewal) ≡ map new_manifest (algs_where is_written)
+  unkept_are : unkept bag renewal (payload_manifests bag renewal) ≡ map new_manifest (algs_where is_written)
   unfolding algs_where
   unkept_are = unkept_of algs
 
@@ -115,7 +118,7 @@ module _ (bag : Bag) (renewal : Renewal) where
       or_left (writes_payload_manifest bag renewal) (not renewal.unchecked && drops_payload_manifest bag renewal)
       (any_where (is_new_alg bag renewal) (λ alg. not (is_kept_alg bag renewal alg))
       ∙ any_from (λ alg. is_new_alg bag renewal alg && not (is_kept_alg bag renewal alg)) algs alg (each_is_listed alg)
-      (both_by (is_new_alg bag renewal alg) (is_kept bag (path_of alg)) ∙ is))
+      (both_by (is_new_alg bag renewal alg) (is_kept bag renewal (path_of alg)) ∙ is))
 
   -- ---- the manifests that are put, of the files that are read
 
@@ -128,15 +131,15 @@ module _ (bag : Bag) (renewal : Renewal) where
       or_left (reads_payload bag renewal) (not (is_payload_path e.0)) read) (files_of bag)
 
   read_manifest : (alg : Alg) → Contains (algs_where is_written) alg
-      → ◌≡◌ {A = File} (path_of alg, manifest alg (payload_of read_files)) (new_manifest alg)
+      → ◌≡◌ {A = File} (path_of alg, manifest (new_rules bag renewal) alg (payload_of read_files)) (new_manifest alg)
   read_manifest alg has =
       let read = reads_where_written alg (passes is_written alg has) in
-      λ i. (path_of alg, manifest alg (payload_read read i))
+      λ i. (path_of alg, manifest (new_rules bag renewal) alg (payload_read read i))
 
-  pub manifests_put : manifests_for (written_algs bag renewal) (payload_of read_files)
-      ≡ unkept bag (payload_manifests bag renewal)
+  pub manifests_put : manifests_for (new_rules bag renewal) (written_algs bag renewal) (payload_of read_files)
+      ≡ unkept bag renewal (payload_manifests bag renewal)
   manifests_put =
-      ap (λ some. manifests_for some (payload_of read_files)) written_are
+      ap (λ some. manifests_for (new_rules bag renewal) some (payload_of read_files)) written_are
       ∙ mapped_alike {B = File} _ new_manifest (algs_where is_written) read_manifest ∙ sym unkept_are
 
   -- each is of a new algorithm

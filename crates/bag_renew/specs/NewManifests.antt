@@ -69,10 +69,15 @@ pub record HasChecked (facts : Facts) (with_payload : Bool) (algs : List Alg) (o
   pub of_bag : IsTrue old.honest → IsFactsOf old.bag facts
   pub checked : AreChecked old facts (to_read with_payload facts.listing.files) algs summed info
 
--- so it was with all listed files
-abbrev pub HasCheckedAll : List Alg → TreeState → TreeState → List SummedFile → Type 0
-HasCheckedAll algs old new summed =
+-- the rules of each bag whose facts these are
+abbrev pub AreRulesOf : Facts → Rules → Type 0
+AreRulesOf facts rules = (bag : Bag) → IsFactsOf bag facts → rules ≡ rules_in bag
+
+-- so it was with all listed files, and these are the rules
+abbrev pub HasCheckedAll : Rules → List Alg → TreeState → TreeState → List SummedFile → Type 0
+HasCheckedAll rules algs old new summed =
     (facts : Facts) × (info : List ℕ) × HasChecked facts true algs old new summed info
+    × AreRulesOf facts rules
 
 -- This is the bag's first fault; or the tree refused to list its files or to read one, or memory ran
 -- out.

@@ -8,6 +8,7 @@ use Rattle.bag_text.specs.Alg.{algs}
 use Rattle.bag_text.specs.Path.{is_payload_path, under}
 use Rattle.bag_text.specs.Spelling.{percent}
 use Rattle.bag_text.specs.declared.alg.Alg.{Alg}
+use Rattle.bag_text.specs.declared.rules.Rules.{Rules}
 use Rattle.bag_read.specs.ManifestName.{tag_path}
 use Rattle.bag_read.specs.declared.kind.Kind.{Kind}
 use Rattle.bag_read.specs.declared.kind.Kind.TheVariants.{Payload, Tag}
@@ -55,12 +56,16 @@ IsInTheWay bag name =
 abbrev pub has_percent : Path → Bool
 has_percent path = list_any (λ c. c == percent) path
 
+-- a path that no line of a manifest names by these rules; or, where nothing is kept, one with a %
+abbrev pub is_unnameable_by : Rules → Bool → Path → Bool
+is_unnameable_by rules is_kept path =
+    by_rules.is_unnameable rules path || (not is_kept && has_percent path)
+
 -- a path that no line of a new manifest names; or, of a bag of 0.97 that becomes one of 1.0, which
 -- spells it otherwise, one with a %
 abbrev pub is_unnameable : Bag → Renewal → Path → Bool
 is_unnameable bag renewal path =
-    by_rules.is_unnameable (new_rules bag renewal) path
-    || (not (keeps bag renewal) && has_percent path)
+    is_unnameable_by (new_rules bag renewal) (keeps bag renewal) path
 
 abbrev pub paths_of : Bag → List Path
 paths_of bag = map (λ e. e.0) (files_of bag)

@@ -15,13 +15,24 @@ use bag_facts::Facts;
 use bag_read::Kind;
 use bag_text::{Alg, AlgSet, Rules};
 
-/// Whether a bag keeps what needs no change, as one of version 1.0 does.
-pub(crate) fn keeps(facts: &Facts) -> bool
-    ensures { (bag : Bag) → IsFactsOf bag facts.now → result ≡ spec.keeps bag }
+/// Whether a bag keeps what needs no change, as one does whose rules stay.
+pub(crate) fn keeps(facts: &Facts, renewal: &Renewal) -> bool
+    ensures { (bag : Bag) → IsFactsOf bag facts.now → result ≡ spec.keeps bag renewal.now }
 {
     match facts.rules() {
         Rules::V10 => true,
-        Rules::V097 => false,
+        Rules::V097 => !renewal.to_1_0,
+    }
+}
+
+/// The rules of the renewed bag.
+pub(crate) fn new_rules(facts: &Facts, renewal: &Renewal) -> Rules
+    ensures { (bag : Bag) → IsFactsOf bag facts.now → result ≡ spec.new_rules bag renewal.now }
+{
+    if renewal.to_1_0 {
+        Rules::V10
+    } else {
+        facts.rules()
     }
 }
 
@@ -62,7 +73,7 @@ pub(crate) fn reads_payload(facts: &Facts, renewal: &Renewal) -> bool
 }
 
 /// Whether a payload manifest is written.
-fn writes_manifest(facts: &Facts, renewal: &Renewal) -> bool
+pub(crate) fn writes_manifest(facts: &Facts, renewal: &Renewal) -> bool
     ensures { IfBagRead facts.now (λ bag.
         result ≡ spec.writes_payload_manifest bag renewal.now) }
 {
@@ -93,18 +104,18 @@ pub(crate) fn is_dropped(facts: &Facts, renewal: &Renewal, alg: Alg) -> bool
 }
 
 /// Whether its payload manifest is kept.
-fn is_kept(facts: &Facts, renewal: &Renewal, alg: Alg) -> bool
+pub(crate) fn is_kept(facts: &Facts, renewal: &Renewal, alg: Alg) -> bool
     ensures { IfBagRead facts.now (λ bag. result ≡ spec.is_kept_alg bag renewal.now alg) }
 {
-    is_new(facts, renewal, alg) && keeps_manifest(facts, alg)
+    is_new(facts, renewal, alg) && keeps_manifest(facts, renewal, alg)
 }
 
 /// Whether a payload manifest is there, of a bag that keeps what needs no change.
-fn keeps_manifest(facts: &Facts, alg: Alg) -> bool
+fn keeps_manifest(facts: &Facts, renewal: &Renewal, alg: Alg) -> bool
     ensures { IfBagRead facts.now (λ bag.
-        result ≡ spec.is_kept bag (tag_path (Manifest Payload alg))) }
+        result ≡ spec.is_kept bag renewal.now (tag_path (Manifest Payload alg))) }
 {
-    keeps(facts) && has_manifest(facts, Kind::Payload, alg)
+    keeps(facts, renewal) && has_manifest(facts, Kind::Payload, alg)
 }
 
 /// Whether a bag has a manifest. It was read then, so that no listing is gone through.

@@ -9,14 +9,14 @@ ghost use Rattle.bag_renew.specs.Renewed.{File, new_algs, writes_info};
 ghost use Rattle.bag_renew.specs.Summed.{AreSummed};
 
 use crate::Renewal;
-use crate::algorithms::new_algs;
+use crate::algorithms::{new_algs, new_rules};
 use crate::named::{named_tag_files, parted};
 use crate::removing::{dropped, opened};
 use crate::tag_files::{first_files, kept_names, last_files};
 use bag_facts::Facts;
 use bag_read::Kind;
-use bag_tags::{SummedFile, TagFile, manifests_of};
-use bag_text::{Alg, Items};
+use bag_tags::{SummedFile, TagFile, manifests_by};
+use bag_text::{Alg, Items, Rules};
 use bag_tree::FileChange;
 use std::alloc::{AllocError, Global};
 
@@ -46,13 +46,14 @@ pub(crate) fn changes_of(
         → made.items ≡ changes_from bag renewal.now files info)) }
     ensures files { IfOk result (λ made. AreOfFiles made.items) }
 {
+    let rules = new_rules(facts, renewal);
     let algs = new_algs(facts, renewal).members(alloc)?;
     let Composed { first, last, named } = compose(alloc, facts, renewal, summed, info)?;
     let mut changes = opened(alloc, facts)?;
     append(&mut changes, puts(alloc, first)?)?;
     append(&mut changes, dropped(alloc, facts, renewal)?)?;
     append(&mut changes, puts(alloc, last)?)?;
-    append(&mut changes, tag_manifests(alloc, &algs, &named)?)?;
+    append(&mut changes, tag_manifests(alloc, rules, &algs, &named)?)?;
     Ok(changes)
 }
 
@@ -74,7 +75,7 @@ fn compose(
     let kept = kept_names(alloc, facts, renewal, info.is_none())?;
     let (payload, tags) = parted(alloc, summed, &kept)?;
     let first = first_files(alloc, facts, renewal, &payload, info)?;
-    let last = last_files(alloc, facts)?;
+    let last = last_files(alloc, facts, renewal)?;
     let named = named_tag_files(alloc, tags, &first, &last, algs)?;
     Ok(Composed { first, last, named })
 }
@@ -98,13 +99,15 @@ fn puts(alloc: Global, files: Vec<TagFile>) -> Result<Vec<FileChange>, AllocErro
     Ok(changes)
 }
 
-/// The changes that put tag manifests, each of which names these files (RFC 8493, 2.2.1).
+/// The changes that put tag manifests, each of which names these files by these rules (RFC 8493,
+/// 2.2.1).
 fn tag_manifests(
     alloc: Global,
+    rules: Rules,
     algs: &[Alg],
     files: &[SummedFile],
 ) -> Result<Vec<FileChange>, AllocError>
-    ensures { IfOk result (λ made. made.items ≡ tag_manifests_of algs.now files.now) }
+    ensures { IfOk result (λ made. made.items ≡ tag_manifests_of rules algs.now files.now) }
 {
-    puts(alloc, manifests_of(alloc, Kind::Tag, algs, files)?)
+    puts(alloc, manifests_by(alloc, rules, Kind::Tag, algs, files)?)
 }

@@ -3,7 +3,8 @@ ghost use Rattle.std.specs.Prelude.{◌≡◌, IfOk, IfErr, IsTrue, OnOk, filter
 ghost use Rattle.bag_text.specs.Path.{is_payload_path};
 ghost use Rattle.bag_read.specs.declared.kind.Kind.TheVariants.{Payload};
 ghost use Rattle.bag_stages.specs.Payload.{payload};
-ghost use Rattle.bag_tags.specs.Summed.{manifests_of};
+ghost use Rattle.bag_facts.specs.Facts.{rules_in};
+ghost use Rattle.bag_tags.specs.Summed.{manifests_by};
 ghost use Rattle.bag_tree.specs.Tree.{Keeps, NothingFailed};
 ghost use Rattle.bag_report.specs.Valid.{HasNoFault};
 ghost use Rattle.bag_renew.specs.NewManifests.{AreOfSameBytes, HasCheckedAll, IsRefusedFor};
@@ -17,13 +18,13 @@ use crate::stages::check_stages;
 use crate::summed::{check_files, no_memory};
 use bag_facts::Facts;
 use bag_read::Kind;
-use bag_tags::{SummedFile, TagFile, manifests_of};
-use bag_text::{AlgSet, is_payload};
+use bag_tags::{SummedFile, TagFile, manifests_by};
+use bag_text::{AlgSet, Rules, is_payload};
 use bag_tree::Tree;
 use std::alloc::{AllocError, Global};
 
-/// The payload manifests of these algorithms, each with its name, of a bag that has no fault
-/// (RFC 8493, 2.1.3 and 3). The bag stays as it is.
+/// The payload manifests of these algorithms, each with its name, of a bag that has no fault, written
+/// by its rules (RFC 8493, 2.1.3 and 3). The bag stays as it is.
 ///
 /// It is checked in full, but for names that clash. Its tag files are read first; then each file is
 /// opened once, and the digests that manifests give for it are compared with those of the very bytes
@@ -42,18 +43,19 @@ pub fn new_manifests<T: Tree>(
     ensures valid { OnOk result
         (IsTrue (T.state tree.old).honest → HasNoFault (T.state tree.old).bag) }
     ensures manifests { IfOk result (λ made. IsTrue (T.state tree.old).honest
-        → made.items ≡ manifests_for algs (payload (T.state tree.old).bag)) }
+        → made.items ≡ manifests_for
+        (rules_in (T.state tree.old).bag) algs (payload (T.state tree.old).bag)) }
     ensures refused { IfErr result (λ fault.
         IsTrue (T.state tree.old).honest → IsRefusedFor (T.state tree.old).bag fault) }
     ensures stopped { IfErr result (MayStopUnchecked (T.state tree.old) (T.state tree.new)) }
     ensures opens { OpensAllInTurn (T.state tree.old) (T.state tree.new) }
     ensures opens_before { IfErr result (OpensBeforeFiles (T.state tree.old) (T.state tree.new)) }
 {
-    let summed = match check_bag(alloc, tree, algs) {
-        Ok(summed) => payload_only(summed),
+    let (rules, summed) = match check_bag(alloc, tree, algs) {
+        Ok((rules, summed)) => (rules, payload_only(summed)),
         Err(unchecked) => return Err(unchecked),
     };
-    match manifests(alloc, algs, &summed) {
+    match manifests(alloc, rules, algs, &summed) {
         Ok(made) => Ok(made),
         Err(AllocError) => Err(no_memory(alloc)),
     }
@@ -68,18 +70,18 @@ fn payload_only(summed: Vec<SummedFile>) -> Vec<SummedFile>
     summed
 }
 
-/// Checks a bag in full, but for names that clash, and gives the digests of its files in their
-/// order.
+/// Checks a bag in full, but for names that clash, and gives its rules and the digests of its files
+/// in their order.
 #[tactic(auto, using(crate::proofs::ReadBag::checking))]
 fn check_bag<T: Tree>(
     alloc: Global,
     tree: &mut T,
     algs: AlgSet,
-) -> Result<Vec<SummedFile>, Unchecked>
+) -> Result<(Rules, Vec<SummedFile>), Unchecked>
     ensures keeps { Keeps (T.state tree.old) (T.state tree.new) }
     ensures no_failure { OnOk result (NothingFailed (T.state tree.old) (T.state tree.new)) }
-    ensures checked { IfOk result (λ summed.
-        HasCheckedAll algs (T.state tree.old) (T.state tree.new) summed.items) }
+    ensures checked { IfOk result (λ checked.
+        HasCheckedAll checked.0 algs (T.state tree.old) (T.state tree.new) checked.1.items) }
     ensures refused { IfErr result (λ fault.
         IsTrue (T.state tree.old).honest → IsRefusedFor (T.state tree.old).bag fault) }
     ensures stopped { IfErr result (MayStopUnchecked (T.state tree.old) (T.state tree.new)) }
@@ -94,15 +96,20 @@ fn check_bag<T: Tree>(
         return Err(unchecked);
     }
     match check_files(alloc, tree, &facts, algs, true) {
-        Ok(checked) => Ok(checked.summed),
+        Ok(checked) => Ok((facts.rules(), checked.summed)),
         Err(unchecked) => Err(unchecked),
     }
 }
 
 /// The payload manifests of algorithms that name these files.
-fn manifests(alloc: Global, algs: AlgSet, files: &[SummedFile]) -> Result<Vec<TagFile>, AllocError>
-    ensures { IfOk result (λ made. made.items ≡ manifests_of Payload algs files.now) }
+fn manifests(
+    alloc: Global,
+    rules: Rules,
+    algs: AlgSet,
+    files: &[SummedFile],
+) -> Result<Vec<TagFile>, AllocError>
+    ensures { IfOk result (λ made. made.items ≡ manifests_by rules Payload algs files.now) }
 {
     let members = algs.members(alloc)?;
-    manifests_of(alloc, Kind::Payload, &members, files)
+    manifests_by(alloc, rules, Kind::Payload, &members, files)
 }

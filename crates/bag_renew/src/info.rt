@@ -78,7 +78,7 @@ pub(crate) fn info_file(
 fn writes_info(facts: &Facts, renewal: &Renewal) -> bool
     ensures { (bag : Bag) → IsFactsOf bag facts.now → result ≡ spec.writes_info bag renewal.now }
 {
-    !(keeps(facts) && asks_nothing(&renewal.elements))
+    !(keeps(facts, renewal) && asks_nothing(&renewal.elements))
 }
 
 /// Whether one of the elements can't be written. Where none is, each is of texts.

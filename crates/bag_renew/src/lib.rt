@@ -38,6 +38,7 @@ mod renewing;
 mod stages;
 mod summed;
 mod tag_files;
+mod unlisted;
 
 pub use bag_tags::TagFile;
 pub use checked::{Unchecked, check_and_sum};

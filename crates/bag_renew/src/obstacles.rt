@@ -8,30 +8,29 @@ ghost use Rattle.bag_read.specs.declared.kind.Kind.TheVariants.{Tag};
 ghost use Rattle.bag_read.specs.declared.tag_name.TagName.TheVariants.{Fetch};
 ghost use Rattle.bag_facts.specs.FactsOfBag.{IfBagRead, IsFactsOf};
 ghost use Rattle.bag_stages.specs.TagFiles.{Names};
-ghost use Rattle.bag_tags.specs.Writable.{begins_with_mark};
 ghost use Rattle.bag_tree.specs.Bag.{Bag, has_file};
 ghost use Rattle.bag_renew.specs.Obstacles as spec;
 ghost use Rattle.bag_renew.specs.Renewed as renewed;
 
-use crate::algorithms::{keeps, new_algs};
+use crate::algorithms::{keeps, new_algs, new_rules};
+use crate::unlisted::unlisted_path;
 use crate::{RenewFault, Renewal};
 use bag_facts::Facts;
 use bag_read::{Kind, TagName};
-use bag_text::{Alg, Text, is_blank, is_payload};
+use bag_tags::is_unnameable as is_unnameable_by_rules;
+use bag_text::{Alg, Rules, Text, is_payload};
 use bag_tree::{FileEntry, rest_within};
 use std::alloc::{AllocError, Global};
 
 /// The name that a tag file has while it is written.
 pub(crate) const BEGUN_FILE: &str = ".bagit-begun";
 
-const STAR: u8 = b'*';
-
 const PERCENT: u8 = b'%';
 
 /// Whether nothing keeps a bag without faults from being renewed; else the first obstacle, in this
-/// order: its version, what it fetches, its algorithms, the names of tag files, and paths that no
-/// manifest can name. The facts are those read for more than the declaration. Memory is taken for
-/// names only.
+/// order: what it fetches, its algorithms, the names of tag files, paths that no manifest can name,
+/// and files of the payload that none would name. The facts are those read for more than the
+/// declaration. Memory is taken for names only.
 ///
 /// A folder with the name of a tag file is noticed where a file stands below it. One that holds no
 /// file isn't listed, and isn't noticed here.
@@ -62,10 +61,7 @@ fn first_obstacle(
         MatchOption found (spec.HasNoObstacle bag renewal.now)
         (spec.IsObstacle bag renewal.now))) }
 {
-    if stays_old(facts, renewal) {
-        return Ok(Some(RenewFault::Version));
-    }
-    if has_old_fetch(facts) {
+    if has_old_fetch(facts, renewal) {
         return Ok(Some(RenewFault::Fetch));
     }
     if new_algs(facts, renewal).is_empty() {
@@ -74,26 +70,21 @@ fn first_obstacle(
     if let Some(name) = name_in_the_way(alloc, facts)? {
         return Ok(Some(RenewFault::InTheWay(name)));
     }
-    match unnameable_path(alloc, facts)? {
-        Some(path) => Ok(Some(RenewFault::Unnameable(path))),
+    if let Some(path) = unnameable_path(alloc, facts, renewal)? {
+        return Ok(Some(RenewFault::Unnameable(path)));
+    }
+    match unlisted_path(alloc, facts, renewal)? {
+        Some(path) => Ok(Some(RenewFault::Unlisted(path))),
         None => Ok(None),
     }
 }
 
-/// Whether a bag is of version 0.97, and wasn't asked to become one of 1.0.
-fn stays_old(facts: &Facts, renewal: &Renewal) -> bool
-    ensures { (bag : Bag) → IsFactsOf bag facts.now
-        → result ≡ (not (renewed.keeps bag) && not renewal.now.to_1_0) }
-{
-    !keeps(facts) && !renewal.to_1_0
-}
-
-/// Whether a bag is of version 0.97, and has `fetch.txt`.
-fn has_old_fetch(facts: &Facts) -> bool
+/// Whether a bag is of version 0.97 and is to become one of 1.0, and has `fetch.txt`.
+fn has_old_fetch(facts: &Facts, renewal: &Renewal) -> bool
     ensures { IfBagRead facts.now (λ bag.
-        result ≡ (not (renewed.keeps bag) && has_file bag (tag_path Fetch))) }
+        result ≡ (not (renewed.keeps bag renewal.now) && has_file bag (tag_path Fetch))) }
 {
-    !keeps(facts) && facts.fetch_list().is_some()
+    !keeps(facts, renewal) && facts.fetch_list().is_some()
 }
 
 /// A name that a renewal needs and that isn't free: files stand below it, or it's that of a begun
@@ -121,14 +112,16 @@ fn is_named(facts: &Facts, path: &Text) -> bool
     ensures unnamed { IfBagRead facts.now (λ bag.
         spec.IsNamedAsTag bag path.now → IsTrue result) }
 {
-    Alg::ALL.iter().any(|alg| is_named_by(facts, *alg, path))
+    Alg::ALL
+        .iter()
+        .any(|alg| is_named_by(facts, Kind::Tag, *alg, path))
 }
 
-/// Whether the tag manifest of an algorithm names a path.
-fn is_named_by(facts: &Facts, alg: Alg, path: &Text) -> bool
-    ensures { IfBagRead facts.now (λ bag. IsTrue result ↔ Names bag Tag alg path.now) }
+/// Whether the manifest of a kind and an algorithm names a path.
+pub(crate) fn is_named_by(facts: &Facts, kind: Kind, alg: Alg, path: &Text) -> bool
+    ensures { IfBagRead facts.now (λ bag. IsTrue result ↔ Names bag kind alg path.now) }
 {
-    match facts.manifest(Kind::Tag, alg) {
+    match facts.manifest(kind, alg) {
         Some(manifest) => manifest.names(path),
         None => false,
     }
@@ -197,41 +190,36 @@ fn is_below(name: &str, path: &str) -> bool
 }
 
 /// The first path that no manifest of the renewed bag can name, in path order.
-fn unnameable_path(alloc: Global, facts: &Facts) -> Result<Option<Text>, AllocError>
+fn unnameable_path(
+    alloc: Global,
+    facts: &Facts,
+    renewal: &Renewal,
+) -> Result<Option<Text>, AllocError>
     ensures { IfOk result (λ found. (bag : Bag) → IsFactsOf bag facts.now
-        → found ≡ spec.first_unnameable bag) }
+        → found ≡ spec.first_unnameable bag renewal.now) }
 {
-    match first_unnameable(facts.files(), keeps(facts)) {
+    let rules = new_rules(facts, renewal);
+    match first_unnameable(facts.files(), rules, keeps(facts, renewal)) {
         Some(entry) => Ok(Some(entry.path.copy(alloc)?)),
         None => Ok(None),
     }
 }
 
-/// The first of the files that no manifest can name. Of a bag that keeps what needs no change, a
-/// path with a `%` is named as it was.
-fn first_unnameable(files: &[FileEntry], is_kept: bool) -> Option<&FileEntry>
+/// The first of the files that no manifest can name by these rules. Of a bag that keeps what needs no
+/// change, a path with a `%` is named as it was.
+fn first_unnameable(files: &[FileEntry], rules: Rules, is_kept: bool) -> Option<&FileEntry>
     ensures { option_copied result
-        ≡ find (λ entry. spec.is_unnameable is_kept entry.path) files.now }
+        ≡ find (λ entry. spec.is_unnameable_by rules is_kept entry.path) files.now }
 {
     files
         .iter()
-        .find(|entry| is_unnameable(is_kept, entry.path.as_str()))
+        .find(|entry| is_unnameable(rules, is_kept, entry.path.as_str()))
 }
 
-fn is_unnameable(is_kept: bool, path: &str) -> bool
-    ensures { result ≡ spec.is_unnameable is_kept path.now }
+fn is_unnameable(rules: Rules, is_kept: bool, path: &str) -> bool
+    ensures { result ≡ spec.is_unnameable_by rules is_kept path.now }
 {
-    begins_with_mark(path) || (!is_kept && has_percent(path))
-}
-
-/// Whether a text begins with what a reader drops before a path.
-fn begins_with_mark(text: &str) -> bool
-    ensures { result ≡ begins_with_mark text.now }
-{
-    match text.as_bytes().first() {
-        Some(byte) => is_blank(*byte) || *byte == STAR,
-        None => false,
-    }
+    is_unnameable_by_rules(rules, path) || (!is_kept && has_percent(path))
 }
 
 fn has_percent(path: &str) -> bool

@@ -5,18 +5,18 @@ ghost use Rattle.bag_read.specs.declared.kind.Kind.TheVariants as kind;
 ghost use Rattle.bag_read.specs.declared.tag_name.TagName.TheVariants as tag;
 ghost use Rattle.bag_facts.specs.FactsOfBag.{IfBagRead, IsFactsOf};
 ghost use Rattle.bag_tags.specs.Declaration.{declaration_text};
-ghost use Rattle.bag_tags.specs.Summed.{manifests_of};
+ghost use Rattle.bag_tags.specs.Summed.{manifests_by};
 ghost use Rattle.bag_tree.specs.Bag.{Bag, has_file};
 ghost use Rattle.bag_renew.specs.Changes.{put};
 ghost use Rattle.bag_renew.specs.Composing as spec;
-ghost use Rattle.bag_renew.specs.Renewed.{is_kept, with_path, writes_info};
+ghost use Rattle.bag_renew.specs.Renewed.{is_kept, new_rules, with_path, writes_info};
 
 use crate::Renewal;
 use crate::alg_choice::{members_of_first, push_where};
-use crate::algorithms::{keeps, kept_algs, new_algs};
+use crate::algorithms::{keeps, kept_algs, new_algs, new_rules};
 use bag_facts::Facts;
 use bag_read::{Kind, TagName};
-use bag_tags::{SummedFile, TagFile, manifests_of, write_declaration};
+use bag_tags::{SummedFile, TagFile, manifests_by, write_declaration};
 use bag_text::{Alg, Items};
 use std::alloc::{AllocError, Global};
 
@@ -38,7 +38,11 @@ pub(crate) fn kept_names(
     let algs = kept_algs(facts, renewal).members(alloc)?;
     let mut names = manifest_names(alloc, &algs)?;
     push_where(&mut names, TagName::Info, keeps_info)?;
-    push_where(&mut names, TagName::Declaration, keeps_declaration(facts))?;
+    push_where(
+        &mut names,
+        TagName::Declaration,
+        keeps_declaration(facts, renewal),
+    )?;
     Ok(names)
 }
 
@@ -62,12 +66,14 @@ pub(crate) fn first_files(
 ) -> Result<Vec<TagFile>, AllocError>
     ensures texts { IfOk result (λ made. IfBagRead facts.now (λ bag.
         made.items ≡ with_path (tag_path tag.Info) info
-        ++ manifests_of kind.Payload (spec.written_algs bag renewal.now) payload.now)) }
+        ++ manifests_by (new_rules bag renewal.now) kind.Payload
+        (spec.written_algs bag renewal.now) payload.now)) }
     ensures files { IfOk result (λ made. spec.AreOfFiles (map put made.items)) }
 {
     let algs = members_of_first(alloc, new_algs(facts, renewal), kept_algs(facts, renewal))?;
     let mut files = info_file(alloc, info)?;
-    let mut manifests = manifests_of(alloc, Kind::Payload, &algs, payload)?;
+    let rules = new_rules(facts, renewal);
+    let mut manifests = manifests_by(alloc, rules, Kind::Payload, &algs, payload)?;
     files.append(&mut manifests)?;
     Ok(files)
 }
@@ -85,9 +91,13 @@ fn info_file(alloc: Global, info: Option<Items<u8>>) -> Result<Vec<TagFile>, All
 }
 
 /// The text of the declaration with its name, where it isn't kept.
-pub(crate) fn last_files(alloc: Global, facts: &Facts) -> Result<Vec<TagFile>, AllocError>
+pub(crate) fn last_files(
+    alloc: Global,
+    facts: &Facts,
+    renewal: &Renewal,
+) -> Result<Vec<TagFile>, AllocError>
     ensures texts { IfOk result (λ made. (bag : Bag) → IsFactsOf bag facts.now
-        → made.items ≡ spec.last_files bag) }
+        → made.items ≡ spec.last_files bag renewal.now) }
     ensures files { IfOk result (λ made. spec.AreOfFiles (map put made.items)) }
 {
     let mut files = Vec::new(alloc);
@@ -95,7 +105,7 @@ pub(crate) fn last_files(alloc: Global, facts: &Facts) -> Result<Vec<TagFile>, A
         path: TagName::Declaration.path(alloc)?,
         content: declaration(alloc)?,
     };
-    push_where(&mut files, file, !keeps_declaration(facts))?;
+    push_where(&mut files, file, !keeps_declaration(facts, renewal))?;
     Ok(files)
 }
 
@@ -110,11 +120,11 @@ fn declaration(alloc: Global) -> Result<Items<u8>, AllocError>
 }
 
 /// Whether the declaration is there and is kept.
-fn keeps_declaration(facts: &Facts) -> bool
+fn keeps_declaration(facts: &Facts, renewal: &Renewal) -> bool
     ensures { (bag : Bag) → IsFactsOf bag facts.now
-        → result ≡ is_kept bag (tag_path tag.Declaration) }
+        → result ≡ is_kept bag renewal.now (tag_path tag.Declaration) }
 {
-    keeps(facts) && is_listed(facts, DECLARATION)
+    keeps(facts, renewal) && is_listed(facts, DECLARATION)
 }
 
 /// Whether a file is listed, found in time log n of all files.
