@@ -2,7 +2,7 @@
 use Rattle.bag_renew.proofs.Common.{arith, ◌≡◌, ◌++◌, ◌+◌, ◌∷◌, ◌∙◌, inr, ℕ, zero, suc, Bool, true, false, not}
 use Rattle.bag_renew.proofs.Common.{cond, List, [], Some, is_some, length, refl, ap, sym, subst, false≢true}
 use Rattle.bag_renew.proofs.Common.{append_assoc, or_from, or_parts, list_any, filter, Info, Bag, file, writes_info}
-use Rattle.bag_renew.proofs.Common.{new_elements, Renewal}
+use Rattle.bag_renew.proofs.Common.{new_elements, new_rules, Renewal}
 use Rattle.std.proofs.Common.{drop, take}
 use Rattle.std.proofs.lemmas.List.Folds.{list_any-append}
 use Rattle.std.proofs.lemmas.Option.{slice_get-map}
@@ -13,7 +13,7 @@ use Rattle.bag_text.specs.Lines.{lines_of_file}
 use Rattle.bag_text.specs.Text.{IsText}
 use Rattle.bag_text.specs.declared.code.Code.{Code}
 use Rattle.bag_text.specs.declared.code.Code.TheVariants.{InfoLine, NoOxum, OxumAgain, OxumDiffers, OxumMalformed}
-use Rattle.bag_text.specs.declared.rules.Rules.TheVariants.{V10}
+use Rattle.bag_text.specs.declared.rules.Rules.{Rules}
 use Rattle.bag_read.proofs.InfoElements.{elements_of as elements_listed}
 use Rattle.bag_read.specs.Info.{IsElement, IsInfoFault}
 use Rattle.bag_read.specs.InfoReader.{elements}
@@ -27,7 +27,7 @@ use Rattle.bag_stages.specs.FaultFields.{in_line}
 use Rattle.bag_stages.specs.MetadataStage.{HasElement, IsOfMetadata, MetadataHolds, bag_info_txt, oxum_label}
 use Rattle.bag_stages.specs.Payload.{oxum, oxum_of_files}
 use Rattle.bag_stages.specs.TagFiles.{lines_in, lines_or_none}
-use Rattle.bag_tags.proofs.LongInfo.{long_info_again}
+use Rattle.bag_tags.proofs.LongInfo.{long_info_again_by}
 use Rattle.bag_tags.specs.Element.{NewElement}
 use Rattle.bag_tags.specs.OnLines.{text_on_lines}
 use Rattle.bag_tags.specs.ReadAgain.{elements_read}
@@ -40,7 +40,7 @@ use Rattle.bag_renew.proofs.Contents.{these_files}
 use Rattle.bag_renew.proofs.KeptInfo.{kept_is_good}
 use Rattle.bag_tags.proofs.OxumReads.{oxum_reads}
 use Rattle.bag_renew.proofs.Places.{place_of}
-use Rattle.bag_renew.proofs.RenewedNames.{by_v10, same_payload}
+use Rattle.bag_renew.proofs.RenewedNames.{by_new_rules, same_payload}
 
 -- ---- one Payload-Oxum
 
@@ -161,12 +161,15 @@ module _ (bag : Bag) (renewal : Renewal) (writes : writes_info bag renewal ≡ t
     abbrev now : Bag
     now = renewed bag renewal
 
+    abbrev rules : Rules
+    rules = new_rules bag renewal
+
     abbrev written : List ℕ
     written = text_on_lines (new_elements bag renewal)
 
-    again : IsText written × (elements_read V10 written ≡ new_elements bag renewal)
-        × ((f : LineFault) → ¬ (IsInfoFault V10 written f))
-    again = long_info_again (new_elements bag renewal) has.texts has.good
+    again : IsText written × (elements_read rules written ≡ new_elements bag renewal)
+        × ((f : LineFault) → ¬ (IsInfoFault rules written f))
+    again = long_info_again_by rules (new_elements bag renewal) has.texts has.good
 
     in_file : file now bag_info_txt ≡ Some written
     in_file =
@@ -177,7 +180,7 @@ module _ (bag : Bag) (renewal : Renewal) (writes : writes_info bag renewal ≡ t
     is_written content at = let both : Some content ≡ Some written = sym at ∙ in_file in cc
 
     abbrev read : List Element
-    read = elements V10 (enumerate_from 1 (lines_of_file written))
+    read = elements rules (enumerate_from 1 (lines_of_file written))
 
     abbrev as_new : Element → NewElement
     as_new e = (e.label, e.value)
@@ -186,10 +189,10 @@ module _ (bag : Bag) (renewal : Renewal) (writes : writes_info bag renewal ≡ t
     stands : (e : Element) → HasElement now oxum_label e
         → (slice_get read (length front) ≡ Some e) × (e.value ≡ oxum_text (oxum bag))
     stands e (is, same) =
-        let here : IsElement V10 (lines_of_file written) e =
-        subst (λ o. IsElement V10 (lines_or_none o) e) in_file
-        (subst (λ rules. IsElement rules (lines_in now bag_info_txt) e) (by_v10 bag renewal) is) in
-        let place = place_of read e (((elements_listed V10 (lines_of_file written)).members e).1 here) in
+        let here : IsElement rules (lines_of_file written) e =
+        subst (λ o. IsElement rules (lines_or_none o) e) in_file
+        (subst (λ r. IsElement r (lines_in now bag_info_txt) e) (by_new_rules bag renewal) is) in
+        let place = place_of read e (((elements_listed rules (lines_of_file written)).members e).1 here) in
         let new : slice_get (new_elements bag renewal) place.0 ≡ Some (as_new e) =
         ap (λ es. slice_get es place.0) (sym again.1) ∙ slice_get-map {B = NewElement} as_new read place.0
         ∙ ap (option_map as_new) place.1 in
@@ -207,8 +210,8 @@ module _ (bag : Bag) (renewal : Renewal) (writes : writes_info bag renewal ≡ t
       unfolding MetadataHolds asks
       by_code InfoLine (at, alg, (bytes, held, wrong)) asked =
           again.2 (in_line f)
-          (subst (λ b. IsInfoFault V10 b (in_line f)) (is_written bytes held)
-          (subst (λ rules. IsInfoFault rules bytes (in_line f)) (by_v10 bag renewal) wrong))
+          (subst (λ b. IsInfoFault rules b (in_line f)) (is_written bytes held)
+          (subst (λ r. IsInfoFault r bytes (in_line f)) (by_new_rules bag renewal) wrong))
       by_code OxumMalformed (e, at, first, none) asked =
           false≢true (ap is_some (sym none ∙ ap oxum_of (stands e first.0).1 ∙ reads_size))
       by_code OxumAgain (e, at, (later, (d, earlier, low))) asked =

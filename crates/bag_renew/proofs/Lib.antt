@@ -30,6 +30,7 @@ pub mod KeptOr
 pub mod ManyChanges
 pub mod Members
 pub mod NamedFiles
+pub mod NewRules
 pub mod NoManifest
 pub mod NoPayload
 pub mod Obstructed

@@ -14,7 +14,8 @@ use Rattle.bag_text.specs.declared.code.Code.TheVariants.{NoPayloadManifest, Not
 use Rattle.bag_text.specs.declared.code.Code.TheVariants.{PayloadFileNotListed}
 use Rattle.bag_text.specs.declared.code.Code.TheVariants.{PayloadSumDiffers, TagmanifestNamesPayload}
 use Rattle.bag_text.specs.declared.code.Code.TheVariants.{TagmanifestNamesTagmanifest}
-use Rattle.bag_text.specs.declared.rules.Rules.TheVariants.{V10}
+use Rattle.bag_text.specs.declared.rules.Rules.{Rules}
+use Rattle.bag_text.specs.declared.rules.Rules.TheVariants.{V10, V097}
 use Rattle.bag_read.proofs.ManifestCodes.{IsManifestCode, manifest_fault_code}
 use Rattle.bag_read.proofs.ManifestEntries.{named_has_entry}
 use Rattle.bag_read.proofs.ManifestLineParts.{lines_read}
@@ -23,20 +24,22 @@ use Rattle.bag_read.specs.Manifest.{IsManifestFault, ManifestFault, named}
 use Rattle.bag_read.specs.declared.fetch.FetchEntry.{FetchEntry}
 use Rattle.bag_read.specs.declared.line_fault.LineFault.{LineFault}
 use Rattle.bag_facts.specs.Facts.{IsByV10, rules_in}
+use Rattle.bag_facts.specs.FactsOfBag.{IsByV097}
 use Rattle.bag_facts.specs.declared.fault.Fault.{Fault}
 use Rattle.bag_report.specs.Report.{Is, asks}
 use Rattle.bag_report.specs.Valid.{IsFaultOf, full}
 use Rattle.bag_stages.proofs.BagLists.{some_alg, there_or_not}
 use Rattle.bag_stages.proofs.HasLists.{Decided}
-use Rattle.bag_stages.proofs.LeftOut.{by_one}
+use Rattle.bag_stages.proofs.LeftOut.{by_all, by_one}
 use Rattle.bag_stages.specs.CompletenessStage.{CompletenessHolds, IsOfCompleteness}
 use Rattle.bag_stages.specs.DeclarationStage.{DeclarationHolds, IsOfDeclaration}
 use Rattle.bag_stages.specs.FetchStage.{FetchHolds, HasFetch, IsOfFetch, fetch_txt}
+use Rattle.bag_stages.specs.LeftOut.{IsLeftOut, IsNamedBySome}
 use Rattle.bag_stages.specs.ManifestsStage.{InManifest, IsOfManifests, ManifestHolds}
 use Rattle.bag_stages.specs.MetadataStage.{IsOfMetadata, MetadataHolds}
 use Rattle.bag_stages.specs.PartsStage.{IsOfParts, PartHolds}
 use Rattle.bag_stages.specs.TagFiles.{HasManifest, HasSupported, Names, lines_or_none, manifest_of, named_in}
-use Rattle.bag_renew.specs.Telling.{NamesAll, NamesItsPayload, paths_named}
+use Rattle.bag_renew.specs.Telling.{IsToBeNamed, NamesAll, NamesFiles, NamesItsPayload, paths_named}
 use Rattle.bag_renew.specs.Valid.{IsDamage}
 
 -- ---- the codes of the faults of a manifest's lines
@@ -172,16 +175,15 @@ module _ (bag : Bag) (damaged : (f : Fault) → IsFaultOf bag f → IsDamage f) 
     named_there : Names bag Payload alg path → HasFile bag path
     named_there names = there_by (has_file bag path) refl names
 
-    -- and all of the payload is named, by the rules of 1.0
-    module _ (v10 : IsByV10 bag) (has : HasSupported bag Payload alg) (there : HasFile bag path)
-        (of_it : is_payload_path path ≡ true) where
+    -- and by the rules of 1.0 all of the payload is named
+    module _ (v10 : IsByV10 bag) (has : HasSupported bag Payload alg) (is : IsToBeNamed bag Payload path) where
       not_left_out : ¬ (Names bag Payload alg path) → ⊥
       unfolding Is IsOfCompleteness CompletenessHolds asks
       not_left_out unnamed =
           none (record { code = PayloadFileNotListed; path = path; alg = Some alg; line = 0; detail = [] })
           (inr (inr (inr (inr (inr (inl (
             record { path_is = refl; alg_is = refl; line_is = refl; detail_is = refl },
-            (there, of_it),
+            is,
             by_one bag path (rules_in bag) alg v10 (has, unnamed),
           ))))))) refl (λ same. cc)
 
@@ -191,72 +193,113 @@ module _ (bag : Bag) (damaged : (f : Fault) → IsFaultOf bag f → IsDamage f) 
         | inr unnamed ↦ absurd (not_left_out unnamed)
       ]
 
-  module _ (alg : Alg) (text : List ℕ) (at : file bag (tag_path (Manifest Payload alg)) ≡ Some text)
-      (v10 : IsByV10 bag) where
+  -- some payload manifest names it, or none does
+  named_or_not : (path : List ℕ) → Decided (IsNamedBySome bag path)
+  named_or_not path =
+      some_alg (λ alg. Names bag Payload alg path) (λ alg. there_or_not (named_in bag Payload alg) path)
+
+  -- by those of 0.97 some manifest names each file of the payload
+  module _ (v097 : IsByV097 bag) (path : List ℕ) (is : IsToBeNamed bag Payload path) where
+    not_unnamed : ¬ (IsNamedBySome bag path) → ⊥
+    unfolding Is IsOfCompleteness CompletenessHolds asks
+    not_unnamed unnamed =
+        none (record { code = PayloadFileNotListed; path = path; alg = None; line = 0; detail = [] })
+        (inr (inr (inr (inr (inr (inl (
+          record { path_is = refl; alg_is = refl; line_is = refl; detail_is = refl },
+          is,
+          by_all bag path (rules_in bag) v097 (some_manifest, unnamed),
+        ))))))) refl (λ same. cc)
+
+    pub some_names : IsNamedBySome bag path
+    some_names = elim (named_or_not path) [ inl names ↦ names | inr unnamed ↦ absurd (not_unnamed unnamed) ]
+
+  module _ (alg : Alg) (text : List ℕ) (at : file bag (tag_path (Manifest Payload alg)) ≡ Some text) where
     abbrev fault_of : LineFault → Fault
     fault_of f =
         record { code = f.code; path = manifest_of Payload alg; alg = Some alg; line = f.line; detail = f.detail }
 
-    in_manifest : (f : LineFault) → IsManifestFault V10 Payload alg text f → InManifest bag (fault_of f)
-    in_manifest f wrong =
-        let by_its_rules = subst (λ rules. IsManifestFault rules Payload alg text f) (sym v10) wrong in
-        (Payload, alg, (refl, refl, (text, at, by_its_rules)))
+    in_manifest : (f : LineFault) → IsManifestFault (rules_in bag) Payload alg text f → InManifest bag (fault_of f)
+    in_manifest f wrong = (Payload, alg, (refl, refl, (text, at, wrong)))
 
-    no_line_fault : (f : LineFault) → ¬ (IsManifestFault V10 Payload alg text f)
+    no_line_fault : (f : LineFault) → ¬ (IsManifestFault (rules_in bag) Payload alg text f)
     unfolding Is IsOfManifests
-    no_line_fault f wrong = elim (manifest_fault_code V10 Payload alg text f wrong) [
+    no_line_fault f wrong = elim (manifest_fault_code (rules_in bag) Payload alg text f wrong) [
       | inl of_file ↦ old_text (Manifest Payload alg) text (λ same. cc) at
-          (subst (λ c. ManifestFault c V10 Payload alg text f) of_file.0 wrong).2
+          (subst (λ c. ManifestFault c (rules_in bag) Payload alg text f) of_file.0 wrong).2
       | inr of_line ↦ none (fault_of f)
           (inr (inr (inr (inr (inl (of_manifests bag (fault_of f) f.code of_line.0 (in_manifest f wrong)))))))
           (asked f.code of_line.0) (other_code f.code of_line.0)
     ]
 
-    is_payload : (path : List ℕ) → Contains (paths_named Payload alg text) path → is_payload_path path ≡ true
+    is_payload : (path : List ℕ) → Contains (paths_named (rules_in bag) Payload alg text) path
+        → is_payload_path path ≡ true
     is_payload path names =
-        let n = named_has_entry V10 Payload alg (lines_of_file text) path names in
-        let line = ((lines_read V10 Payload alg n.1.0 n.0.digest n.0.path).0 n.1.2).may_name in
+        let n = named_has_entry (rules_in bag) Payload alg (lines_of_file text) path names in
+        let line = ((lines_read (rules_in bag) Payload alg n.1.0 n.0.digest n.0.path).0 n.1.2).may_name in
         ap is_payload_path (sym n.2) ∙ line
 
-    same_names : (path : List ℕ) → named_in bag Payload alg ≡ paths_named Payload alg text
-    same_names path =
-        ap (λ o. named (rules_in bag) Payload alg (lines_or_none o)) at
-        ∙ ap (λ rules. named rules Payload alg (lines_of_file text)) v10
+    same_names : named_in bag Payload alg ≡ paths_named (rules_in bag) Payload alg text
+    same_names = ap (λ o. named (rules_in bag) Payload alg (lines_or_none o)) at
 
-    names_all : NamesAll bag Payload alg text
-    names_all = record {
+    to_be_named : (path : List ℕ) → Contains (paths_named (rules_in bag) Payload alg text) path
+        → IsToBeNamed bag Payload path
+    to_be_named path names = (
+      named_there alg path (subst (λ ps. Contains ps path) (sym same_names) names),
+      is_payload path names,
+    )
+
+    names_files : NamesFiles (rules_in bag) bag Payload alg text
+    names_files = record { no_fault = no_line_fault; there = to_be_named; }
+
+    names_all : IsByV10 bag → NamesAll (rules_in bag) bag Payload alg text
+    names_all v10 = record {
       no_fault = no_line_fault;
       paths = λ path. (
-        λ names. (
-          named_there alg path (subst (λ ps. Contains ps path) (sym (same_names path)) names),
-          is_payload path names,
-        ),
-        λ h. subst (λ ps. Contains ps path) (same_names path) (all_named alg path v10 (ap is_some at) h.0 h.1),
+        to_be_named path,
+        λ is. subst (λ ps. Contains ps path) same_names (all_named alg path v10 (ap is_some at) is),
       );
     }
 
-  -- each payload manifest of such a bag of 1.0 names just its payload
-  pub names_its_payload : IsByV10 bag → NamesItsPayload bag
-  names_its_payload v10 alg text at = names_all alg text at v10
+  -- each payload manifest of such a bag names files of its payload alone, and by the rules of 1.0 them all
+  pub names_its_payload : NamesItsPayload bag
+  names_its_payload = record {
+    told = names_files;
+    all_by_v10 = λ v10 alg text at.
+        subst (λ rules. NamesAll rules bag Payload alg text) v10 (names_all alg text at v10);
+  }
 
   -- ---- what it has to fetch is there
 
-  module _ (e : FetchEntry) (has : HasFetch bag e) (v10 : rules_in bag ≡ V10) where
-    not_unfetched : (alg : Alg) → HasSupported bag Payload alg → ¬ (Names bag Payload alg e.path) → ⊥
+  module _ (e : FetchEntry) (has : HasFetch bag e) where
+    not_unfetched : (told : Option Alg) → IsLeftOut (rules_in bag) bag told e.path → ⊥
     unfolding Is IsOfFetch FetchHolds asks
-    not_unfetched alg there unnamed =
-        none (record { code = FetchNotInManifest; path = fetch_txt; alg = Some alg; line = e.line; detail = e.path })
+    not_unfetched told out =
+        none (record { code = FetchNotInManifest; path = fetch_txt; alg = told; line = e.line; detail = e.path })
         (inr (inr (inr (inl (
           e,
           record { path_is = refl; alg_is = refl; line_is = refl; detail_is = refl },
           has,
-          by_one bag e.path (rules_in bag) alg v10 (there, unnamed),
+          out,
         ))))) refl (λ same. cc)
 
-    pub fetched : HasFile bag e.path
-    fetched =
+    fetched_by_v10 : IsByV10 bag → HasFile bag e.path
+    fetched_by_v10 v10 =
         let some = some_manifest in
         elim (there_or_not (named_in bag Payload some.0) e.path) [
           | inl names ↦ named_there some.0 e.path names
-          | inr unnamed ↦ absurd (not_unfetched some.0 some.1 unnamed)
+          | inr unnamed ↦ absurd (not_unfetched (Some some.0)
+              (by_one bag e.path (rules_in bag) some.0 v10 (some.1, unnamed)))
         ]
+
+    fetched_by_v097 : IsByV097 bag → HasFile bag e.path
+    fetched_by_v097 v097 = elim (named_or_not e.path) [
+      | inl names ↦ named_there names.0 e.path names.1
+      | inr unnamed ↦ absurd (not_unfetched None (by_all bag e.path (rules_in bag) v097 (some_manifest, unnamed)))
+    ]
+
+    by_rules : (rules : Rules) → rules_in bag ≡ rules → HasFile bag e.path
+    by_rules V10 is = fetched_by_v10 is
+    by_rules V097 is = fetched_by_v097 is
+
+    pub fetched : HasFile bag e.path
+    fetched = by_rules (rules_in bag) refl

@@ -1,5 +1,6 @@
 -- The manifests of the renewed bag name what it holds.
-use Rattle.bag_renew.proofs.Common.{◌≡◌, ◌++◌, ◌∷◌, ◌∙◌, inl, inr, ℕ, Bool, true, false, not, cond, List, Option}
+use Rattle.bag_renew.proofs.Common.{◌≡◌, ◌&&◌, ◌⊎◌, ◌++◌, ◌∷◌, ◌∙◌, inl, inr, ℕ, Bool, true, false, not, cond}
+use Rattle.bag_renew.proofs.Common.{List, Option}
 use Rattle.bag_renew.proofs.Common.{[], None, Some, is_some, refl, ap, sym, subst, Contains, and_from, and_parts}
 use Rattle.bag_renew.proofs.Common.{false≢true, entries_sorted, find, get-entries, get-from_entries}
 use Rattle.bag_renew.proofs.Common.{nat_list_cmp_total, exact_texts, contains_back, contains_behind, contains_cases}
@@ -10,35 +11,47 @@ use Rattle.bag_renew.proofs.Common.{is_payload_path, is_manifest_name, manifest_
 use Rattle.bag_renew.proofs.Common.{TagName, Declaration, Info, Fetch, Manifest, Alg, name, in_base, paths_differ, Bag}
 use Rattle.bag_renew.proofs.Common.{IsBag, file, files_of, payload, File, manifest, stays, declaration_file}
 use Rattle.bag_renew.proofs.Common.{info_files, new_algs, new_elements, with_path, writes_info, kept_or, kept_tag_files}
-use Rattle.bag_renew.proofs.Common.{named_tag_files, payload_manifest}
+use Rattle.bag_renew.proofs.Common.{named_tag_files, payload_manifest, is_kept, is_new_alg, from_any}
 use Rattle.bag_renew.proofs.Common.{payload_manifests, HasKnownManifests, Renewal}
 use Rattle.std.specs.FinMap as fin
 use Rattle.std.specs.FinMap.Entries.{find-where_key, is_sorted-where_key, same_entries}
 use Rattle.std.proofs.Common.{IsUtf8}
 use Rattle.std.proofs.lemmas.Str.{IsUtf8-from_is_utf8}
-use Rattle.std.specs.Prelude.{option_and_then}
+use Rattle.bag_text.specs.Lines.{lines_of_file}
 use Rattle.bag_text.specs.Rules.{rules_of}
+use Rattle.bag_text.specs.declared.rules.Rules.{Rules}
+use Rattle.bag_text.specs.declared.rules.Rules.TheVariants.{V10, V097}
 use Rattle.bag_read.proofs.ManifestName.{named_is}
-use Rattle.bag_read.specs.Declaration.{declared_version}
+use Rattle.bag_read.specs.Manifest.{named}
 use Rattle.bag_facts.proofs.Mapped.{kept, passed}
-use Rattle.bag_facts.specs.Facts.{IsByV10, rules_in}
+use Rattle.bag_facts.specs.Facts.{rules_in}
+use Rattle.bag_stages.proofs.LeftOut.{left_out_by, not_both}
 use Rattle.bag_stages.proofs.PartFaults.{one_alg}
+use Rattle.bag_stages.specs.LeftOut.{IsLeftOut, IsLeftOutByOne, IsNamedBySome}
+use Rattle.bag_stages.specs.TagFiles.{Names, lines_or_none}
 use Rattle.bag_tags.proofs.DeclarationReadAgain.{declaration_again}
 use Rattle.bag_tags.specs.Declaration.{declaration_text}
 use Rattle.bag_tags.specs.OnLines.{text_on_lines}
-use Rattle.bag_tags.specs.Writable.{begins_with_mark}
+use Rattle.bag_tags.specs.Writable.{is_unnameable}
 use Rattle.bag_renew.specs.Contents.{IsNew, IsNewText, Stands}
-use Rattle.bag_renew.specs.Renewed.{renewed}
-use Rattle.bag_renew.specs.Telling.{ArePaths, AreUnmarked, GivesDigests, IsManifestOf, IsWrittenAnew, NamesAll}
-use Rattle.bag_renew.specs.Telling.{NamesItsFiles, NamesItsPayload, NewManifestsGiveDigests, RenewedNames, is_to_name}
-use Rattle.bag_renew.specs.Telling.{to_name}
+use Rattle.bag_renew.specs.Renewed.{is_kept_alg, new_rules, renewed, writes_payload_manifest}
+use Rattle.bag_renew.specs.Telling.{AreNameable, ArePaths, AreStillListed, GivesDigests, IsManifestOf, IsNamedByKept}
+use Rattle.bag_renew.specs.Telling.{IsToBeNamed, IsWrittenAnew, NamesAll, NamesFiles, NamesItsFiles, NamesItsPayload}
+use Rattle.bag_renew.specs.Telling.{NewManifestsGiveDigests, RenewedNames, is_to_name, to_name}
+use Rattle.bag_renew.proofs.AlgsWhere.{alg_in, passes}
 use Rattle.bag_renew.proofs.Contents.{one_stands, these_files}
 use Rattle.bag_facts.proofs.Found.{content_of, found, found_alone, held_at, listed, same_option}
-use Rattle.bag_renew.proofs.KeptOr.{kept_or_written, of_v10}
+use Rattle.bag_renew.proofs.KeptOr.{kept_or_written, kept_rules}
 use Rattle.bag_renew.proofs.Members.{declaration_new, info_listed, info_new, payload_listed, payload_new}
+use Rattle.bag_renew.proofs.NewRules.{by_content, of_written, still_v10}
 use Rattle.bag_renew.proofs.Staying.{IsWritten, no_payload_tag, stays_so, written_goes}
-use Rattle.bag_renew.proofs.TagNames.{IsNamed, named_so, no_manifest_name, tag_text, tag_unmarked}
+use Rattle.bag_renew.proofs.TagNames.{IsNamed, named_so, no_manifest_name, tag_nameable, tag_text}
 use Rattle.bag_renew.proofs.WrittenTells.{tells}
+
+second_false : (a b : Bool) → a ≡ true → not (a && b) ≡ true → b ≡ false
+second_false true true is isnt = cc
+second_false true false is isnt = refl
+second_false false b is isnt = cc
 
 module _ (bag : Bag) (renewal : Renewal) where
   abbrev now : Bag
@@ -81,14 +94,14 @@ module _ (bag : Bag) (renewal : Renewal) where
   others = info_files bag renewal ++ payload_manifests bag renewal
 
   abbrev some : List File
-  some = kept_tag_files bag ++ (declaration_file bag ∷ others)
+  some = kept_tag_files bag ++ (declaration_file bag renewal ∷ others)
 
   old_kept : (q c : List ℕ) → Contains (kept_tag_files bag) (q, c) → (stays q ≡ true) × (file bag q ≡ Some c)
   old_kept q c h =
       let k = kept (λ (e : File). stays e.0) (files_of bag) (q, c) h in (k.0, held_at bag.files q c k.1)
 
-  abbrev IsToBeNamed : List ℕ → List ℕ → Type 0
-  IsToBeNamed q c = (is_to_name Tag q ≡ true) × Stands bag renewal q c
+  abbrev MayBeNamed : List ℕ → List ℕ → Type 0
+  MayBeNamed q c = (is_to_name Tag q ≡ true) × Stands bag renewal q c
 
   stays_named : (q : List ℕ) → stays q ≡ true → is_to_name Tag q ≡ true
   stays_named q is =
@@ -96,7 +109,7 @@ module _ (bag : Bag) (renewal : Renewal) where
       and_from (not (is_payload_path q)) (not (is_manifest_name Tag q)) s.outside s.tag_manifest
 
   named_by : (q c : List ℕ) (tag : TagName) → IsNamed tag → (q ≡ tag_path tag) → IsNew bag renewal q c
-      → IsToBeNamed q c
+      → MayBeNamed q c
   named_by q c tag named path new = (ap (is_to_name Tag) path ∙ named_so tag named, inr new)
 
   only_path : (q c only : List ℕ) → Contains {X = File} ((tag_path Info, only) ∷ []) (q, c) → q ≡ tag_path Info
@@ -112,21 +125,21 @@ module _ (bag : Bag) (renewal : Renewal) where
   info_path false None text q c h = absurd (contains_nothing {A = File} (q, c) h)
   info_path false (Some old) text q c h = only_path q c old h
 
-  from_info : (q c : List ℕ) → Contains (info_files bag renewal) (q, c) → IsToBeNamed q c
+  from_info : (q c : List ℕ) → Contains (info_files bag renewal) (q, c) → MayBeNamed q c
   from_info q c h =
       named_by q c Info tt
       (info_path (writes_info bag renewal) (file bag (tag_path Info)) (text_on_lines (new_elements bag renewal)) q c h)
       (info_new bag renewal q c h)
 
-  from_manifest : (q c : List ℕ) → Contains (payload_manifests bag renewal) (q, c) → IsToBeNamed q c
+  from_manifest : (q c : List ℕ) → Contains (payload_manifests bag renewal) (q, c) → MayBeNamed q c
   from_manifest q c h =
       let m = contains_mapped {B = File} (payload_manifest bag renewal) (new_algs bag renewal) (q, c) h in
       named_by q c (Manifest Payload m.0) tt (sym (ap (λ (y : File). y.0) m.2)) (payload_new bag renewal q c h)
 
-  from_some : (q c : List ℕ) → Contains some (q, c) → IsToBeNamed q c
-  from_some q c h = elim (contains_either (kept_tag_files bag) (declaration_file bag ∷ others) (q, c) h) [
+  from_some : (q c : List ℕ) → Contains some (q, c) → MayBeNamed q c
+  from_some q c h = elim (contains_either (kept_tag_files bag) (declaration_file bag renewal ∷ others) (q, c) h) [
     | inl k ↦ let old = old_kept q c k in (stays_named q old.0, inl (old.1, inr old.0))
-    | inr l ↦ elim (contains_cases (declaration_file bag) others (q, c) l) [
+    | inr l ↦ elim (contains_cases (declaration_file bag renewal) others (q, c) l) [
       | inl e ↦ named_by q c Declaration tt (sym (ap (λ (y : File). y.0) e)) (declaration_new bag renewal q c e)
       | inr o ↦ elim (contains_either (info_files bag renewal) (payload_manifests bag renewal) (q, c) o)
           [ inl i ↦ from_info q c i | inr m ↦ from_manifest q c m ]
@@ -135,15 +148,15 @@ module _ (bag : Bag) (renewal : Renewal) where
 
   among_others : (e : File) → Contains others e → Contains some e
   among_others e h =
-      contains_back (kept_tag_files bag) (declaration_file bag ∷ others) e
-      (contains_behind (declaration_file bag) others e h)
+      contains_back (kept_tag_files bag) (declaration_file bag renewal ∷ others) e
+      (contains_behind (declaration_file bag renewal) others e h)
 
   new_in : (tag : TagName) (c : List ℕ) → IsNewText bag renewal tag c → is_to_name Tag (tag_path tag) ≡ true
       → Contains some (tag_path tag, c)
   new_in Declaration c text is =
       subst (λ t. Contains some (tag_path Declaration, t)) (sym text)
-      (contains_back (kept_tag_files bag) (declaration_file bag ∷ others) (declaration_file bag)
-      (contains_first (declaration_file bag) others))
+      (contains_back (kept_tag_files bag) (declaration_file bag renewal ∷ others) (declaration_file bag renewal)
+      (contains_first (declaration_file bag renewal) others))
   new_in Info c text is =
       among_others (tag_path Info, c)
       (contains_front (info_files bag renewal) (payload_manifests bag renewal) (tag_path Info, c)
@@ -165,7 +178,7 @@ module _ (bag : Bag) (renewal : Renewal) where
       absurd (false≢true (sym (ap not of_payload)
       ∙ (and_parts (not (is_payload_path q)) (not (is_manifest_name Tag q)) is).0))
   to_some q c is (inl (at, inr stays_there)) =
-      contains_front (kept_tag_files bag) (declaration_file bag ∷ others) (q, c)
+      contains_front (kept_tag_files bag) (declaration_file bag renewal ∷ others) (q, c)
       (passed (λ (e : File). stays e.0) (files_of bag) (q, c) stays_there (listed bag.files q c at))
   to_some q c is (inr (tag, path, text)) =
       subst (λ p. Contains some (p, c)) (sym path) (new_in tag c text (ap (is_to_name Tag) (sym path) ∙ is))
@@ -209,22 +222,19 @@ module _ (bag : Bag) (renewal : Renewal) where
   ]
 
   -- the declaration is the old one, or that of 1.0
-  pub declared : file now (tag_path Declaration) ≡ Some (kept_or bag (tag_path Declaration) declaration_text)
+  pub declared : file now (tag_path Declaration)
+      ≡ Some (kept_or bag renewal (tag_path Declaration) declaration_text)
   declared =
-      is_there (tag_path Declaration) (kept_or bag (tag_path Declaration) declaration_text)
+      is_there (tag_path Declaration) (kept_or bag renewal (tag_path Declaration) declaration_text)
       (inr (Declaration, refl, refl))
 
-  by_content : (b : Bag) (o : Option (List ℕ)) → file b (tag_path Declaration) ≡ o
-      → rules_in b ≡ rules_of (option_and_then declared_version o)
-  unfolding rules_in
-  by_content b o at = ap (λ (content : Option (List ℕ)). rules_of (option_and_then declared_version content)) at
-
-  pub by_v10 : IsByV10 now
-  by_v10 = elim (kept_or_written bag (tag_path Declaration) declaration_text) [
+  pub by_new_rules : rules_in now ≡ new_rules bag renewal
+  by_new_rules = elim (kept_or_written bag renewal (tag_path Declaration) declaration_text) [
     | inl old ↦ by_content now (file bag (tag_path Declaration)) (declared ∙ sym old.1)
         ∙ sym (by_content bag (file bag (tag_path Declaration)) refl)
-        ∙ of_v10 bag (tag_path Declaration) declaration_text old.0
+        ∙ sym (kept_rules bag renewal (tag_path Declaration) old.0)
     | inr new ↦ by_content now (Some declaration_text) (declared ∙ ap Some new.1) ∙ ap rules_of declaration_again.0
+        ∙ sym (of_written bag renewal new.0)
   ]
 
   known : HasKnownManifests bag → HasKnownManifests now
@@ -244,27 +254,82 @@ module _ (bag : Bag) (renewal : Renewal) where
 
   -- ---- what the manifests say
 
-  -- a payload manifest that is kept names the payload, which is as it was
-  carried : (alg : Alg) (text : List ℕ) → NamesAll bag Payload alg text → NamesAll now Payload alg text
-  carried alg text names = record {
+  same_to_be_named : (path : List ℕ) → IsToBeNamed bag Payload path → IsToBeNamed now Payload path
+  same_to_be_named path is = (ap is_some (same_file path is.1) ∙ is.0, is.1)
+
+  was_to_be_named : (path : List ℕ) → IsToBeNamed now Payload path → IsToBeNamed bag Payload path
+  was_to_be_named path is = (sym (ap is_some (same_file path is.1)) ∙ is.0, is.1)
+
+  -- a payload manifest that is kept names what it named, which is as it was
+  carried : (rules : Rules) (alg : Alg) (text : List ℕ) → NamesFiles rules bag Payload alg text
+      → NamesFiles rules now Payload alg text
+  carried rules alg text names = record {
+    no_fault = names.no_fault;
+    there = λ path h. same_to_be_named path (names.there path h);
+  }
+
+  carried_all : (rules : Rules) (alg : Alg) (text : List ℕ) → NamesAll rules bag Payload alg text
+      → NamesAll rules now Payload alg text
+  carried_all rules alg text names = record {
     no_fault = names.no_fault;
     paths = λ path. (
-      λ h. let old = (names.paths path).0 h in (ap is_some (same_file path old.1) ∙ old.0, old.1),
-      λ h. (names.paths path).1 (sym (ap is_some (same_file path h.1)) ∙ h.0, h.1),
+      λ h. same_to_be_named path ((names.paths path).0 h),
+      λ is. (names.paths path).1 (was_to_be_named path is),
     );
   }
 
-  -- a manifest that is written is that of what it is to name
-  says : (kind : Kind) (alg : Alg) (text : List ℕ) → IsWrittenAnew bag kind alg
-      → file now (tag_path (Manifest kind alg)) ≡ Some text → IsManifestOf now kind alg text
-  says Payload alg text anew at =
-      elim (kept_or_written bag (tag_path (Manifest Payload alg)) (manifest alg (payload bag))) [
-        | inl old ↦ absurd (false≢true (sym anew ∙ old.0))
-        | inr new ↦ (new_text (Manifest Payload alg) text tt at).1 ∙ new.1 ∙ ap (manifest alg) (sym same_payload)
-      ]
-  says Tag alg text anew at = (new_text (Manifest Tag alg) text tt at).1 ∙ ap (manifest alg) (sym same_named)
+  -- what names all names files alone
+  names_some : (rules : Rules) (kind : Kind) (alg : Alg) (text : List ℕ) → NamesAll rules now kind alg text
+      → NamesFiles rules now kind alg text
+  names_some rules kind alg text names = record {
+    no_fault = names.no_fault;
+    there = λ path h. (names.paths path).0 h;
+  }
 
-  module _ (is : IsBag bag) (unmarked : AreUnmarked bag) where
+  -- a manifest that is written is that of what it is to name
+  says : (kind : Kind) (alg : Alg) (text : List ℕ) → IsWrittenAnew bag renewal kind alg
+      → file now (tag_path (Manifest kind alg)) ≡ Some text
+      → IsManifestOf (new_rules bag renewal) now kind alg text
+  says Payload alg text anew at =
+      let new = manifest (new_rules bag renewal) alg (payload bag) in
+      elim (kept_or_written bag renewal (tag_path (Manifest Payload alg)) new) [
+        | inl old ↦ absurd (false≢true (sym anew ∙ old.0))
+        | inr new ↦ (new_text (Manifest Payload alg) text tt at).1 ∙ new.1
+            ∙ ap (manifest (new_rules bag renewal) alg) (sym same_payload)
+      ]
+  says Tag alg text anew at =
+      (new_text (Manifest Tag alg) text tt at).1 ∙ ap (manifest (new_rules bag renewal) alg) (sym same_named)
+
+  -- a payload manifest of the renewed bag is the old one, or written anew
+  module _ (alg : Alg) (text : List ℕ) (at : file now (tag_path (Manifest Payload alg)) ≡ Some text) where
+    abbrev IsOldOne : Type 0
+    IsOldOne =
+        (is_kept bag renewal (tag_path (Manifest Payload alg)) ≡ true)
+        × (file bag (tag_path (Manifest Payload alg)) ≡ Some text)
+
+    pub old_or_anew : IsOldOne ⊎ IsWrittenAnew bag renewal Payload alg
+    old_or_anew =
+        let new = manifest (new_rules bag renewal) alg (payload bag) in
+        elim (kept_or_written bag renewal (tag_path (Manifest Payload alg)) new) [
+          | inl was ↦ inl (was.0, was.1 ∙ ap Some (sym (new_text (Manifest Payload alg) text tt at).1))
+          | inr anew ↦ inr anew.0
+        ]
+
+  -- a payload manifest of an algorithm that is kept is the old one
+  pub same_manifest : (alg : Alg) → is_kept_alg bag renewal alg ≡ true
+      → file now (tag_path (Manifest Payload alg)) ≡ file bag (tag_path (Manifest Payload alg))
+  same_manifest alg is =
+      let path = tag_path (Manifest Payload alg) in
+      let new = manifest (new_rules bag renewal) alg (payload bag) in
+      let two = and_parts (is_new_alg bag renewal alg) (is_kept bag renewal path) is in
+      elim (kept_or_written bag renewal path new) [
+        | inl was ↦ is_there path (kept_or bag renewal path new)
+            (inr (Manifest Payload alg, refl, (alg_in (is_new_alg bag renewal) alg two.0, refl)))
+            ∙ sym was.1
+        | inr anew ↦ absurd (false≢true (sym anew.0 ∙ two.1))
+      ]
+
+  module _ (is : IsBag bag) (nameable : AreNameable (new_rules bag renewal) bag) where
     are_paths : ArePaths now
     are_paths q has =
         let c = content_of (file now q) has in
@@ -276,41 +341,119 @@ module _ (bag : Bag) (renewal : Renewal) where
           )
         ]
 
-    are_unmarked : AreUnmarked now
-    are_unmarked q has =
+    are_nameable : AreNameable (new_rules bag renewal) now
+    are_nameable q has =
         let c = content_of (file now q) has in
         elim (stands q c.0 c.1) [
-          | inl stayed ↦ unmarked q (ap is_some stayed.0)
-          | inr new ↦ ap begins_with_mark new.1 ∙ tag_unmarked new.0
+          | inl stayed ↦ nameable q (ap is_some stayed.0)
+          | inr new ↦ ap (is_unnameable (new_rules bag renewal)) new.1
+              ∙ tag_nameable (new_rules bag renewal) new.0
         ]
 
-    written : (kind : Kind) (alg : Alg) (text : List ℕ) → IsWrittenAnew bag kind alg
+    written : (kind : Kind) (alg : Alg) (text : List ℕ) → IsWrittenAnew bag renewal kind alg
         → file now (tag_path (Manifest kind alg)) ≡ Some text
-        → NamesAll now kind alg text × GivesDigests now kind alg text
-    written kind alg text anew at = tells now kind alg are_paths are_unmarked text (says kind alg text anew at)
+        → NamesAll (new_rules bag renewal) now kind alg text
+        × GivesDigests (new_rules bag renewal) now kind alg text
+    written kind alg text anew at =
+        tells (new_rules bag renewal) now kind alg are_paths are_nameable text (says kind alg text anew at)
 
     pub give_digests : NewManifestsGiveDigests bag renewal
     give_digests kind alg text anew at = (written kind alg text anew at).1
 
-    told : (IsByV10 bag → NamesItsPayload bag) → (kind : Kind) (alg : Alg) (text : List ℕ)
-        → file now (tag_path (Manifest kind alg)) ≡ Some text → NamesAll now kind alg text
-    told old Tag alg text at = (written Tag alg text tt at).0
-    told old Payload alg text at =
-        let path = tag_path (Manifest Payload alg) in
-        let new = manifest alg (payload bag) in
-        elim (kept_or_written bag path new) [
-          | inl was ↦ carried alg text
-              (old (of_v10 bag path new was.0) alg text
-              (was.1 ∙ ap Some (sym (new_text (Manifest Payload alg) text tt at).1)))
-          | inr anew ↦ (written Payload alg text anew.0 at).0
+    module _ (old : NamesItsPayload bag) where
+      told : (kind : Kind) (alg : Alg) (text : List ℕ) → file now (tag_path (Manifest kind alg)) ≡ Some text
+          → NamesFiles (new_rules bag renewal) now kind alg text
+      told Tag alg text at = names_some (new_rules bag renewal) Tag alg text (written Tag alg text tt at).0
+      told Payload alg text at = elim (old_or_anew alg text at) [
+        | inl was ↦ subst (λ rules. NamesFiles rules now Payload alg text)
+            (sym (kept_rules bag renewal (tag_path (Manifest Payload alg)) was.0))
+            (carried (rules_in bag) alg text (old.told alg text was.1))
+        | inr anew ↦ names_some (new_rules bag renewal) Payload alg text (written Payload alg text anew at).0
+      ]
+
+      -- by the rules of 1.0 each payload manifest names the whole payload
+      all_told : new_rules bag renewal ≡ V10 → (alg : Alg) (text : List ℕ)
+          → file now (tag_path (Manifest Payload alg)) ≡ Some text → NamesAll V10 now Payload alg text
+      all_told v10 alg text at = elim (old_or_anew alg text at) [
+        | inl was ↦ carried_all V10 alg text
+            (old.all_by_v10 (sym (kept_rules bag renewal (tag_path (Manifest Payload alg)) was.0) ∙ v10) alg text was.1)
+        | inr anew ↦ subst (λ rules. NamesAll rules now Payload alg text) v10 (written Payload alg text anew at).0
+      ]
+
+      -- a manifest that is there and names all names the path
+      by_text : (alg : Alg) (text path : List ℕ) → file now (tag_path (Manifest Payload alg)) ≡ Some text
+          → NamesAll (new_rules bag renewal) now Payload alg text → IsToBeNamed now Payload path
+          → Names now Payload alg path
+      by_text alg text path at all is =
+          subst (λ o. Contains (named (rules_in now) Payload alg (lines_or_none o)) path) (sym at)
+          (subst (λ rules. Contains (named rules Payload alg (lines_of_file text)) path) (sym by_new_rules)
+          ((all.paths path).1 is))
+
+      by_one : new_rules bag renewal ≡ V10 → (alg : Alg) (path : List ℕ) → IsToBeNamed now Payload path
+          → IsLeftOutByOne now alg path → ⊥
+      by_one v10 alg path is (has, unnamed) =
+          let t = content_of (file now (tag_path (Manifest Payload alg))) has in
+          unnamed (by_text alg t.0 path t.1
+          (subst (λ rules. NamesAll rules now Payload alg t.0) (sym v10) (all_told v10 alg t.0 t.1)) is)
+
+      -- one that is written names it
+      by_written : (path : List ℕ) → writes_payload_manifest bag renewal ≡ true → IsToBeNamed now Payload path
+          → IsNamedBySome now path
+      by_written path writes is =
+          let m = from_any (λ alg. not (is_kept_alg bag renewal alg)) (new_algs bag renewal) writes in
+          let new = (payload_manifest bag renewal m.0).1 in
+          let at = is_there (tag_path (Manifest Payload m.0)) new (inr (Manifest Payload m.0, refl, (m.1, refl))) in
+          let path_of = tag_path (Manifest Payload m.0) in
+          let anew =
+          second_false (is_new_alg bag renewal m.0) (is_kept bag renewal path_of)
+          (passes (is_new_alg bag renewal) m.0 m.1) m.2 in
+          (m.0, by_text m.0 new path at (written Payload m.0 new anew at).0 is)
+
+      -- one that is kept names it still
+      by_kept : (path : List ℕ) → IsNamedByKept bag renewal path → IsNamedBySome now path
+      by_kept path (alg, kept, names) =
+          let manifest_path = tag_path (Manifest Payload alg) in
+          let of_it = (and_parts (is_new_alg bag renewal alg) (is_kept bag renewal manifest_path) kept).1 in
+          (
+            alg,
+            subst (λ o. Contains (named (rules_in now) Payload alg (lines_or_none o)) path)
+                (sym (same_manifest alg kept))
+                (subst (λ rules. Contains (named rules Payload alg (lines_or_none (file bag manifest_path))) path)
+                (sym (by_new_rules ∙ kept_rules bag renewal manifest_path of_it)) names),
+          )
+
+      module _ (still : AreStillListed bag renewal) where
+        by_some : new_rules bag renewal ≡ V097 → (path : List ℕ) → IsToBeNamed now Payload path
+            → IsNamedBySome now path
+        by_some v097 path is = elim still [
+          | inl v10 ↦ absurd (not_both (new_rules bag renewal) (still_v10 bag renewal v10) v097)
+          | inr more ↦ elim more [
+            | inl writes ↦ by_written path writes is
+            | inr kept ↦ by_kept path (kept path (was_to_be_named path is))
+          ]
         ]
 
-    pub names_files : HasKnownManifests bag → (IsByV10 bag → NamesItsPayload bag) → NamesItsFiles now
-    names_files are_known old = record { rules = by_v10; known = known are_known; told = told old }
+        none_left_out : (alg : Option Alg) (path : List ℕ) → IsToBeNamed now Payload path
+            → ¬ (IsLeftOut (rules_in now) now alg path)
+        none_left_out alg path is out = elim (left_out_by now path (rules_in now) alg out) [
+          | inl one ↦ by_one (sym by_new_rules ∙ one.0) one.1.0 path is one.1.2
+          | inr all ↦ all.2.1 (by_some (sym by_new_rules ∙ all.0) path is)
+        ]
+
+        pub names_files : HasKnownManifests bag → NamesItsFiles now
+        names_files are_known = record {
+          known = known are_known;
+          told = λ kind alg text at.
+              subst (λ rules. NamesFiles rules now kind alg text) (sym by_new_rules) (told kind alg text at);
+          all_tags = λ alg text at.
+              subst (λ rules. NamesAll rules now Tag alg text) (sym by_new_rules) (written Tag alg text tt at).0;
+          listed = none_left_out;
+        }
 
 pub renewed_names : RenewedNames
-renewed_names bag renewal is are_known unmarked old = (
-  names_files bag renewal is unmarked are_known old,
-  give_digests bag renewal is unmarked,
+renewed_names bag renewal is are_known nameable old still = (
+  names_files bag renewal is nameable old still are_known,
+  by_new_rules bag renewal,
+  give_digests bag renewal is nameable,
   same_payload bag renewal,
 )

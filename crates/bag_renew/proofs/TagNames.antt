@@ -7,7 +7,9 @@ use Rattle.std.specs.Str.{is_utf8, chars}
 use Rattle.bag_text.specs.Text.{IsText}
 use Rattle.bag_text.specs.declared.alg.Alg.TheVariants.{Md5, Sha1, Sha224, Sha256, Sha384, Sha512}
 use Rattle.bag_read.proofs.ManifestName.{is_named}
-use Rattle.bag_tags.specs.Writable.{begins_with_mark}
+use Rattle.bag_text.specs.declared.rules.Rules.{Rules}
+use Rattle.bag_text.specs.declared.rules.Rules.TheVariants.{V10, V097}
+use Rattle.bag_tags.specs.Writable.{is_unnameable}
 use Rattle.bag_renew.specs.Telling.{is_to_name}
 use Rattle.bag_renew.proofs.NoPayload.{no_payload_tag}
 
@@ -68,9 +70,25 @@ tag_text (Manifest Tag Sha256) = refl
 tag_text (Manifest Tag Sha384) = refl
 tag_text (Manifest Tag Sha512) = refl
 
-pub tag_unmarked : (tag : TagName) → begins_with_mark (tag_path tag) ≡ false
-tag_unmarked (Manifest Payload alg) = refl
-tag_unmarked (Manifest Tag alg) = refl
-tag_unmarked Declaration = refl
-tag_unmarked Info = refl
-tag_unmarked Fetch = refl
+-- a line of a manifest can name each by either rules
+pub tag_nameable : (rules : Rules) (tag : TagName) → is_unnameable rules (tag_path tag) ≡ false
+tag_nameable V10 (Manifest Payload alg) = refl
+tag_nameable V10 (Manifest Tag alg) = refl
+tag_nameable V10 Declaration = refl
+tag_nameable V10 Info = refl
+tag_nameable V10 Fetch = refl
+tag_nameable V097 (Manifest Payload Md5) = refl
+tag_nameable V097 (Manifest Payload Sha1) = refl
+tag_nameable V097 (Manifest Payload Sha224) = refl
+tag_nameable V097 (Manifest Payload Sha256) = refl
+tag_nameable V097 (Manifest Payload Sha384) = refl
+tag_nameable V097 (Manifest Payload Sha512) = refl
+tag_nameable V097 (Manifest Tag Md5) = refl
+tag_nameable V097 (Manifest Tag Sha1) = refl
+tag_nameable V097 (Manifest Tag Sha224) = refl
+tag_nameable V097 (Manifest Tag Sha256) = refl
+tag_nameable V097 (Manifest Tag Sha384) = refl
+tag_nameable V097 (Manifest Tag Sha512) = refl
+tag_nameable V097 Declaration = refl
+tag_nameable V097 Info = refl
+tag_nameable V097 Fetch = refl

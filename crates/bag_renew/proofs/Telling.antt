@@ -1,5 +1,5 @@
 -- A bag whose manifests name what they are to name is complete, and where they give the digests it is valid.
-use Rattle.bag_renew.proofs.Common.{◌≡◌, ◌≢◌, ◌∙◌, inl, inr, ℕ, true, List, [], Option, None, Some}
+use Rattle.bag_renew.proofs.Common.{◌≡◌, ◌≢◌, ◌∙◌, ℕ, true, List, [], Option, None, Some}
 use Rattle.bag_renew.proofs.Common.{refl, ap, sym, subst, Contains, false≢true, manifest_name, tag_path, Kind, Payload}
 use Rattle.bag_renew.proofs.Common.{Tag, Manifest, Alg, Bag, HasFile, file}
 use Rattle.std.proofs.Common.{◌-◌}
@@ -8,19 +8,18 @@ use Rattle.bag_text.specs.Lines.{lines_of_file}
 use Rattle.bag_text.specs.declared.code.Code.{Code}
 use Rattle.bag_text.specs.declared.code.Code.TheVariants.{NameClash, PayloadFileMissing, PayloadFileNotListed}
 use Rattle.bag_text.specs.declared.code.Code.TheVariants.{PayloadManifestNotListed, PayloadSumDiffers}
-use Rattle.bag_read.specs.Manifest.{IsEntry, IsManifestFault, named}
+use Rattle.bag_read.specs.Manifest.{IsEntry, named}
 use Rattle.bag_read.specs.declared.manifest.ManifestEntry.{ManifestEntry}
 use Rattle.bag_read.proofs.ManifestEntries.{named_has_entry}
 use Rattle.bag_facts.specs.Facts.{rules_in}
 use Rattle.bag_facts.specs.declared.fault.Fault.{Fault}
-use Rattle.bag_stages.proofs.LeftOut.{left_out_by, not_both}
 use Rattle.bag_stages.specs.CompletenessStage.{CompletenessHolds, IsOfCompleteness, Missing}
 use Rattle.bag_stages.specs.FaultFields.{in_line}
 use Rattle.bag_stages.specs.ManifestsStage.{InManifest, IsOfManifests, ManifestHolds}
 use Rattle.bag_stages.specs.TagFiles.{HasSupported, Names, lines_or_none, manifest_of}
 use Rattle.bag_stages.specs.ValidityStage.{Differs, IsEntryIn, IsOfValidity, ValidityHolds}
 use Rattle.bag_renew.specs.Telling.{BagsThatNameTheirFilesAreComplete, BagsThatTellTheirFilesAreValid, GivesDigests}
-use Rattle.bag_renew.specs.Telling.{NamesItsFiles, TellsItsFiles, is_to_name}
+use Rattle.bag_renew.specs.Telling.{IsToBeNamed, NamesItsFiles, TellsItsFiles, is_to_name}
 use Rattle.bag_facts.proofs.Found.{content_of}
 use Rattle.bag_renew.proofs.TagNames.{named_so}
 
@@ -47,32 +46,28 @@ module _ (bag : Bag) (names : NamesItsFiles bag) where
   named_there kind alg path h =
       let n = named_has_entry (rules_in bag) kind alg (lines_or_none (file bag (manifest_of kind alg))) path h in
       let t = text_of_entry bag kind alg n.0 n.1 in
-      (((names.told kind alg t.0 t.1).paths path).0
-      (subst (λ rules. Contains (named rules kind alg (lines_of_file t.0)) path) names.rules
-      (subst (λ o. Contains (named (rules_in bag) kind alg (lines_or_none o)) path) t.1 h))).0
+      ((names.told kind alg t.0 t.1).there path
+      (subst (λ o. Contains (named (rules_in bag) kind alg (lines_or_none o)) path) t.1 h)).0
 
-  -- and what is there and is to be named is named
-  pub there_named : (kind : Kind) (alg : Alg) (path : List ℕ) → HasSupported bag kind alg → HasFile bag path
-      → is_to_name kind path ≡ true → Names bag kind alg path
-  there_named kind alg path has there is =
-      let text = content_of (file bag (manifest_of kind alg)) has in
-      subst (λ o. Contains (named (rules_in bag) kind alg (lines_or_none o)) path) (sym text.1)
-      (subst (λ rules. Contains (named rules kind alg (lines_of_file text.0)) path) (sym names.rules)
-      (((names.told kind alg text.0 text.1).paths path).1 (there, is)))
+  -- and what is there and a tag manifest is to name is named
+  tag_named : (alg : Alg) (path : List ℕ) → HasSupported bag Tag alg → IsToBeNamed bag Tag path
+      → Names bag Tag alg path
+  tag_named alg path has is =
+      let text = content_of (file bag (manifest_of Tag alg)) has in
+      subst (λ o. Contains (named (rules_in bag) Tag alg (lines_or_none o)) path) (sym text.1)
+      (((names.all_tags alg text.0 text.1).paths path).1 is)
 
   module _ (f : Fault) where
     reads_well : InManifest bag f → ⊥
-    reads_well (kind, alg, (at, by, (bytes, held, wrong))) =
-        (names.told kind alg bytes held).no_fault (in_line f)
-        (subst (λ rules. IsManifestFault rules kind alg bytes (in_line f)) names.rules wrong)
+    reads_well (kind, alg, (at, by, (bytes, held, wrong))) = (names.told kind alg bytes held).no_fault (in_line f) wrong
 
     manifest_holds : (code : Code) → ManifestHolds bag f code → ⊥
     unfolding ManifestHolds
     manifest_holds PayloadManifestNotListed (alg, other, at, ruled, has, held, unnamed) =
         let m = names.known Payload other held in
         let path : manifest_name Payload other ≡ tag_path (Manifest Payload m.0) = ap (manifest_name Payload) m.1 in
-        unnamed (there_named Tag alg (manifest_name Payload other) has held.1
-        (ap (is_to_name Tag) path ∙ named_so (Manifest Payload m.0) tt))
+        unnamed (tag_named alg (manifest_name Payload other) has
+        (held.1, ap (is_to_name Tag) path ∙ named_so (Manifest Payload m.0) tt))
     manifest_holds _ h = search reads_well
 
     pub no_manifest_fault : IsOfManifests bag f → ⊥
@@ -85,11 +80,7 @@ module _ (bag : Bag) (names : NamesItsFiles bag) where
     complete : (code : Code) → CompletenessHolds bag f code → code ≢ NameClash → ⊥
     unfolding CompletenessHolds
     complete PayloadFileMissing h other = none_missing Payload h
-    complete PayloadFileNotListed (at, (held, is), out) other =
-        elim (left_out_by bag f.path (rules_in bag) f.alg out) [
-          | inl one ↦ one.1.2.1 (there_named Payload one.1.0 f.path one.1.2.0 held is)
-          | inr all ↦ not_both (rules_in bag) names.rules all.0
-        ]
+    complete PayloadFileNotListed (at, is, out) other = names.listed f.alg f.path is out
     complete NameClash h other = other refl
     complete _ h other = search none_missing
 
@@ -99,12 +90,11 @@ module _ (bag : Bag) (names : NamesItsFiles bag) where
 
   -- where a manifest gives the digests, no file differs
   pub none_differs : (f : Fault) (kind : Kind)
-      → ((alg : Alg) (text : List ℕ) → file bag (manifest_of kind alg) ≡ Some text → GivesDigests bag kind alg text)
+      → ((alg : Alg) (text : List ℕ) → file bag (manifest_of kind alg) ≡ Some text
+      → GivesDigests (rules_in bag) bag kind alg text)
       → Differs bag f kind → ⊥
   none_differs f kind right (alg, entry, content, at, is, held, other) =
-      let t = text_of_entry bag kind alg entry is in
-      other (right alg t.0 t.1 entry content
-      (subst (λ rules. IsEntry rules kind alg (lines_of_file t.0) entry) names.rules t.2) held)
+      let t = text_of_entry bag kind alg entry is in other (right alg t.0 t.1 entry content t.2 held)
 
 module _ (bag : Bag) (tells : TellsItsFiles bag) (f : Fault) where
   no_damage : (kind : Kind) → Differs bag f kind → ⊥

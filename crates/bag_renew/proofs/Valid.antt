@@ -3,7 +3,7 @@ use Rattle.bag_renew.proofs.Common.{◌≡◌, ◌≢◌, ◌∷◌, ◌∙◌, 
 use Rattle.bag_renew.proofs.Common.{Some, is_some, refl, ap, sym, subst, Contains, codes, false≢true, contains_first}
 use Rattle.bag_renew.proofs.Common.{contains_nothing, false_from_ne_true, and_from, is_payload_path, tag_path}
 use Rattle.bag_renew.proofs.Common.{Payload, Tag, TagName, Declaration, Info, Fetch, Manifest, Alg, name, name_is_text}
-use Rattle.bag_renew.proofs.Common.{name_named, Bag, HasFile, file, has_folder, paths_differ, payload, manifest}
+use Rattle.bag_renew.proofs.Common.{name_named, Bag, HasFile, file, has_folder, paths_differ, keeps}
 use Rattle.bag_renew.proofs.Common.{is_kept, is_new_alg, new_algs, payload_manifest, stays, Renewal}
 use Rattle.std.proofs.Common.{◌-◌}
 use Rattle.std.specs.List.{slice_get}
@@ -19,7 +19,6 @@ use Rattle.bag_text.specs.declared.code.Code.TheVariants.{FetchNotInManifest, Fe
 use Rattle.bag_text.specs.declared.code.Code.TheVariants.{NameClash, NoDeclaration, NoPayloadFolder, NoPayloadManifest}
 use Rattle.bag_text.specs.declared.code.Code.TheVariants.{NotUtf8, PayloadSumDiffers, TagSumDiffers, VersionUnsupported}
 use Rattle.bag_text.specs.declared.rules.Rules.{Rules}
-use Rattle.bag_text.specs.declared.rules.Rules.TheVariants.{V10}
 use Rattle.bag_read.proofs.FetchLineParts.{lines_read}
 use Rattle.bag_read.proofs.ManifestEntries.{entry_named}
 use Rattle.bag_read.proofs.ManifestName.{is_named}
@@ -30,11 +29,10 @@ use Rattle.bag_read.specs.Manifest.{IsEntry}
 use Rattle.bag_read.specs.declared.fetch.FetchEntry.{FetchEntry}
 use Rattle.bag_read.specs.declared.manifest.ManifestEntry.{ManifestEntry}
 use Rattle.bag_facts.specs.FaultOrder.{fault_cmp}
-use Rattle.bag_facts.specs.Facts.{IsByV10, rules_in}
+use Rattle.bag_facts.specs.Facts.{rules_in}
 use Rattle.bag_facts.specs.declared.fault.Fault.{Fault}
 use Rattle.bag_report.specs.Report.{Is, asks}
 use Rattle.bag_report.specs.Valid.{IsFaultOf, full}
-use Rattle.bag_stages.proofs.LeftOut.{left_out_by, not_both}
 use Rattle.bag_stages.specs.DeclarationStage.{DeclarationHolds, InDeclaration, IsOfDeclaration}
 use Rattle.bag_stages.specs.FaultFields.{At, in_line}
 use Rattle.bag_stages.specs.FetchStage.{FetchHolds, HasFetch, InFetch, IsOfFetch, fetch_txt}
@@ -48,20 +46,20 @@ use Rattle.bag_tree.specs.Bag.{LacksFile}
 use Rattle.bag_tree.specs.Digest.{digest}
 use Rattle.bag_renew.specs.Contents.{IsNewText}
 use Rattle.bag_renew.specs.Renewed.{is_kept_alg, renewed}
-use Rattle.bag_renew.specs.Telling.{NamesItsFiles, NewManifestsGiveDigests}
+use Rattle.bag_renew.specs.Telling.{GivesDigests, NamesItsFiles, NewManifestsGiveDigests}
 use Rattle.bag_renew.specs.Valid.{CanRenew, HasGoodInfo, IsOldDamage}
 use Rattle.bag_renew.specs.Valid.{RenewedHasOldFaults, RenewedIsValid}
 use Rattle.bag_renew.proofs.AlgsWhere.{passes}
 use Rattle.bag_renew.proofs.Contents.{these_files}
 use Rattle.bag_facts.proofs.Found.{same_option}
-use Rattle.bag_renew.proofs.KeptOr.{kept_or_written, of_v10}
+use Rattle.bag_renew.proofs.KeptOr.{keeps_rules, kept_or_written, kept_rules}
 use Rattle.bag_renew.proofs.OldBag.{fetched, has_data, known, names_its_payload, no_declaration_fault, no_fetch_fault}
 use Rattle.bag_renew.proofs.OldBag.{old_text}
-use Rattle.bag_renew.proofs.RenewedNames.{declared, give_digests, names_files, new_text, same_file}
+use Rattle.bag_renew.proofs.RenewedNames.{by_new_rules, declared, give_digests, names_files, new_text, old_or_anew}
+use Rattle.bag_renew.proofs.RenewedNames.{same_file}
 use Rattle.bag_renew.proofs.Staying.{no_payload_tag, so_it_stays}
 use Rattle.bag_renew.proofs.TagNames.{no_manifest_name}
 use Rattle.bag_renew.proofs.Telling.{no_completeness_fault, no_line, no_manifest_fault, none_differs, text_of_entry}
-use Rattle.bag_renew.proofs.Telling.{there_named}
 
 some_member : (algs : List Alg) → algs ≢ [] → (alg : Alg) × Contains algs alg
 some_member [] some = absurd (some refl)
@@ -73,10 +71,11 @@ module _ (bag : Bag) (renewal : Renewal) (can : CanRenew bag renewal) (info : Ha
 
   names : NamesItsFiles now
   names =
-      names_files bag renewal can.is_bag can.unmarked (known bag can.damaged) (names_its_payload bag can.damaged)
+      names_files bag renewal can.is_bag can.nameable (names_its_payload bag can.damaged) can.listed
+      (known bag can.damaged)
 
   right : NewManifestsGiveDigests bag renewal
-  right = give_digests bag renewal can.is_bag can.unmarked
+  right = give_digests bag renewal can.is_bag can.nameable
 
   there : (tag : TagName) (c : List ℕ) → IsNewText bag renewal tag c → file now (tag_path tag) ≡ Some c
   there tag c text = (these_files bag renewal (tag_path tag) c).1 (inr (tag, refl, text))
@@ -100,6 +99,10 @@ module _ (bag : Bag) (renewal : Renewal) (can : CanRenew bag renewal) (info : Ha
         | inl stayed ↦ stayed.0
         | inr new ↦ absurd (subst (λ t. IsNewText bag renewal t c) (paths_differ new.0 Fetch (sym new.1)) new.2)
       ]) (λ c at. (these_files bag renewal (tag_path Fetch) c).1 (inl (at, inr fetch_stays)))
+
+  -- its rules are those of the bag where it keeps what needs no change
+  same_rules : keeps bag renewal ≡ true → rules_in now ≡ rules_in bag
+  same_rules is = by_new_rules bag renewal ∙ keeps_rules bag renewal is
 
   renewed_folder : has_folder now (codes "data") ≡ has_folder bag (codes "data")
   unfolding renewed
@@ -142,7 +145,7 @@ module _ (bag : Bag) (renewal : Renewal) (can : CanRenew bag renewal) (info : Ha
 
     declares_well : IsOfDeclaration now f → asks full f.code ≡ true → ⊥
     unfolding IsOfDeclaration
-    declares_well h asked = elim (kept_or_written bag (tag_path Declaration) declaration_text) [
+    declares_well h asked = elim (kept_or_written bag renewal (tag_path Declaration) declaration_text) [
       | inl was ↦ no_declaration_fault bag can.damaged f
           (as_it_was (declared bag renewal ∙ sym was.1) f.code h) asked
       | inr new ↦ anew (declared bag renewal ∙ ap Some new.1) f.code h
@@ -168,24 +171,20 @@ module _ (bag : Bag) (renewal : Renewal) (can : CanRenew bag renewal) (info : Ha
     unfolding IsOfParts
     no_part_fault h = parts f.code h
 
-    -- ---- what is to be fetched: of a bag of 1.0 that has such a list
+    -- ---- what is to be fetched: of a bag whose rules stay
 
-    module _ (v10 : IsByV10 bag) where
+    module _ (same : rules_in now ≡ rules_in bag) where
       in_fetch : InFetch now f → InFetch bag f
       in_fetch (at, alg, (bytes, stands, wrong)) = (
         at,
         alg,
-        (
-          bytes,
-          sym same_fetch ∙ stands,
-          subst (λ rules. IsFetchFault rules bytes (in_line f)) (names.rules ∙ sym v10) wrong,
-        ),
+        (bytes, sym same_fetch ∙ stands, subst (λ rules. IsFetchFault rules bytes (in_line f)) same wrong),
       )
 
       same_entry : (e : FetchEntry) → HasFetch now e → HasFetch bag e
       same_entry e has =
           subst (λ o. IsFetch (rules_in bag) (lines_or_none o) e) same_fetch
-          (subst (λ rules. IsFetch rules (lines_in now fetch_txt) e) (names.rules ∙ sym v10) has)
+          (subst (λ rules. IsFetch rules (lines_in now fetch_txt) e) same has)
 
       fetch_is_payload : (e : FetchEntry) (rules : Rules) → IsFetch rules (lines_in bag fetch_txt) e
           → is_payload_path e.path ≡ true
@@ -196,11 +195,8 @@ module _ (bag : Bag) (renewal : Renewal) (can : CanRenew bag renewal) (info : Ha
           let was = same_entry e has in
           let of_it = fetch_is_payload e (rules_in bag) was in
           let has_it : HasFile now e.path =
-          ap is_some (same_file bag renewal e.path of_it) ∙ fetched bag can.damaged e was v10 in
-          elim (left_out_by now e.path (rules_in now) f.alg out) [
-            | inl one ↦ one.1.2.1 (there_named now names Payload one.1.0 e.path one.1.2.0 has_it of_it)
-            | inr all ↦ not_both (rules_in now) names.rules all.0
-          ]
+          ap is_some (same_file bag renewal e.path of_it) ∙ fetched bag can.damaged e was in
+          names.listed f.alg e.path (has_it, of_it) out
 
       fetches : (code : Code) → FetchHolds now f code → FetchHolds bag f code
       unfolding FetchHolds
@@ -211,9 +207,9 @@ module _ (bag : Bag) (renewal : Renewal) (can : CanRenew bag renewal) (info : Ha
       fetches FetchOutsidePayload h = in_fetch h
       fetches _ h = h
 
-      of_v10_bag : IsOfFetch now f → asks full f.code ≡ true → ⊥
+      of_old_list : IsOfFetch now f → asks full f.code ≡ true → ⊥
       unfolding IsOfFetch
-      of_v10_bag h asked = no_fetch_fault bag can.damaged f (fetches f.code h) asked
+      of_old_list h asked = no_fetch_fault bag can.damaged f (fetches f.code h) asked
 
     -- of one that has none
     module _ (lacks : LacksFile bag (tag_path Fetch)) where
@@ -239,7 +235,10 @@ module _ (bag : Bag) (renewal : Renewal) (can : CanRenew bag renewal) (info : Ha
       of_no_list h = without f.code h
 
     fetches_well : IsOfFetch now f → asks full f.code ≡ true → ⊥
-    fetches_well h asked = elim can.fetch [ inl v10 ↦ of_v10_bag v10 h asked | inr lacks ↦ of_no_list lacks h ]
+    fetches_well h asked = elim can.fetch [
+      | inl is ↦ of_old_list (same_rules is) h asked
+      | inr lacks ↦ of_no_list lacks h
+    ]
 
     -- ---- the digests: those of a manifest that is kept are as they were
 
@@ -247,35 +246,36 @@ module _ (bag : Bag) (renewal : Renewal) (can : CanRenew bag renewal) (info : Ha
     OldDiffers = Differs bag f Payload × ((alg : Alg) × (f.alg ≡ Some alg) × (is_kept_alg bag renewal alg ≡ true))
 
     differs_by : (alg : Alg) (entry : ManifestEntry) (content text : List ℕ)
-        → file now (manifest_of Payload alg) ≡ Some text → IsEntry V10 Payload alg (lines_of_file text) entry
+        → file now (manifest_of Payload alg) ≡ Some text
+        → IsEntry (rules_in now) Payload alg (lines_of_file text) entry
         → file now entry.path ≡ Some content → entry.digest ≢ digest alg content
         → At f entry.path (Some alg) 0 (expected_and_found entry.digest (digest alg content)) → OldDiffers
     differs_by alg entry content text there is held other at =
         let path = tag_path (Manifest Payload alg) in
-        let new = manifest alg (payload bag) in
-        elim (kept_or_written bag path new) [
-          | inr anew ↦ absurd (other (right Payload alg text anew.0 there entry content is held))
+        elim (old_or_anew bag renewal alg text there) [
+          | inr anew ↦ absurd (other (right Payload alg text anew there entry content
+              (subst (λ rules. IsEntry rules Payload alg (lines_of_file text) entry) (by_new_rules bag renewal) is)
+              held))
           | inl was ↦ (
               let said = new_text bag renewal (Manifest Payload alg) text tt there in
-              let there_too : file bag path ≡ Some text = was.1 ∙ ap Some (sym said.1) in
               let of_it =
-              (((names.told Payload alg text there).paths entry.path).0
-              (entry_named V10 Payload alg (lines_of_file text) entry is)).1 in (
+              ((names.told Payload alg text there).there entry.path
+              (entry_named (rules_in now) Payload alg (lines_of_file text) entry is)).1 in (
                 (
                   alg,
                   entry,
                   content,
                   at,
-                  subst (λ o. IsEntry (rules_in bag) Payload alg (lines_or_none o) entry) (sym there_too)
+                  subst (λ o. IsEntry (rules_in bag) Payload alg (lines_or_none o) entry) (sym was.1)
                       (subst (λ rules. IsEntry rules Payload alg (lines_of_file text) entry)
-                      (sym (of_v10 bag path new was.0)) is),
+                      (by_new_rules bag renewal ∙ kept_rules bag renewal path was.0) is),
                   sym (same_file bag renewal entry.path of_it) ∙ held,
                   other,
                 ),
                 (
                   alg,
                   at.alg_is,
-                  and_from (is_new_alg bag renewal alg) (is_kept bag path)
+                  and_from (is_new_alg bag renewal alg) (is_kept bag renewal path)
                       (passes (is_new_alg bag renewal) alg said.0) was.0,
                 ),
               ))
@@ -284,13 +284,15 @@ module _ (bag : Bag) (renewal : Renewal) (can : CanRenew bag renewal) (info : Ha
     payload_differs : Differs now f Payload → OldDiffers
     payload_differs (alg, entry, content, at, is, held, other) =
         let t = text_of_entry now Payload alg entry is in
-        differs_by alg entry content t.0 t.1
-        (subst (λ rules. IsEntry rules Payload alg (lines_of_file t.0) entry) names.rules t.2) held other at
+        differs_by alg entry content t.0 t.1 t.2 held other at
 
     differs : (code : Code) → ValidityHolds now f code → (code ≡ PayloadSumDiffers) × OldDiffers
     unfolding ValidityHolds
     differs PayloadSumDiffers h = (refl, payload_differs h)
-    differs TagSumDiffers h = absurd (none_differs now names f Tag (λ alg text at. right Tag alg text tt at) h)
+    differs TagSumDiffers h =
+        absurd (none_differs now names f Tag (λ alg text at.
+        subst (λ rules. GivesDigests rules now Tag alg text) (sym (by_new_rules bag renewal)) (right Tag alg text tt at))
+        h)
     differs _ h = absurd h
 
     old_damage : IsOfValidity now f → asks full f.code ≡ true → IsOldDamage bag renewal f

@@ -18,19 +18,19 @@ use Rattle.std.proofs.lemmas.Str.{is_utf8-from_IsUtf8}
 use Rattle.bag_text.proofs.ListOf.{each_from_members}
 use Rattle.bag_text.specs.Lines.{lines_of_file}
 use Rattle.bag_text.specs.Text.{IsText}
-use Rattle.bag_text.specs.declared.rules.Rules.TheVariants.{V10}
+use Rattle.bag_text.specs.declared.rules.Rules.{Rules}
 use Rattle.bag_read.specs.Manifest.{IsEntry}
 use Rattle.bag_read.specs.declared.manifest.ManifestEntry.{ManifestEntry}
 use Rattle.bag_read.proofs.ManifestEntries.{entry_named, named_has_entry}
 use Rattle.bag_tags.specs.Entry.{NewEntry}
-use Rattle.bag_tags.specs.Writable.{CanWrite, begins_with_mark, is_bad_digest, is_bad_entry, is_bad_path, may_name}
+use Rattle.bag_tags.specs.Writable.{CanWriteBy, is_bad_digest, is_bad_entry_by, is_bad_path_by, is_unnameable, may_name}
 use Rattle.bag_tags.specs.Writable.{paths}
-use Rattle.bag_tags.proofs.ManifestReadAgain.{manifest_again}
+use Rattle.bag_tags.proofs.ManifestReadAgain.{manifest_again_by}
 use Rattle.bag_facts.proofs.Mapped.{kept, passed}
 use Rattle.bag_tree.proofs.PathEntries.{t_true}
 use Rattle.bag_tree.specs.Digest.{digest}
 use Rattle.bag_renew.specs.Renewed.{entries_of}
-use Rattle.bag_renew.specs.Telling.{ArePaths, AreUnmarked, GivesDigests, IsManifestOf, NamesAll, WrittenManifestsTell}
+use Rattle.bag_renew.specs.Telling.{AreNameable, ArePaths, GivesDigests, IsManifestOf, IsToBeNamed, NamesAll, WrittenManifestsTell}
 use Rattle.bag_renew.specs.Telling.{is_to_name, paths_named, to_name}
 use Rattle.bag_renew.proofs.Digests.{good_digest}
 use Rattle.bag_facts.proofs.Found.{content_of, held_at, listed}
@@ -60,22 +60,24 @@ distinct_sorted : (es : List File) → is_sorted text_cmp es ≡ true
     → IsDistinct (eq_by_cmp text_cmp) (map (λ (e : File). e.0) es)
 distinct_sorted es up = IsDistinct-from_sorted text_cmp (map (λ (e : File). e.0) es) (ascends es up)
 
--- a path that a manifest of this kind can name
-abbrev CanName : Kind → List ℕ → Type 0
-CanName kind path = IsText path × (is_bad_path kind path ≡ false)
+-- a path that a manifest of this kind can name by these rules
+abbrev CanName : Rules → Kind → List ℕ → Type 0
+CanName rules kind path = IsText path × (is_bad_path_by rules kind path ≡ false)
 
-good_entries : (kind : Kind) (alg : Alg) (es : List File) → AllByRecursion (λ (e : File). CanName kind e.0) es
+good_entries : (rules : Rules) (kind : Kind) (alg : Alg) (es : List File)
+    → AllByRecursion (λ (e : File). CanName rules kind e.0) es
     → AllByRecursion (λ (entry : NewEntry). IsText entry.1) (entries_of alg es)
-    × (list_any (is_bad_entry kind alg) (entries_of alg es) ≡ false)
-good_entries kind alg [] all = (tt, refl)
-good_entries kind alg (e ∷ es) all =
-    let more = good_entries kind alg es all.1 in (
+    × (list_any (is_bad_entry_by rules kind alg) (entries_of alg es) ≡ false)
+good_entries rules kind alg [] all = (tt, refl)
+good_entries rules kind alg (e ∷ es) all =
+    let more = good_entries rules kind alg es all.1 in (
       (all.0.0, more.0),
-      or_from (is_bad_entry kind alg (digest alg e.1, e.0)) _
-          (or_from (is_bad_digest alg (digest alg e.1)) (is_bad_path kind e.0) (good_digest alg e.1) all.0.1) more.1,
+      or_from (is_bad_entry_by rules kind alg (digest alg e.1, e.0)) _
+          (or_from (is_bad_digest alg (digest alg e.1)) (is_bad_path_by rules kind e.0) (good_digest alg e.1) all.0.1)
+          more.1,
     )
 
-module _ (bag : Bag) (kind : Kind) (alg : Alg) where
+module _ (rules : Rules) (bag : Bag) (kind : Kind) (alg : Alg) where
   -- what is to be named is there
   there : (q c : List ℕ) → Contains (to_name bag kind) (q, c) → (is_to_name kind q ≡ true) × (file bag q ≡ Some c)
   there q c h =
@@ -108,7 +110,7 @@ module _ (bag : Bag) (kind : Kind) (alg : Alg) where
       rw map-map (distinct_sorted (to_name bag kind) up) in
       subst (λ (eq : List ℕ → List ℕ → Bool). IsDistinct eq (paths entries)) (λ i p q. sym (texts_ties p q) i) named
 
-  module _ (are : ArePaths bag) (unmarked : AreUnmarked bag) where
+  module _ (are : ArePaths bag) (nameable : AreNameable rules bag) where
     may : (kind : Kind) (q : List ℕ) → HasFile bag q → is_to_name kind q ≡ true → may_name kind q ≡ true
     may Payload q has is = is
     may Tag q has is =
@@ -116,41 +118,41 @@ module _ (bag : Bag) (kind : Kind) (alg : Alg) where
         and_from (is_path q && not (is_payload_path q)) (not (is_manifest_name Tag q))
         (and_from (is_path q) (not (is_payload_path q)) (are q has).0 two.0) two.1
 
-    can_name : AllByRecursion (λ (e : File). CanName kind e.0) (to_name bag kind)
-    can_name = each_from_members (λ (e : File). CanName kind e.0) (to_name bag kind) (λ e h.
+    can_name : AllByRecursion (λ (e : File). CanName rules kind e.0) (to_name bag kind)
+    can_name = each_from_members (λ (e : File). CanName rules kind e.0) (to_name bag kind) (λ e h.
         let m = there e.0 e.1 h in
         let has : HasFile bag e.0 = ap is_some m.1 in (
           is_utf8-from_IsUtf8 e.0 (are e.0 has).1,
-          or_from (not (may_name kind e.0)) (begins_with_mark e.0) (not_from_true _ (may kind e.0 has m.0))
-              (unmarked e.0 has),
+          or_from (not (may_name kind e.0)) (is_unnameable rules e.0) (not_from_true _ (may kind e.0 has m.0))
+              (nameable e.0 has),
         ))
 
-    writable : All (λ entry. IsText entry.1) entries × CanWrite kind alg entries
+    writable : All (λ entry. IsText entry.1) entries × CanWriteBy rules kind alg entries
     writable =
         let good = good_entries kind alg (to_name bag kind) can_name in
         (All-from_recursion (λ (entry : NewEntry). IsText entry.1) entries good.0, (good.1, each_once))
 
     abbrev text_of : List ℕ
-    text_of = manifest alg (to_name bag kind)
+    text_of = manifest rules alg (to_name bag kind)
 
     abbrev lines : List (List ℕ)
     lines = lines_of_file text_of
 
-    entry_listed : (e : ManifestEntry) → IsEntry V10 kind alg lines e → IsListed e.digest e.path
+    entry_listed : (e : ManifestEntry) → IsEntry rules kind alg lines e → IsListed e.digest e.path
     entry_listed e is =
-        let stands = ((manifest_again kind alg entries writable.0 writable.1).0 e).0 is in
+        let stands = ((manifest_again_by rules kind alg entries writable.0 writable.1).0 e).0 is in
         member e.digest e.path (at_place entries stands.0 (e.digest, e.path) stands.2)
 
-    named_there : (path : List ℕ) → Contains (paths_named kind alg text_of) path
-        → HasFile bag path × (is_to_name kind path ≡ true)
+    named_there : (path : List ℕ) → Contains (paths_named rules kind alg text_of) path
+        → IsToBeNamed bag kind path
     named_there path h =
-        let n = named_has_entry V10 kind alg lines path h in
+        let n = named_has_entry rules kind alg lines path h in
         let l = entry_listed n.0 n.1 in
         let held = there path l.0 (subst (λ p. Contains (to_name bag kind) (p, l.0)) n.2 l.1) in
         (ap is_some held.1, held.0)
 
     there_named : (path : List ℕ) → HasFile bag path → is_to_name kind path ≡ true
-        → Contains (paths_named kind alg text_of) path
+        → Contains (paths_named rules kind alg text_of) path
     there_named path has is =
         let c = content_of (file bag path) has in
         let place =
@@ -158,27 +160,27 @@ module _ (bag : Bag) (kind : Kind) (alg : Alg) where
         (mapped_contains {B = NewEntry} (λ (e : File). (digest alg e.1, e.0)) (to_name bag kind) (path, c.0)
         (is_there path c.0 is c.1)) in
         let e : ManifestEntry = record { line = place.0 + 1; digest = digest alg c.0; path = path } in
-        let is : IsEntry V10 kind alg lines e =
-        ((manifest_again kind alg entries writable.0 writable.1).0 e).1 (place.0, refl, place.1) in
-        entry_named V10 kind alg lines e is
+        let is : IsEntry rules kind alg lines e =
+        ((manifest_again_by rules kind alg entries writable.0 writable.1).0 e).1 (place.0, refl, place.1) in
+        entry_named rules kind alg lines e is
 
-    names_all : NamesAll bag kind alg text_of
+    names_all : NamesAll rules bag kind alg text_of
     names_all = record {
-      no_fault = (manifest_again kind alg entries writable.0 writable.1).1;
+      no_fault = (manifest_again_by rules kind alg entries writable.0 writable.1).1;
       paths = λ path. (named_there path, λ h. there_named path h.0 h.1);
     }
 
-    gives_digests : GivesDigests bag kind alg text_of
+    gives_digests : GivesDigests rules bag kind alg text_of
     gives_digests e content is held =
         let l = entry_listed e is in
         let both : Some l.0 ≡ Some content = sym (there e.path l.0 l.1).1 ∙ held in
         let same : l.0 ≡ content = cc in
         l.2 ∙ ap (digest alg) same
 
-    pub tells : (text : List ℕ) → IsManifestOf bag kind alg text
-        → NamesAll bag kind alg text × GivesDigests bag kind alg text
+    pub tells : (text : List ℕ) → IsManifestOf rules bag kind alg text
+        → NamesAll rules bag kind alg text × GivesDigests rules bag kind alg text
     tells text is =
-        subst (λ t. NamesAll bag kind alg t × GivesDigests bag kind alg t) (sym is) (names_all, gives_digests)
+        subst (λ t. NamesAll rules bag kind alg t × GivesDigests rules bag kind alg t) (sym is) (names_all, gives_digests)
 
 pub written_manifests_tell : WrittenManifestsTell
-written_manifests_tell bag kind alg text are unmarked is = tells bag kind alg are unmarked text is
+written_manifests_tell rules bag kind alg text are nameable is = tells rules bag kind alg are nameable text is
