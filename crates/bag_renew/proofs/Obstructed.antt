@@ -7,7 +7,7 @@ use Rattle.bag_renew.proofs.Common.{list_any, and_from, and_parts, tag_path, alg
 use Rattle.bag_renew.proofs.Common.{TagName, Declaration, Info, Fetch, Manifest, bytes_eq-Decides, codes, false_from_ne_true}
 use Rattle.bag_renew.proofs.Common.{first_component, get_or, is_payload_path, suc, take, zero}
 use Rattle.bag_renew.proofs.Common.{Bag, HasFile, files_of, has_file, under, keeps, new_algs, new_rules, Renewal}
-use Rattle.bag_renew.proofs.Common.{begun_file, both_ways, bytes_eq, is_kept_alg, IsTrue, one_text, rules_in, text_itself}
+use Rattle.bag_renew.proofs.Common.{begun_file, both_ways, bytes_eq, is_kept_alg, IsTrue, rules_in}
 use Rattle.std.specs.Prelude.{MatchOption, find}
 use Rattle.std.specs.Option.{option_map}
 use Rattle.std.proofs.lemmas.Simd.{map-map}
@@ -278,7 +278,7 @@ module _ (bag : Bag) (facts : Facts) (of : IsFactsOf bag facts) where
           let path = from_any (bytes_eq name) (named_in bag Payload one.0) both.1 in (
             one.0,
             both.0,
-            subst (Contains (named_in bag Payload one.0)) (sym (one_text name path.0 path.2)) path.1,
+            subst (Contains (named_in bag Payload one.0)) (sym ((bytes_eq-Decides name path.0).0 path.2)) path.1,
           )
 
 -- what holds where nothing was found
@@ -337,7 +337,7 @@ pub names_by : (path : List ℕ) (paths : List (List ℕ)) (b : Bool) → (IsTru
     → (Contains paths path → IsTrue b) → b ≡ list_any (bytes_eq path) paths
 names_by path paths b to back =
     both_ways b (list_any (bytes_eq path) paths)
-    (λ is. any_from (bytes_eq path) paths path (to is) (text_itself path))
+    (λ is. any_from (bytes_eq path) paths path (to is) ((bytes_eq-Decides path path).1 refl))
     (λ some.
     let one = from_any (bytes_eq path) paths some in
-    back (subst (Contains paths) (sym (one_text path one.0 one.2)) one.1))
+    back (subst (Contains paths) (sym ((bytes_eq-Decides path one.0).0 one.2)) one.1))

@@ -3,7 +3,7 @@ use Rattle.bag_renew.proofs.Common.{◌≡◌, ◌∙◌, ◌++◌, ◌∷◌, �
 use Rattle.bag_renew.proofs.Common.{List, [], All, All-append, All-contains, All-map, All-nil, Alg, Contains, ap}
 use Rattle.bag_renew.proofs.Common.{append-nil, append_assoc, arith, false≢true, false_from_ne_true, is_payload_path}
 use Rattle.bag_renew.proofs.Common.{keeps, map, new_algs, refl, subst, sym, take, has_member}
-use Rattle.bag_renew.proofs.Common.{has_payload_manifest, is_new_alg, text_cmp, Bag, File, IsBag, Renewal, files_of}
+use Rattle.bag_renew.proofs.Common.{has_payload_manifest, is_new_alg, text_cmp, Bag, File, IsBag, Renewal, files_of, rules_in}
 use Rattle.std.proofs.lemmas.List.{take-append-drop}
 use Rattle.std.proofs.lemmas.List.Elements.{All-from_recursion, All-take}
 use Rattle.std.proofs.lemmas.List.Folds.{list_any_none}
@@ -34,7 +34,8 @@ use Rattle.bag_renew.specs.NewInfo.{IsInfoRefusal}
 use Rattle.bag_renew.specs.Openings.{AsksNoReading, IsEarly, IsOfSeventh, IsReadyFor, OpensAllInTurn, OpensBefore}
 use Rattle.bag_renew.specs.Openings.{OpensFirstToRead, OpensForRenewal, OpensInTurn, OpensNoPayload}
 use Rattle.bag_renew.specs.Reading.{AllowsRenewal, HasNoEarlyFault, IsRefusalOf, IsRefusalOfStop}
-use Rattle.bag_renew.specs.Renewed.{drops_payload_manifest, is_kept_alg, reads_payload, writes_payload_manifest}
+use Rattle.bag_renew.specs.Renewed.{drops_payload_manifest, is_kept_alg, is_v10, reads_payload}
+use Rattle.bag_renew.specs.Renewed.{writes_payload_manifest}
 use Rattle.bag_renew.specs.Summed.{files_to_read, is_to_read, to_read}
 use Rattle.bag_tree.specs.Listing.{entry_of_file}
 use Rattle.bag_report.specs.Valid.{full}
@@ -164,9 +165,12 @@ module _ (bag : Bag) (renewal : Renewal) (asks : AsksNoReading renewal) where
       neither (writes_payload_manifest bag renewal) renewal.unchecked (drops_payload_manifest bag renewal)
       (none_written is) (elim asks.dropped [ inl un ↦ inl un | inr none ↦ inr (none_dropped bag renewal none) ])
 
-  by_version : HasNoObstacle bag renewal → keeps bag renewal ≡ true
-  by_version free =
-      elim free.version [ inl is ↦ is | inr to ↦ absurd (false≢true (sym asks.version ∙ to)) ]
+  stays : (is_new to_1_0 : Bool) → to_1_0 ≡ false → (is_new || not to_1_0) ≡ true
+  stays true to_1_0 none = refl
+  stays false to_1_0 none = ap not none
+
+  keeps_all : keeps bag renewal ≡ true
+  keeps_all = stays (is_v10 (rules_in bag)) renewal.to_1_0 asks.version
 
 -- so no file of the payload is read
 no_payload_file : (files : List File)
@@ -193,8 +197,7 @@ module _ (renewal : Renewal) (old new : TreeState)
   read_by : AsksNoReading renewal → (read : List (List ℕ)) → h.read ≡ read → NoPayload read
   read_by asks [] is = All-nil (λ path. is_payload_path path ≡ false)
   read_by asks (x ∷ xs) is =
-      let free = (h.ready (λ none. let clash : [] ≡ x ∷ xs = sym none ∙ is in cc)).no_obstacle in
-      let none = none_read h.bag renewal asks (by_version h.bag renewal asks free) in
+      let none = none_read h.bag renewal asks (keeps_all h.bag renewal asks) in
       subst NoPayload
       (sym (h.first.1 ∙ ap (λ b. take h.first.0 (map (λ (e : File). e.0) (files_to_read b (files_of h.bag)))) none) ∙ is)
       (All-take (λ path. is_payload_path path ≡ false) h.first.0 _ (no_payload_file (files_of h.bag)))

@@ -123,7 +123,7 @@ refused_stop renewal old new stop why.BadValue h is = absurd is
 refused_stop renewal old new stop why.NoAlgorithm h is = absurd is
 refused_stop renewal old new stop (why.InTheWay n) h is = absurd is
 refused_stop renewal old new stop (why.Unnameable p) h is = absurd is
-refused_stop renewal old new stop why.Version h is = absurd is
+refused_stop renewal old new stop (why.Unlisted p) h is = absurd is
 refused_stop renewal old new stop why.Fetch h is = absurd is
 refused_stop renewal old new stop (why.PutRefused n q) h is = absurd is
 refused_stop renewal old new stop (why.RemoveRefused n q) h is = absurd is
@@ -138,7 +138,7 @@ module _ (renewal : Renewal) (facts : Facts) where
   refused_by_obstacle why.NoAlgorithm none h = (none, h)
   refused_by_obstacle (why.InTheWay n) none h = (none, h)
   refused_by_obstacle (why.Unnameable p) none h = (none, h)
-  refused_by_obstacle why.Version none h = (none, h)
+  refused_by_obstacle (why.Unlisted p) none h = (none, h)
   refused_by_obstacle why.Fetch none h = (none, h)
   refused_by_obstacle (why.ReadStopped s) none h = (none, h)
   refused_by_obstacle why.Memory none h = tt
@@ -156,7 +156,7 @@ module _ (renewal : Renewal) (facts : Facts) where
   refused_by_info why.NoAlgorithm none free h = (none, λ bag of deep. absurd (h bag of deep).1)
   refused_by_info (why.InTheWay n) none free h = (none, λ bag of deep. absurd (h bag of deep).1)
   refused_by_info (why.Unnameable p) none free h = (none, λ bag of deep. absurd (h bag of deep).1)
-  refused_by_info why.Version none free h = (none, λ bag of deep. absurd (h bag of deep).1)
+  refused_by_info (why.Unlisted p) none free h = (none, λ bag of deep. absurd (h bag of deep).1)
   refused_by_info why.Fetch none free h = (none, λ bag of deep. absurd (h bag of deep).1)
   refused_by_info (why.ReadStopped s) none free h = (none, λ bag of deep. absurd (h bag of deep).1)
   refused_by_info (why.PutRefused n q) none free h = (none, λ bag of deep. absurd (h bag of deep).1)
@@ -171,7 +171,7 @@ module _ (renewal : Renewal) (facts : Facts) where
   memory_by_stage stop why.NoAlgorithm memory is = absurd is
   memory_by_stage stop (why.InTheWay n) memory is = absurd is
   memory_by_stage stop (why.Unnameable p) memory is = absurd is
-  memory_by_stage stop why.Version memory is = absurd is
+  memory_by_stage stop (why.Unlisted p) memory is = absurd is
   memory_by_stage stop why.Fetch memory is = absurd is
   memory_by_stage stop (why.PutRefused n q) memory is = absurd is
   memory_by_stage stop (why.RemoveRefused n q) memory is = absurd is
@@ -336,7 +336,7 @@ module _ (renewal : Renewal) (facts : Facts) (old mid new : TreeState) (options 
   refused_by_facts why.NoAlgorithm h = its_obstacle why.NoAlgorithm h
   refused_by_facts (why.InTheWay n) h = its_obstacle (why.InTheWay n) h
   refused_by_facts (why.Unnameable p) h = its_obstacle (why.Unnameable p) h
-  refused_by_facts why.Version h = its_obstacle why.Version h
+  refused_by_facts (why.Unlisted p) h = its_obstacle (why.Unlisted p) h
   refused_by_facts why.Fetch h = its_obstacle why.Fetch h
 
   -- all was read and checked
@@ -355,7 +355,8 @@ module _ (renewal : Renewal) (facts : Facts) (old mid new : TreeState) (options 
           is_bag = is_bag;
           damaged = damaged facts with_payload algs old new summed info h honest;
           fetch = free.fetch;
-          unmarked = free.unmarked;
+          nameable = free.nameable;
+          listed = free.listed;
           some_alg = free.some_alg;
         };
         valid = λ honest all.

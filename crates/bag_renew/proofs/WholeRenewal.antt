@@ -5,12 +5,10 @@ use Rattle.bag_renew.proofs.Common.{after_changes, changes, renewed, IsOutOfTheW
 use Rattle.bag_renew.proofs.CanChange.{changes_can_be_made}
 use Rattle.bag_renew.proofs.ChangesRenew.{changes_renew}
 use Rattle.bag_renew.proofs.GoodInfo.{good_elements_are_good_info}
-use Rattle.bag_renew.proofs.KeptOr.{keeps_v10}
 use Rattle.bag_renew.proofs.OldBag.{known}
 use Rattle.bag_renew.proofs.SomeChanges.{none_begun, some_changes}
 use Rattle.bag_renew.proofs.Valid.{renewed_has_old_faults}
 use Rattle.std.specs.Prelude.{Result, Ok, Err, IfErr, OnOk}
-use Rattle.bag_facts.specs.Facts.{IsByV10}
 use Rattle.bag_facts.specs.declared.fault.Fault.{Fault}
 use Rattle.bag_tree.specs.ChangeFiles.{HasChanged, LastsResumed, LeavesChange, OutlastsResumedChanges}
 use Rattle.bag_tree.specs.Cut.{MayLeave}
@@ -22,7 +20,7 @@ use Rattle.bag_tree.specs.declared.event.DeviceEvent.{DeviceEvent}
 use Rattle.bag_renew.proofs.Openings.{for_renewal_still}
 use Rattle.bag_renew.specs.Openings.{OpensBefore, OpensForRenewal}
 use Rattle.bag_renew.specs.Reading.{HasKnownSize, MayRefuseReading}
-use Rattle.bag_renew.specs.OnTheWay.{CanRenewInPlace, HasNoPercent}
+use Rattle.bag_renew.specs.OnTheWay.{CanRenewInPlace}
 use Rattle.bag_renew.specs.Renew.{HasNoNewFault, HasPlanned, HasStoppedAt, IsRenewal, LeavesRenewed, MayRefuseRenewing, told_as}
 use Rattle.bag_renew.specs.Request.{is_bad_request}
 use Rattle.bag_renew.specs.Valid.{HasGoodInfo, IsOldDamage}
@@ -141,18 +139,12 @@ module _ (renewal : Renewal) (old read new : TreeState) (planned : List FileChan
         good_elements_are_good_info old.bag renewal (plan.read.bag.can honest)
         (λ writes. plan.read.elements honest writes size)
 
-    spelled : IsByV10 old.bag ⊎ HasNoPercent old.bag
-    spelled = elim (plan.read.bag.no_obstacle honest).spelled [
-      | inl keeps_it ↦ inl (keeps_v10 old.bag keeps_it)
-      | inr none ↦ inr none
-    ]
-
     pub no_new_one : IsTrue old.noted → HasKnownSize old.bag → OutlastsResumedChanges begun_file planned read new
         → EachResumedCut begun_file old.trail new.trail old.bag (HasNoNewFault old.bag)
     no_new_one noted size outlasts =
         let in_place : CanRenewInPlace old.bag renewal = record {
           can = plan.read.bag.can honest;
-          spelled = spelled;
+          spelled = (plan.read.bag.no_obstacle honest).spelled;
           info = good_info size;
           way = way;
           begun = λ alg named. (plan.read.bag.no_obstacle honest).own (alg, named);

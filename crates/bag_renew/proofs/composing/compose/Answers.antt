@@ -19,7 +19,7 @@ returns-clause-composed c = λ bag of deep files are has_info.
     let first : c.in_ok-first.first.items ≡ first_from bag renewal files info =
     first_is bag renewal files info c.args.summed.items c.deref-2.result.now c.in_ok-first.first.items are
     (c.deref-2.ensures.value ∙ c.in_ok-payload.ensures.payload) (c.in_ok-first.ensures.texts bag of deep) in
-    let last : c.in_ok-last.last.items ≡ last_files bag = c.in_ok-last.ensures.texts bag of in
+    let last : c.in_ok-last.last.items ≡ last_files bag renewal = c.in_ok-last.ensures.texts bag of in
     record {
       first = first;
       last = last;
