@@ -25,9 +25,9 @@ use Rattle.bag_renew.specs.Renewed.{renewed}
 use Rattle.bag_renew.specs.Valid.{CanRenew, HasGoodInfo}
 use Rattle.bag_renew.proofs.Contents.{these_files}
 use Rattle.bag_facts.proofs.Found.{same_option}
-use Rattle.bag_renew.proofs.KeptOr.{keeps_v10}
+use Rattle.bag_renew.proofs.KeptOr.{keeps_rules}
 use Rattle.bag_renew.proofs.OldBag.{no_metadata_fault, old_text}
-use Rattle.bag_renew.proofs.RenewedNames.{by_v10, new_text, same_payload}
+use Rattle.bag_renew.proofs.RenewedNames.{by_new_rules, new_text, same_payload}
 
 unnegated : (b : Bool) → not b ≡ false → b ≡ true
 unnegated true e = refl
@@ -51,7 +51,8 @@ module _ (bag : Bag) (renewal : Renewal) (can : CanRenew bag renewal) (kept : wr
   same_rules : rules_in now ≡ rules_in bag
   same_rules =
       let both = unnegated (keeps bag renewal && asks_nothing renewal.elements) kept in
-      by_v10 bag renewal ∙ sym (keeps_v10 bag (and_parts (keeps bag renewal) (asks_nothing renewal.elements) both).0)
+      by_new_rules bag renewal
+      ∙ keeps_rules bag renewal (and_parts (keeps bag renewal) (asks_nothing renewal.elements) both).0
 
   same_oxum : oxum now ≡ oxum bag
   same_oxum = ap oxum_of_files (same_payload bag renewal)

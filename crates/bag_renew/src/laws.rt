@@ -39,7 +39,7 @@ pub fn a_renewed_bag_has_these_files()
     ensures { RenewedHasTheseFiles }
 {}
 
-/// A bag of version 1.0 each of whose manifests names just what it is to name has no fault of its
+/// A bag each of whose manifests names what it is to name by the bag's rules has no fault of its
 /// manifests, and is complete (RFC 8493, 3), whatever tool wrote it.
 pub fn bags_that_name_their_files_are_complete()
     ensures { BagsThatNameTheirFilesAreComplete }
@@ -50,21 +50,24 @@ pub fn bags_that_tell_their_files_are_valid()
     ensures { BagsThatTellTheirFilesAreValid }
 {}
 
-/// A manifest that is written names just what it is to name, with the digests.
+/// A manifest that is written names just what it is to name, with the digests, by the rules of either
+/// version.
 pub fn written_manifests_tell()
     ensures { WrittenManifestsTell }
 {}
 
-/// Each manifest of the renewed bag names just what it is to name, also one that is kept; those that
-/// are written give the digests, and the payload is that of the old bag.
+/// Each manifest of the renewed bag names what it is to name, also one that is kept; those that are
+/// written give the digests, and the payload is that of the old bag. A bag of version 0.97 stays one,
+/// unless it is to become one of 1.0.
 pub fn a_renewed_bag_names_its_files()
     ensures { RenewedNames }
 {}
 
 /// A renewal makes no fault: each fault of the renewed bag is damage of a payload file that the bag
-/// had, by the manifest of an algorithm that is kept. So it is for every bag of version 1.0 without
-/// other faults, and for each such bag of 0.97 without `fetch.txt`, of which no path begins with a
-/// blank or a `*`, as long as an algorithm is left and `bag-info.txt` is good.
+/// had, by the manifest of an algorithm that is kept. So it is for every bag without other faults, of
+/// which no path begins with a blank or a `*`, as long as an algorithm is left, manifests that name
+/// the whole payload, and a good `bag-info.txt`. A bag of version 0.97 that becomes one of 1.0 is to
+/// have no `fetch.txt`; and one that stays of 0.97 no path with `%0A` or `%0D` in it.
 pub fn a_renewed_bag_has_old_faults()
     ensures { RenewedHasOldFaults }
 {}
@@ -81,8 +84,9 @@ pub fn good_elements_are_good_info()
 
 /// A renewal makes no fault on its way: after any number of the changes each fault is damage of a
 /// payload file that the bag had. So it is where no folder has the name of a tag file or of
-/// `.bagit-begun`, and no tag manifest names `.bagit-begun`; and, of a bag of 0.97, no path has a `%`,
-/// which 1.0 spells otherwise. Until `bagit.txt` is put, that is judged by the rules of 0.97.
+/// `.bagit-begun`, and no tag manifest names `.bagit-begun`; and, of a bag of 0.97 that becomes one of
+/// 1.0, no path has a `%`, which 1.0 spells otherwise. Until its `bagit.txt` is put, that is judged by
+/// the rules of 0.97.
 pub fn each_bag_on_the_way_has_old_faults()
     ensures { EachBagOnTheWayHasOldFaults }
 {}

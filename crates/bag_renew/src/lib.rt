@@ -9,13 +9,14 @@
 //! }
 //! ```
 //!
-//! Manifests of further algorithms are made, elements of `bag-info.txt` are set, and the version
-//! becomes 1.0 (RFC 8493, 2.1.1, 2.1.3, 2.2.1 and 2.2.2). After the tag files were read for what
-//! they say, each file is read once: the digests that manifests give are compared, and the new ones
-//! computed, over the same bytes; and the elements that stay are read of these bytes.
+//! Manifests of further algorithms are made, and elements of `bag-info.txt` are set (RFC 8493, 2.1.1,
+//! 2.1.3, 2.2.1 and 2.2.2). A bag of version 0.97 stays one and is written by its rules, or becomes
+//! one of 1.0 where that is asked. After the tag files were read for what they say, each file is read
+//! once: the digests that manifests give are compared, and the new ones computed, over the same
+//! bytes; and the elements that stay are read of these bytes.
 //!
-//! Of a bag in which a fault is found nothing is made. Over any tree the changes and the new manifests are of the
-//! very bytes whose digests were compared. The renewed bag has no fault, and the payload of the old
+//! Of a bag in which a fault is found nothing is made. Over any tree the changes and the new
+//! manifests are of the very bytes whose digests were compared. The renewed bag has no fault, and the payload of the old
 //! one. The changes that make it put or remove one tag file after the other, each can be made after
 //! those before it, and none touches the payload.
 #![tactic(auto)]
