@@ -5,6 +5,7 @@ use Rattle.std.specs.Prelude.{flat_map, MatchResult}
 use Rattle.std.specs.Io.KnownBytes.{Appends}
 use Rattle.bag_text.specs.AlgList.{with_member}
 use Rattle.bag_text.specs.declared.alg.Alg.TheVariants.{Md5, Sha1, Sha224, Sha256, Sha384, Sha512}
+use Rattle.bag_facts.specs.Facts.{rules_in}
 use Rattle.bag_stages.specs.Payload.{payload}
 use Rattle.bag_tree.specs.Tree.{Keeps, TreeState}
 use Rattle.bag_tree.specs.Out.{IsCut}
@@ -26,7 +27,7 @@ one_alg Sha512 = refl
 module _ (alg : Alg) (algs : List Alg) (is : algs ≡ alg ∷ []) (old new : TreeState) (before after : OutState)
     (reported : Result ℕ Refused) (made : List File) where
   pub printed : Keeps old new → OpensAllInTurn old new → AreOfSameBytes algs made → (IsTrue old.honest → HasNoFault old.bag)
-      → (IsTrue old.honest → made ≡ manifests_for algs (payload old.bag))
+      → (IsTrue old.honest → made ≡ manifests_for (rules_in old.bag) algs (payload old.bag))
       → MatchResult reported (λ n. (n ≡ 0) × Appends before.taken after.taken (flat_map text_of made))
       (λ _. IsCut before.taken after.taken (flat_map text_of made) × (after.has_refused ≡ true))
       → IsPrinting alg old new before after reported
@@ -38,8 +39,8 @@ module _ (alg : Alg) (algs : List Alg) (is : algs ≡ alg ∷ []) (old new : Tre
       same_bytes = subst (λ some. AreOfSameBytes some made) is same;
       valid = valid;
       text = λ honest.
-          ap (flat_map text_of) (manifests honest ∙ ap (λ some. manifests_for some (payload old.bag)) is)
-          ∙ append-nil (manifest alg (payload old.bag));
+          ap (flat_map text_of) (manifests honest ∙ ap (λ some. manifests_for (rules_in old.bag) some (payload old.bag)) is)
+          ∙ append-nil (manifest (rules_in old.bag) alg (payload old.bag));
       reports = reports;
     });
   }

@@ -3,6 +3,7 @@ use Rattle.std.specs.Prelude.{ℕ, ◌≡◌, ◌⊎◌, ◌∷◌, List, [], tr
 use Rattle.std.specs.Prelude.{flat_map}
 use Rattle.std.specs.Io.KnownBytes.{Appends}
 use Rattle.bag_text.specs.declared.alg.Alg.{Alg}
+use Rattle.bag_facts.specs.Facts.{rules_in}
 use Rattle.bag_stages.specs.Payload.{payload}
 use Rattle.bag_tree.specs.Out.{IsCut, OutState}
 use Rattle.bag_tree.specs.Tree.{Keeps, TreeState}
@@ -31,13 +32,15 @@ abbrev pub is_status_of : Unchecked → ℕ → Type 0
 is_status_of (Faulty fault) status = status ≡ 1
 is_status_of (Stopped stop) status = status ≡ 3
 
--- The bag has no fault, and the output took its manifest of this algorithm, or refused it.
+-- The bag has no fault, and the output took its manifest of this algorithm, written by its rules, or
+-- refused it.
 pub record IsPrinted (alg : Alg) (old new : TreeState) (before after : OutState)
     (reported : Result ℕ Refused) : Type 0 where
   pub made : List File
   pub same_bytes : AreOfSameBytes (alg ∷ []) made
   pub valid : IsTrue old.honest → HasNoFault old.bag
-  pub text : IsTrue old.honest → flat_map text_of made ≡ manifest alg (payload old.bag)
+  pub text : IsTrue old.honest
+      → flat_map text_of made ≡ manifest (rules_in old.bag) alg (payload old.bag)
   pub reports : MatchResult reported
       (λ n. (n ≡ 0) × Appends before.taken after.taken (flat_map text_of made))
       (λ _. IsCut before.taken after.taken (flat_map text_of made) × (after.has_refused ≡ true))
