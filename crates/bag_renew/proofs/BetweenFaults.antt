@@ -1,7 +1,7 @@
 -- A bag between two others, with files of the one and of the other, has no fault that neither has.
 use Rattle.bag_renew.proofs.Common.{arith, ◌≡◌, ◌≢◌, ◌⊎◌, ◌∙◌, inl, inr, ℕ, true, false, List, [], None, Some}
 use Rattle.bag_renew.proofs.Common.{is_some, get_or, refl, ap, sym, subst, codes, false≢true, false_from_ne_true}
-use Rattle.bag_renew.proofs.Common.{is_manifest_name, manifest_name, Kind, Payload, Tag, Alg, name, Bag, file}
+use Rattle.bag_renew.proofs.Common.{is_manifest_name, manifest_name, Kind, Payload, Tag, Alg, name, Bag, HasFile, file}
 use Rattle.bag_renew.proofs.Common.{begun_file}
 use Rattle.std.specs.FinSet as set
 use Rattle.bag_text.specs.declared.code.Code.{Code}
@@ -57,18 +57,26 @@ NoneNamesBegun base = (alg : Alg) → Names base Tag alg begun_file → ⊥
 abbrev pub HasNoPayloadManifest : Bag → Type 0
 HasNoPayloadManifest bag = (alg : List ℕ) → ¬ (HasManifest bag Payload alg)
 
--- A bag of 0.97 that has nothing to fetch: what its payload manifests leave out, those of the old one
--- did.
-pub record IsBetweenByV097 (mid old : Bag) : Type 0 where
+-- a file of the payload, or a path that a list of files to fetch may name
+abbrev pub MayBeListed : Bag → List ℕ → Type 0
+MayBeListed mid path = IsPayloadFile mid path ⊎ HasFile mid fetch_txt
+
+-- a bag is of 0.97, and no payload manifest of it names the path
+abbrev pub IsUnlistedByV097 : Bag → List ℕ → Type 0
+IsUnlistedByV097 bag path = IsByV097 bag × IsLeftOutByAll bag path
+
+-- A bag of 0.97, on its way from another: what its payload manifests leave out, those of the old one
+-- did, or those of the new one do.
+pub record IsBetweenByV097 (mid old new : Bag) : Type 0 where
   pub rules : IsByV097 mid
   pub old_rules : IsByV097 old
-  pub no_list : LacksFile mid fetch_txt
-  pub left_out : (path : List ℕ) → IsPayloadFile mid path → IsLeftOutByAll mid path → IsLeftOutByAll old path
+  pub left_out : (path : List ℕ) → MayBeListed mid path → IsLeftOutByAll mid path
+      → IsUnlistedByV097 old path ⊎ IsUnlistedByV097 new path
 
 -- each file is that of the one or the other bag, and each tag manifest stands beside what it was
 -- written for
 pub record IsBetween (mid old new : Bag) : Type 0 where
-  pub rules : IsByV10 mid ⊎ IsBetweenByV097 mid old
+  pub rules : IsByV10 mid ⊎ IsBetweenByV097 mid old new
   pub as_old : AreAlike mid old
   pub as_new : AreAlike mid new
   pub folders : mid.folders ≡ old.folders
@@ -230,30 +238,32 @@ module _ (mid old new : Bag) (between : IsBetween mid old new) (f : Fault) where
       | inr same ↦ inr (by_told new alg (as_new.v10 ruled) told (left_out_was mid new as_new f alg path same out))
     ]
 
-    by_rules : IsByV097 mid → IsPayloadFile mid path → f.alg ≡ None → IsLeftOutByAll mid path → LeavesOut old
-    by_rules ruled there told out = elim between.rules [
+    by_both : (base : Bag) → f.alg ≡ None → IsUnlistedByV097 base path → LeavesOut base
+    by_both base told unlisted =
+        subst (λ t. IsLeftOut (rules_in base) base t path) (sym told)
+        (by_all base path (rules_in base) unlisted.0 unlisted.1)
+
+    by_rules : IsByV097 mid → MayBeListed mid path → f.alg ≡ None → IsLeftOutByAll mid path
+        → LeavesOut old ⊎ LeavesOut new
+    by_rules ruled may told out = elim between.rules [
       | inl v10 ↦ absurd (not_both (rules_in mid) v10 ruled)
-      | inr old_one ↦ subst (λ t. IsLeftOut (rules_in old) old t path) (sym told)
-          (by_all old path (rules_in old) old_one.old_rules (old_one.left_out path there out))
+      | inr by_v097 ↦ elim (by_v097.left_out path may out) [
+        | inl was ↦ inl (by_both old told was)
+        | inr is ↦ inr (by_both new told is)
+      ]
     ]
 
-    left_out : (IsByV097 mid → IsPayloadFile mid path) → LeavesOut mid → LeavesOut old ⊎ LeavesOut new
-    left_out there out = elim (left_out_by mid path (rules_in mid) f.alg out) [
+    left_out : MayBeListed mid path → LeavesOut mid → LeavesOut old ⊎ LeavesOut new
+    left_out may out = elim (left_out_by mid path (rules_in mid) f.alg out) [
       | inl one ↦ by_manifest one.1.0 one.0 one.1.1 one.1.2
-      | inr all ↦ inl (by_rules all.0 (there all.0) all.1 all.2)
+      | inr all ↦ by_rules all.0 may all.1 all.2
     ]
 
   -- ---- the list of files to fetch
 
-  nothing_listed : IsByV097 mid → (e : FetchEntry) → HasFetch mid e → ⊥
-  nothing_listed ruled e has = elim between.rules [
-    | inl v10 ↦ not_both (rules_in mid) v10 ruled
-    | inr old_one ↦ false≢true (sym old_one.no_list ∙ has_list mid e has)
-  ]
-
   fetches : (code : Code) → FetchHolds mid f code → FetchHolds old f code ⊎ FetchHolds new f code
   unfolding FetchHolds
-  fetches FetchNotInManifest (e, at, has, out) = elim (left_out e.path (λ ruled. absurd (nothing_listed ruled e has)) out) [
+  fetches FetchNotInManifest (e, at, has, out) = elim (left_out e.path (inr (has_list mid e has)) out) [
     | inl o ↦ inl (e, at, entry_was mid old as_old f e has, o)
     | inr o ↦ inr (e, at, entry_was mid new as_new f e has, o)
   ]
@@ -324,7 +334,7 @@ module _ (mid old new : Bag) (between : IsBetween mid old new) (f : Fault) where
   unfolding CompletenessHolds asks
   completes PayloadFileMissing h asked = payload_missing h
   completes TagFileMissing h asked = tags_missing h
-  completes PayloadFileNotListed (at, (held, is), out) asked = elim (left_out f.path (λ ruled. (held, is)) out) [
+  completes PayloadFileNotListed (at, (held, is), out) asked = elim (left_out f.path (inl (held, is)) out) [
     | inl o ↦ inl (at, (ap is_some (sym (as_old.payload_file f.path is)) ∙ held, is), o)
     | inr o ↦ inr (at, (ap is_some (sym (as_new.payload_file f.path is)) ∙ held, is), o)
   ]

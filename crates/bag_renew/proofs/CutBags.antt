@@ -1,41 +1,55 @@
 -- What a power cut leaves of a bag that is renewed can be renewed so again.
-use Rattle.bag_renew.proofs.Common.{◌≡◌, ◌⊎◌, ◌∙◌, ◌<◌, inl, inr, ℕ, true, false, List, is_some, sym, ap, subst}
-use Rattle.bag_renew.proofs.Common.{All, list_any, tag_path, Tag, Fetch, Info, Bag, IsBag, file, has_folder, begun_file}
-use Rattle.bag_renew.proofs.Common.{writes_info, Renewal, changes, IsOutOfTheWay}
+use Rattle.bag_renew.proofs.Common.{◌≡◌, ◌⊎◌, ◌∙◌, ◌<◌, ◌||◌, inl, inr, ℕ, Bool, true, false, not, List, is_some}
+use Rattle.bag_renew.proofs.Common.{refl, sym, ap, subst, Contains, All, and_parts, any_from, false≢true, list_any}
+use Rattle.bag_renew.proofs.Common.{tag_path, Payload, Tag, Fetch, Info, Manifest, Alg, Bag, IsBag, file, has_folder}
+use Rattle.bag_renew.proofs.Common.{begun_file, is_kept, is_kept_alg, is_new_alg, keeps, new_algs, new_rules}
+use Rattle.bag_renew.proofs.Common.{payload_manifest, rules_in, writes_info, Renewal, changes, IsOutOfTheWay}
 use Rattle.std.specs.FinSet as set
 use Rattle.std.specs.Prelude.{◌^◌}
 use Rattle.bag_text.specs.Text.{IsText}
-use Rattle.bag_facts.specs.Facts.{IsByV10, rules_in}
-use Rattle.bag_facts.specs.FactsOfBag.{IsByV097}
+use Rattle.bag_text.specs.declared.rules.Rules.{Rules}
+use Rattle.bag_text.specs.declared.rules.Rules.TheVariants.{V10, V097}
+use Rattle.bag_read.specs.Manifest.{named}
 use Rattle.bag_stages.proofs.BagLists.{same_or_not}
-use Rattle.bag_stages.proofs.LeftOut.{not_both}
+use Rattle.bag_stages.proofs.LeftOut.{some_member}
+use Rattle.bag_stages.specs.LeftOut.{IsNamedBySome}
 use Rattle.bag_stages.specs.MetadataStage.{IsOfMetadata}
 use Rattle.bag_stages.specs.Payload.{oxum, oxum_of_files}
+use Rattle.bag_stages.specs.TagFiles.{HasSupported, lines_in, lines_or_none, manifest_of}
 use Rattle.bag_tags.specs.OnLines.{is_bad_long_element}
-use Rattle.bag_tags.specs.Writable.{begins_with_mark}
+use Rattle.bag_tags.specs.Writable.{is_unnameable}
 use Rattle.bag_tree.specs.Bag.{LacksFile}
 use Rattle.bag_tree.specs.FileChanges.{IsAfterFirst}
 use Rattle.bag_renew.specs.Again.{CutBagsCanBeRenewed}
 use Rattle.bag_renew.specs.Obstacles.{has_percent}
 use Rattle.bag_renew.specs.OnTheWay.{CanRenewInPlace, HasNoPercent, NoTagManifestNamesBegun}
-use Rattle.bag_renew.specs.Renewed.{renewed}
+use Rattle.bag_renew.specs.Renewed.{is_v10, renewed, writes_payload_manifest}
 use Rattle.bag_renew.specs.Request.{is_bad_request}
-use Rattle.bag_renew.specs.Telling.{AreUnmarked}
+use Rattle.bag_renew.specs.Telling.{AreNameable, AreStillListed, IsNamedByKept, IsToBeNamed, NamesItsFiles}
 use Rattle.bag_renew.specs.Valid.{HasGoodElements, HasGoodInfo}
+use Rattle.bag_renew.proofs.AlgsWhere.{alg_in, passes}
 use Rattle.bag_renew.proofs.BetweenFaults.{IsBetween, named_by, names_begun}
 use Rattle.bag_renew.proofs.Contents.{these_files}
 use Rattle.bag_facts.proofs.Found.{content_of}
+use Rattle.bag_renew.proofs.KeptOr.{kept_rules}
+use Rattle.bag_renew.proofs.NewRules.{renewed_keeps}
+use Rattle.bag_renew.proofs.OldBag.{known, names_its_payload}
 use Rattle.bag_renew.proofs.OnTheWay.{cut_on_its_way, each_cut_has_old_faults}
+use Rattle.bag_renew.proofs.OnTheWayFiles.{same_rules}
 use Rattle.bag_renew.proofs.OnTheWayFromV097.{renewed_percent}
 use Rattle.bag_renew.proofs.RenewedAgain.{AreRenewedAlike, cut_alike, same_algs, same_payload, same_renewed}
-use Rattle.bag_renew.proofs.RenewedNames.{by_v10}
-use Rattle.bag_renew.proofs.TagNames.{tag_unmarked}
+use Rattle.bag_renew.proofs.RenewedNames.{are_nameable, by_new_rules, names_files, new_text, same_file, same_manifest}
+use Rattle.bag_renew.proofs.Telling.{some_named}
 
--- a bag between two others, of which no path begins with a mark, and in whose way no folder is
+begun_nameable : (rules : Rules) → is_unnameable rules begun_file ≡ false
+begun_nameable V10 = refl
+begun_nameable V097 = refl
+
+-- a bag between two others, of which each path can be named, and in whose way no folder is
 module _ (left old new : Bag) (between : IsBetween left old new) where
-  unmarked_between : AreUnmarked old → AreUnmarked new → AreUnmarked left
-  unmarked_between old_are new_are path there = elim (same_or_not path begun_file) [
-    | inl is ↦ ap begins_with_mark is
+  nameable_between : (rules : Rules) → AreNameable rules old → AreNameable rules new → AreNameable rules left
+  nameable_between rules old_are new_are path there = elim (same_or_not path begun_file) [
+    | inl is ↦ ap (is_unnameable rules) is ∙ begun_nameable rules
     | inr other ↦ (let c = content_of (file left path) there in
         elim (between.either path c.0 other c.1) [
           | inl was ↦ old_are path (ap is_some was)
@@ -78,47 +92,106 @@ module _ (bag : Bag) (renewal : Renewal) (left : Bag) (can : CanRenewInPlace bag
   same : renewed left renewal ≡ new
   same = same_renewed left bag renewal are
 
-  -- ---- no path begins with a mark
+  -- ---- each path can be named
 
-  new_unmarked : AreUnmarked new
-  new_unmarked path there =
-      let c = content_of (file new path) there in
-      elim ((these_files bag renewal path c.0).0 c.1) [
-        | inl stayed ↦ can.can.unmarked path (ap is_some stayed.0)
-        | inr made ↦ ap begins_with_mark made.1 ∙ tag_unmarked made.0
-      ]
+  new_nameable : AreNameable (new_rules bag renewal) new
+  new_nameable = are_nameable bag renewal can.can.is_bag can.can.nameable
 
-  unmarked : AreUnmarked left
-  unmarked = elim on [
-    | inl between ↦ unmarked_between left bag new between can.can.unmarked new_unmarked
-    | inr between ↦ unmarked_between left new new between new_unmarked new_unmarked
-  ]
+  nameable : AreNameable (new_rules left renewal) left
+  nameable =
+      subst (λ rules. AreNameable rules left) (sym are.rules)
+      (elim on [
+        | inl between ↦ nameable_between left bag new between (new_rules bag renewal) can.can.nameable new_nameable
+        | inr between ↦ nameable_between left new new between (new_rules bag renewal) new_nameable new_nameable
+      ])
 
-  -- ---- it is of 1.0, or is spelled the same
+  -- ---- it keeps what needs no change, or is spelled the same
 
   abbrev IsSpelled : Type 0
-  IsSpelled = (IsByV10 left ⊎ HasNoPercent left) × (IsByV10 left ⊎ LacksFile left (tag_path Fetch))
-
-  by_spelling : IsBetween left bag new → IsByV097 bag → IsByV10 bag ⊎ HasNoPercent bag
-      → IsByV10 left ⊎ HasNoPercent left
-  by_spelling between v097 (inl v10) = absurd (not_both (rules_in bag) v10 v097)
-  by_spelling between v097 (inr none) =
-      inr (percent_between left bag new between none (renewed_percent bag renewal none))
+  IsSpelled =
+      ((keeps left renewal ≡ true) ⊎ HasNoPercent left)
+      × ((keeps left renewal ≡ true) ⊎ LacksFile left (tag_path Fetch))
 
   by_between : IsBetween left bag new → IsSpelled
-  by_between between = elim between.rules [
-    | inl v10 ↦ (inl v10, inl v10)
-    | inr old_one ↦ (by_spelling between old_one.old_rules can.spelled, inr old_one.no_list)
-  ]
+  by_between between =
+      let same_keeps : keeps left renewal ≡ keeps bag renewal =
+      ap (λ rules. is_v10 rules || not renewal.to_1_0) (same_rules left bag between.declaration) in (
+        elim can.spelled [
+          | inl keeps_it ↦ inl (same_keeps ∙ keeps_it)
+          | inr none ↦ inr (percent_between left bag new between none (renewed_percent bag renewal none))
+        ],
+        elim can.can.fetch [
+          | inl keeps_it ↦ inl (same_keeps ∙ keeps_it)
+          | inr lacks ↦ inr (ap is_some between.as_old.fetch ∙ lacks)
+        ],
+      )
 
   by_new : IsBetween left new new → IsSpelled
-  by_new between = elim between.rules [
-    | inl v10 ↦ (inl v10, inl v10)
-    | inr old_one ↦ absurd (not_both (rules_in new) (by_v10 bag renewal) old_one.old_rules)
-  ]
+  by_new between =
+      let keeps_it =
+      renewed_keeps bag renewal left (same_rules left new between.declaration ∙ by_new_rules bag renewal) in
+      (inl keeps_it, inl keeps_it)
 
   spelled : IsSpelled
   spelled = elim on [ inl between ↦ by_between between | inr between ↦ by_new between ]
+
+  -- ---- a payload manifest is still to be written, or those that are kept name all of the payload
+
+  names_new : NamesItsFiles new
+  names_new =
+      names_files bag renewal can.can.is_bag can.can.nameable (names_its_payload bag can.can.damaged) can.can.listed
+      (known bag can.can.damaged)
+
+  some_manifest : (alg : Alg) × HasSupported new Payload alg
+  some_manifest =
+      let m = some_member (new_algs bag renewal) can.can.some_alg in
+      let text = (payload_manifest bag renewal m.0).1 in
+      (
+        m.0,
+        ap is_some ((these_files bag renewal (manifest_of Payload m.0) text).1
+            (inr (Manifest Payload m.0, refl, (m.1, refl)))),
+      )
+
+  module _ (none_written : writes_payload_manifest left renewal ≡ false) (path : List ℕ)
+      (is : IsToBeNamed left Payload path) where
+    -- the renewed bag's manifest of an algorithm is that which is kept
+    kept_by : (alg : Alg) → is_new_alg left renewal alg ≡ true → (b : Bool) → is_kept_alg left renewal alg ≡ b
+        → is_kept_alg left renewal alg ≡ true
+    kept_by alg new_one true kept = kept
+    kept_by alg new_one false anew =
+        absurd (false≢true (sym none_written
+        ∙ any_from (λ a. not (is_kept_alg left renewal a)) (new_algs left renewal) alg
+        (alg_in (is_new_alg left renewal) alg new_one) (ap not anew)))
+
+    named_still : IsNamedBySome new path → IsNamedByKept left renewal path
+    named_still (alg, names) =
+        let manifest_path = manifest_of Payload alg in
+        let n = named_by new Payload alg path names in
+        let new_one =
+        are.algs alg ∙ passes (is_new_alg bag renewal) alg (new_text bag renewal (Manifest Payload alg) n.0 tt n.1).0 in
+        let kept = kept_by alg new_one (is_kept_alg left renewal alg) refl in
+        let of_it = (and_parts (is_new_alg left renewal alg) (is_kept left renewal manifest_path) kept).1 in
+        let rules : rules_in new ≡ rules_in left =
+        by_new_rules bag renewal ∙ sym are.rules ∙ kept_rules left renewal manifest_path of_it in
+        let file_is : file new manifest_path ≡ file left manifest_path =
+        sym (ap (λ b. file b manifest_path) same) ∙ same_manifest left renewal alg kept in
+        (
+          alg,
+          kept,
+          subst (λ o. Contains (named (rules_in left) Payload alg (lines_or_none o)) path) file_is
+              (subst (λ r. Contains (named r Payload alg (lines_in new manifest_path)) path) rules names),
+        )
+
+    named_in_new : IsToBeNamed new Payload path
+    named_in_new =
+        (ap is_some (sym (ap (λ b. file b path) same) ∙ same_file left renewal path is.1) ∙ is.0, is.1)
+
+    named_by_kept : IsNamedByKept left renewal path
+    named_by_kept = named_still (some_named new names_new some_manifest path named_in_new)
+
+  still_listed : (writes : Bool) → writes_payload_manifest left renewal ≡ writes → AreStillListed left renewal
+  still_listed true writes = inr (inl writes)
+  still_listed false none = inr (inr (named_by_kept none))
 
   -- ---- nothing is in the way
 
@@ -166,7 +239,8 @@ module _ (bag : Bag) (renewal : Renewal) (left : Bag) (can : CanRenewInPlace bag
       is_bag = is;
       damaged = λ f has. (each_cut_has_old_faults bag renewal left can cut f has).0;
       fetch = spelled.1;
-      unmarked = unmarked;
+      nameable = nameable;
+      listed = still_listed (writes_payload_manifest left renewal) refl;
       some_alg = λ none. can.can.some_alg (sym (same_algs left bag renewal are) ∙ none);
     };
     spelled = spelled.0;

@@ -55,3 +55,13 @@ module _ (bag : Bag) (renewal : Renewal) where
   -- where the declaration is written, they are those of 1.0
   pub of_written : is_kept bag renewal (tag_path Declaration) ≡ false → new_rules bag renewal ≡ V10
   of_written isnt = written_by (keeps bag renewal) refl isnt
+
+  -- and a bag that has them keeps what needs no change
+  pub renewed_keeps : (b : Bag) → rules_in b ≡ new_rules bag renewal → keeps b renewal ≡ true
+  renewed_keeps b same =
+      ap (λ rules. is_v10 rules || not renewal.to_1_0) same ∙ keeps_by renewal.to_1_0 (rules_in bag)
+    where
+      keeps_by : (to_1_0 : Bool) (rules : Rules) → (is_v10 (cond to_1_0 V10 rules) || not to_1_0) ≡ true
+      keeps_by true rules = refl
+      keeps_by false V10 = refl
+      keeps_by false V097 = refl

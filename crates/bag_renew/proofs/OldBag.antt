@@ -147,7 +147,7 @@ module _ (bag : Bag) (damaged : (f : Fault) → IsFaultOf bag f → IsDamage f) 
             let a = known Payload alg has in lacks a.0 (subst (λ t. HasFile bag (manifest_name Payload t)) a.1 has.1),
       ))) refl (λ same. cc)
 
-  some_manifest : (alg : Alg) × HasSupported bag Payload alg
+  pub some_manifest : (alg : Alg) × HasSupported bag Payload alg
   some_manifest = elim (some_alg (λ alg. HasSupported bag Payload alg) has_or_not) [
     | inl there ↦ there
     | inr lacks ↦ absurd (no_manifest_there (λ alg has. lacks (alg, has)))

@@ -1,13 +1,9 @@
 -- Each fault of a bag on the way is damage that the bag had.
 use Rattle.bag_renew.proofs.Common.{◌≡◌, ◌⊎◌, inl, inr, ℕ, List, refl, sym, subst, Bag, after, changes, create}
-use Rattle.bag_renew.proofs.Common.{begun_file, Renewal}
+use Rattle.bag_renew.proofs.Common.{begun_file, Bool, true, false, false≢true, keeps, Renewal, ◌∙◌}
 use Rattle.bag_text.proofs.ListOf.{contains_nothing, nothing_listed}
 use Rattle.bag_tree.specs.FileChanges.{IsAfterFirst}
-use Rattle.bag_text.specs.declared.rules.Rules.{Rules}
-use Rattle.bag_text.specs.declared.rules.Rules.TheVariants.{V10, V097}
-use Rattle.bag_facts.specs.Facts.{IsByV10, rules_in}
 use Rattle.bag_facts.specs.FaultOrder.{fault_cmp}
-use Rattle.bag_stages.proofs.LeftOut.{not_both}
 use Rattle.bag_facts.specs.declared.fault.Fault.{Fault}
 use Rattle.bag_renew.specs.OnTheWay.{CanRenewInPlace, EachBagOnTheWayHasOldFaults, EachBagOnTheWayIsValid}
 use Rattle.bag_renew.specs.OnTheWay.{EachCutBagHasOldFaults, EachCutBagIsValid, HasNoPercent}
@@ -19,10 +15,6 @@ use Rattle.bag_renew.proofs.OnTheWayBegun.{with_begun}
 use Rattle.bag_renew.proofs.OnTheWayFiles.{between}
 use Rattle.bag_renew.proofs.OnTheWayFromV097.{between_v097}
 use Rattle.bag_renew.proofs.Valid.{renewed_has_old_faults}
-
-pub by_v10_or_v097 : (rules : Rules) → (rules ≡ V10) ⊎ (rules ≡ V097)
-by_v10_or_v097 V10 = inl refl
-by_v10_or_v097 V097 = inr refl
 
 module _ (bag : Bag) (renewal : Renewal) (can : CanRenewInPlace bag renewal) where
   abbrev now : Bag
@@ -51,14 +43,14 @@ module _ (bag : Bag) (renewal : Renewal) (can : CanRenewInPlace bag renewal) whe
   no_fault mid old none =
       nothing_listed fault_cmp (IsFaultOf mid) (λ f is. contains_nothing f ((none.members f).1 (old f is).1))
 
-  by_rules : (k : ℕ) → (rules_in bag ≡ V10) ⊎ (rules_in bag ≡ V097) → IsByV10 bag ⊎ HasNoPercent bag
+  by_rules : (k : ℕ) (keeps_it : Bool) → keeps bag renewal ≡ keeps_it → (keeps bag renewal ≡ true) ⊎ HasNoPercent bag
       → IsOnItsWay (after bag renewal k)
-  by_rules k (inl v10) spelled = inl (between bag renewal k can v10)
-  by_rules k (inr v097) (inl v10) = absurd (not_both (rules_in bag) v10 v097)
-  by_rules k (inr v097) (inr none) = between_v097 bag renewal k can v097 none
+  by_rules k true is spelled = inl (between bag renewal k can is)
+  by_rules k false isnt (inl is) = absurd (false≢true (sym isnt ∙ is))
+  by_rules k false isnt (inr none) = between_v097 bag renewal k can isnt none
 
   pub on_its_way : (k : ℕ) → IsOnItsWay (after bag renewal k)
-  on_its_way k = by_rules k (by_v10_or_v097 (rules_in bag)) can.spelled
+  on_its_way k = by_rules k (keeps bag renewal) refl can.spelled
 
   begun_too : (mid : Bag) (found : List ℕ) → IsOnItsWay mid → IsOnItsWay (create begun_file found mid)
   begun_too mid found (inl is) = inl (with_begun mid bag now found is)

@@ -11,7 +11,7 @@ use Rattle.bag_facts.specs.Facts.{IsByV10, rules_in}
 use Rattle.bag_stages.specs.LeftOut.{IsLeftOutByAll}
 use Rattle.bag_renew.proofs.AlikeFaults.{AreAlike, alike_by_rules, names_now}
 use Rattle.bag_renew.proofs.BetweenFaults.{HasNoPayloadManifest, IsBetween, IsBetweenByV097, IsTagManifestOf}
-use Rattle.bag_renew.proofs.BetweenFaults.{no_manifest_begun}
+use Rattle.bag_renew.proofs.BetweenFaults.{MayBeListed, no_manifest_begun}
 use Rattle.bag_renew.proofs.OnTheWayFiles.{same_rules}
 use Rattle.bag_renew.proofs.ReadAlike.{ReadAlike, SplitAlike}
 use Rattle.bag_renew.proofs.Staying.{itself, no_begun, no_payload_name, stays_so}
@@ -71,15 +71,16 @@ module _ (mid old new : Bag) (found : List ℕ) (between : IsBetween mid old new
     λ named. unnamed (named.0, names_now begun mid as_mid Payload named.0 (at_manifest Payload named.0) path named.1),
   )
 
-  ruled : IsByV10 mid ⊎ IsBetweenByV097 mid old → IsByV10 begun ⊎ IsBetweenByV097 begun old
+  may_before : (path : List ℕ) → MayBeListed begun path → MayBeListed mid path
+  may_before path (inl there) = inl (ap is_some (sym (payload_alike path there.1)) ∙ there.0, there.1)
+  may_before path (inr there) = inr (ap is_some (sym same_fetch) ∙ there)
+
+  ruled : IsByV10 mid ⊎ IsBetweenByV097 mid old new → IsByV10 begun ⊎ IsBetweenByV097 begun old new
   ruled (inl v10) = inl (by_same ∙ v10)
   ruled (inr by_v097) = inr (record {
     rules = by_same ∙ by_v097.rules;
     old_rules = by_v097.old_rules;
-    no_list = ap is_some same_fetch ∙ by_v097.no_list;
-    left_out = λ path there out.
-        by_v097.left_out path (ap is_some (sym (payload_alike path there.1)) ∙ there.0, there.1)
-        (left_out_before path out);
+    left_out = λ path may out. by_v097.left_out path (may_before path may) (left_out_before path out);
   })
 
   none_before : HasNoPayloadManifest begun → HasNoPayloadManifest mid

@@ -8,7 +8,7 @@ use Rattle.bag_renew.proofs.Common.{tag_path, Kind, Payload, is_manifest_name, m
 use Rattle.bag_renew.proofs.Common.{TagName, Tag, Declaration, Info, Manifest, Alg, Bag, file, has_file, FileChange}
 use Rattle.bag_renew.proofs.Common.{Put, Remove, changes, clearing, closing, dropping, opening, put, putting, unkept}
 use Rattle.bag_renew.proofs.Common.{File, begun_file, declaration_file, algs_where, has_payload_manifest}
-use Rattle.bag_renew.proofs.Common.{has_tag_manifest, is_kept, manifest, named_tag_files, new_algs, payload_manifest}
+use Rattle.bag_renew.proofs.Common.{has_tag_manifest, is_kept, manifest, named_tag_files, new_algs, new_rules, payload_manifest}
 use Rattle.bag_renew.proofs.Common.{payload_manifests, tag_manifests, with_path, writes_info, Renewal}
 use Rattle.std.proofs.Common.{drop, take-append-drop}
 use Rattle.bag_facts.proofs.Mapped.{kept}
@@ -139,17 +139,17 @@ module _ (bag : Bag) (renewal : Renewal) where
   ]
   info_named false text there e has = absurd (contains_nothing {A = File} e has)
 
-  manifest_named : (e : File) → Contains (unkept bag (payload_manifests bag renewal)) e
+  manifest_named : (e : File) → Contains (unkept bag renewal (payload_manifests bag renewal)) e
       → (alg : Alg) × (e.0 ≡ tag_path (Manifest Payload alg))
   manifest_named e has =
       let m =
       contains_mapped {B = File} (payload_manifest bag renewal) (new_algs bag renewal) e
-      (kept (λ (e : File). not (is_kept bag e.0)) (payload_manifests bag renewal) e has).1 in
+      (kept (λ (e : File). not (is_kept bag renewal e.0)) (payload_manifests bag renewal) e has).1 in
       (m.0, sym (ap (λ (y : File). y.0) m.2))
 
   in_putting : (d : FileChange) → Contains (putting bag renewal) d → PutsAt IsPutName d
   in_putting d has =
-      elim (contains_either (map put (info_put bag renewal)) (map put (unkept bag (payload_manifests bag renewal))) d
+      elim (contains_either (map put (info_put bag renewal)) (map put (unkept bag renewal (payload_manifests bag renewal))) d
       has) [
         | inl info ↦ (
             let p = in_puts (info_put bag renewal) d info in (
@@ -158,7 +158,7 @@ module _ (bag : Bag) (renewal : Renewal) where
               inl (info_named (writes_info bag renewal) (info_text bag renewal) (file bag (tag_path Info)) p.0 p.1),
             ))
         | inr more ↦ (
-            let p = in_puts (unkept bag (payload_manifests bag renewal)) d more in
+            let p = in_puts (unkept bag renewal (payload_manifests bag renewal)) d more in
             (p.0, p.2, inr (manifest_named p.0 p.1)))
       ]
 
@@ -179,36 +179,36 @@ module _ (bag : Bag) (renewal : Renewal) where
   -- the declaration, where it isn't kept, or a tag manifest
   abbrev pub IsClosingName : List ℕ → Type 0
   IsClosingName q =
-      ((q ≡ tag_path Declaration) × (is_kept bag q ≡ false))
+      ((q ≡ tag_path Declaration) × (is_kept bag renewal q ≡ false))
       ⊎ ((alg : Alg) × (q ≡ tag_path (Manifest Tag alg)))
 
   unnegated : (b : Bool) → not b ≡ true → b ≡ false
   unnegated false e = refl
   unnegated true e = cc
 
-  declaration_named : (e : File) → Contains (unkept bag (declaration_file bag ∷ [])) e
-      → (e.0 ≡ tag_path Declaration) × (is_kept bag e.0 ≡ false)
+  declaration_named : (e : File) → Contains (unkept bag renewal (declaration_file bag renewal ∷ [])) e
+      → (e.0 ≡ tag_path Declaration) × (is_kept bag renewal e.0 ≡ false)
   declaration_named e has =
-      let k = kept (λ (e : File). not (is_kept bag e.0)) (declaration_file bag ∷ []) e has in (
-        elim (contains_cases (declaration_file bag) [] e k.1) [
+      let k = kept (λ (e : File). not (is_kept bag renewal e.0)) (declaration_file bag renewal ∷ []) e has in (
+        elim (contains_cases (declaration_file bag renewal) [] e k.1) [
           | inl same ↦ sym (ap (λ (y : File). y.0) same)
           | inr none ↦ absurd (contains_nothing {A = File} e none)
         ],
-        unnegated (is_kept bag e.0) k.0,
+        unnegated (is_kept bag renewal e.0) k.0,
       )
 
   in_closing : (d : FileChange) → Contains (closing bag renewal) d → PutsAt IsClosingName d
   in_closing d has =
-      elim (contains_either (map put (unkept bag (declaration_file bag ∷ []))) (map put (tag_manifests bag renewal)) d
+      elim (contains_either (map put (unkept bag renewal (declaration_file bag renewal ∷ []))) (map put (tag_manifests bag renewal)) d
       has) [
         | inl one ↦ (
-            let p = in_puts (unkept bag (declaration_file bag ∷ [])) d one in
+            let p = in_puts (unkept bag renewal (declaration_file bag renewal ∷ [])) d one in
             (p.0, p.2, inl (declaration_named p.0 p.1)))
         | inr tags ↦ (
             let p = in_puts (tag_manifests bag renewal) d tags in
             let m =
             contains_mapped {B = File}
-            (λ alg. (tag_path (Manifest Tag alg), manifest alg (named_tag_files bag renewal)))
+            (λ alg. (tag_path (Manifest Tag alg), manifest (new_rules bag renewal) alg (named_tag_files bag renewal)))
             (new_algs bag renewal) p.0 p.1 in (p.0, p.2, inr (m.0, sym (ap (λ (y : File). y.0) m.2))))
       ]
 
@@ -225,7 +225,7 @@ module _ (bag : Bag) (renewal : Renewal) where
   till_dropped = till_put ++ dropping bag renewal
 
   -- and what is made after that
-  abbrev after_put : List FileChange
+  abbrev pub after_put : List FileChange
   after_put = dropping bag renewal ++ closing bag renewal
 
   after_opened : till_opened ++ back bag renewal ≡ changes bag renewal
@@ -241,10 +241,10 @@ module _ (bag : Bag) (renewal : Renewal) where
   abbrev pub tags_put : List FileChange
   tags_put = map put (tag_manifests bag renewal)
 
-  declared_then : is_kept bag (tag_path Declaration) ≡ false
-      → till_dropped ++ (put (declaration_file bag) ∷ tags_put) ≡ changes bag renewal
+  declared_then : is_kept bag renewal (tag_path Declaration) ≡ false
+      → till_dropped ++ (put (declaration_file bag renewal) ∷ tags_put) ≡ changes bag renewal
   declared_then out =
-      ap (λ b. till_dropped ++ (map put (cond (not b) (declaration_file bag ∷ []) []) ++ tags_put)) (sym out)
+      ap (λ b. till_dropped ++ (map put (cond (not b) (declaration_file bag renewal ∷ []) []) ++ tags_put)) (sym out)
       ∙ dropped_then
 
   module _ (k : ℕ) where
@@ -268,10 +268,10 @@ module _ (bag : Bag) (renewal : Renewal) where
     dropped_or_not = split till_dropped (closing bag renewal) dropped_then
 
     -- where the declaration isn't kept, it isn't put yet, or only tag manifests are left
-    pub declared_or_not : is_kept bag (tag_path Declaration) ≡ false → AllIn made till_dropped ⊎ AllIn left tags_put
+    pub declared_or_not : is_kept bag renewal (tag_path Declaration) ≡ false → AllIn made till_dropped ⊎ AllIn left tags_put
     declared_or_not out =
         subst (λ cs. AllIn (take k cs) till_dropped ⊎ AllIn (drop k cs) tags_put) (declared_then out)
-        (first_or_after k till_dropped (put (declaration_file bag)) tags_put)
+        (first_or_after k till_dropped (put (declaration_file bag renewal)) tags_put)
 
   -- ---- what is removed and put
 
@@ -388,14 +388,14 @@ module _ (bag : Bag) (renewal : Renewal) where
       of_put e same (inr (m, path)) = one_kind alg (name m) (same ∙ path)
 
   -- where the declaration is kept, last of all tag manifests are put, and nothing else
-  pub closing_names : is_kept bag (tag_path Declaration) ≡ true → (q : List ℕ) → is_manifest_name Tag q ≡ false
+  pub closing_names : is_kept bag renewal (tag_path Declaration) ≡ true → (q : List ℕ) → is_manifest_name Tag q ≡ false
       → (d : FileChange) → Contains (closing bag renewal) d → q ≢ name_of d
   closing_names is_there q other d has same =
       let p = in_closing d has in of_put p.0 (same ∙ ap name_of p.1) p.2
     where
       of_put : (e : File) → q ≡ e.0 → IsClosingName e.0 → ⊥
       of_put e path (inl (declared, out)) =
-          false≢true (sym out ∙ ap (is_kept bag) declared ∙ is_there)
+          false≢true (sym out ∙ ap (is_kept bag renewal) declared ∙ is_there)
       of_put e path (inr (alg, named)) =
           false≢true (sym other ∙ named_is Tag q (name alg) (name_is_text alg, path ∙ named))
 
@@ -405,7 +405,7 @@ module _ (bag : Bag) (renewal : Renewal) where
   tags_names q other d has same =
       let p = in_puts (tag_manifests bag renewal) d has in
       let m =
-      contains_mapped {B = File} (λ alg. (tag_path (Manifest Tag alg), manifest alg (named_tag_files bag renewal)))
+      contains_mapped {B = File} (λ alg. (tag_path (Manifest Tag alg), manifest (new_rules bag renewal) alg (named_tag_files bag renewal)))
       (new_algs bag renewal) p.0 p.1 in
       let named : q ≡ tag_path (Manifest Tag m.0) = same ∙ ap name_of p.2 ∙ sym (ap (λ (y : File). y.0) m.2) in
       false≢true (sym other ∙ named_is Tag q (name m.0) (name_is_text m.0, named))

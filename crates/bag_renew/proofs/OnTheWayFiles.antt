@@ -5,27 +5,32 @@ use Rattle.bag_renew.proofs.Common.{fold-append, is_payload_path, manifest_name,
 use Rattle.bag_renew.proofs.Common.{Declaration, Fetch, Info, Alg, name, name_is_text, Bag, HasFile, file, has_file}
 use Rattle.bag_renew.proofs.Common.{paths_differ, All-contains, All-from_recursion, FileChange, Put, Remove, after}
 use Rattle.bag_renew.proofs.Common.{changes, HasKnownManifests, begun_file, has_member, stays, is_kept, keeps}
-use Rattle.bag_renew.proofs.Common.{Renewal}
+use Rattle.bag_renew.proofs.Common.{Manifest, new_algs, payload_manifest, Renewal}
 use Rattle.std.proofs.Common.{take-append-drop}
 use Rattle.std.specs.Prelude.{option_and_then}
-use Rattle.bag_text.specs.Lines.{lines_of_file}
 use Rattle.bag_text.specs.Rules.{rules_of}
+use Rattle.bag_text.specs.declared.rules.Rules.{Rules}
+use Rattle.bag_text.specs.declared.rules.Rules.TheVariants.{V10, V097}
 use Rattle.bag_text.specs.declared.code.Code.TheVariants.{NoDeclaration}
 use Rattle.bag_read.proofs.ManifestName.{named_is}
 use Rattle.bag_read.specs.Declaration.{declared_version}
 use Rattle.bag_read.specs.Manifest.{named}
 use Rattle.bag_facts.specs.Facts.{IsByV10, rules_in}
+use Rattle.bag_facts.specs.FactsOfBag.{IsByV097}
 use Rattle.bag_report.specs.Report.{Is, asks}
 use Rattle.bag_stages.specs.DeclarationStage.{DeclarationHolds, IsOfDeclaration}
 use Rattle.bag_stages.specs.MetadataStage.{bag_info_txt}
 use Rattle.bag_stages.specs.FetchStage.{fetch_txt}
-use Rattle.bag_stages.specs.TagFiles.{bagit_txt, lines_or_none, manifest_of}
+use Rattle.bag_stages.proofs.LeftOut.{some_member}
+use Rattle.bag_stages.specs.LeftOut.{IsLeftOutByAll}
+use Rattle.bag_stages.specs.TagFiles.{HasSupported, Names, bagit_txt, lines_or_none, manifest_of}
 use Rattle.bag_tags.specs.Declaration.{declaration_text}
 use Rattle.bag_renew.specs.OnTheWay.{CanRenewInPlace}
-use Rattle.bag_renew.specs.Renewed.{is_v10, renewed}
+use Rattle.bag_renew.specs.Renewed.{renewed}
 use Rattle.bag_renew.specs.Telling.{NamesItsFiles}
-use Rattle.bag_renew.proofs.AlikeFaults.{AreAlike, alike_by_rules}
-use Rattle.bag_renew.proofs.BetweenFaults.{HasNoPayloadManifest, IsBetween, IsTagManifestOf, NoneNamesBegun, named_by}
+use Rattle.bag_renew.proofs.AlikeFaults.{AreAlike, alike_by_rules, names_now}
+use Rattle.bag_renew.proofs.BetweenFaults.{HasNoPayloadManifest, IsBetween, IsBetweenByV097, IsTagManifestOf}
+use Rattle.bag_renew.proofs.BetweenFaults.{IsUnlistedByV097, NoneNamesBegun, named_by}
 use Rattle.bag_renew.proofs.ChangedNames.{are_of_files, back, of_changes}
 use Rattle.bag_renew.proofs.ChangesRenew.{they_renew}
 use Rattle.bag_renew.proofs.Contents.{these_files}
@@ -33,14 +38,14 @@ use Rattle.bag_facts.proofs.Found.{content_of}
 use Rattle.bag_renew.proofs.InChanges.{open_in, put_in_changes}
 use Rattle.bag_renew.proofs.KeptOr.{kept_or_written}
 use Rattle.bag_renew.proofs.ManyChanges.{came_from, not_named}
-use Rattle.bag_renew.proofs.OldBag.{known, names_its_payload, none}
-use Rattle.bag_renew.proofs.OnTheWayChanges.{AllIn, closing_names, kept_not_removed, dropped_or_not, first_or_later}
+use Rattle.bag_renew.proofs.OldBag.{known, names_its_payload, none, some_manifest}
+use Rattle.bag_renew.proofs.OnTheWayChanges.{AllIn, after_put, closing_names, kept_not_removed, dropped_or_not, first_or_later}
 use Rattle.bag_renew.proofs.OnTheWayChanges.{in_first, in_opened, left, made, never_lost, not_put, not_removed}
 use Rattle.bag_renew.proofs.OnTheWayChanges.{opened_or_not, payload_not_put, payload_not_removed, put_or_not}
-use Rattle.bag_renew.proofs.OnTheWayChanges.{tag_not_put, tag_not_removed, till_opened}
+use Rattle.bag_renew.proofs.OnTheWayChanges.{tag_not_put, tag_not_removed, till_opened, till_put}
 use Rattle.bag_renew.proofs.OneChange.{all_level, at_changes, first_are, itself_level, name_of, with_change}
 use Rattle.bag_renew.proofs.OneChange.{with_changes}
-use Rattle.bag_renew.proofs.RenewedNames.{declared, names_files}
+use Rattle.bag_renew.proofs.RenewedNames.{declared, names_files, old_or_anew}
 use Rattle.bag_renew.proofs.Staying.{IsWritten, itself, no_begun, no_payload_name, no_payload_tag, stays_so}
 use Rattle.bag_renew.proofs.Staying.{written_goes}
 
@@ -265,28 +270,28 @@ module _ (bag : Bag) (renewal : Renewal) (k : ℕ) (can : CanRenewInPlace bag re
 
   pub renewed_names : NamesItsFiles new
   renewed_names =
-      names_files bag renewal can.can.is_bag can.can.unmarked has_known (names_its_payload bag can.can.damaged)
+      names_files bag renewal can.can.is_bag can.can.nameable (names_its_payload bag can.can.damaged) can.can.listed
+      has_known
 
   pub new_begun : NoneNamesBegun new
   new_begun alg names =
       let n = named_by new Tag alg begun_file names in
-      no_new_begun (((renewed_names.told Tag alg n.0 n.1).paths begun_file).0
-      (subst (λ rules. Contains (named rules Tag alg (lines_of_file n.0)) begun_file) renewed_names.rules
-      (subst (λ o. Contains (named (rules_in new) Tag alg (lines_or_none o)) begun_file) n.1 names))).0
+      no_new_begun ((renewed_names.told Tag alg n.0 n.1).there begun_file
+      (subst (λ o. Contains (named (rules_in new) Tag alg (lines_or_none o)) begun_file) n.1 names)).0
 
   pub same_folders : mid.folders ≡ bag.folders
   same_folders =
       (all_level bag first bag (first_are bag k all (are_of_files bag renewal can.way))
       (itself_level bag can.can.is_bag)).folders
 
-  -- ---- of a bag of 1.0 the declaration stays
+  -- ---- where the rules stay, so does the declaration
 
-  module _ (v10 : IsByV10 bag) where
-    declaration_kept : is_kept bag bagit_txt ≡ true
-    declaration_kept = and_from (keeps bag) (has_file bag bagit_txt) (ap is_v10 v10) has_declaration
+  module _ (keeps_it : keeps bag renewal ≡ true) where
+    declaration_kept : is_kept bag renewal bagit_txt ≡ true
+    declaration_kept = and_from (keeps bag renewal) (has_file bag bagit_txt) keeps_it has_declaration
 
     renewed_declaration : file new bagit_txt ≡ file bag bagit_txt
-    renewed_declaration = elim (kept_or_written bag bagit_txt declaration_text) [
+    renewed_declaration = elim (kept_or_written bag renewal bagit_txt declaration_text) [
       | inl was ↦ declared bag renewal ∙ sym was.1
       | inr new ↦ absurd (false≢true (sym new.0 ∙ declaration_kept))
     ]
@@ -321,11 +326,90 @@ module _ (bag : Bag) (renewal : Renewal) (k : ℕ) (can : CanRenewInPlace bag re
       | inr ends ↦ inr (when_closing ends alg text at)
     ]
 
+    is_as_bag : AreAlike mid bag
+    is_as_bag = as_bag declaration_stays
+
+    is_as_new : AreAlike mid new
+    is_as_new = as_new (declaration_stays ∙ sym renewed_declaration)
+
+    rules_stay : rules_in mid ≡ rules_in bag
+    rules_stay = same_rules mid bag declaration_stays
+
+    -- until manifests are dropped, all old payload manifests are there
+    module _ (puts : AllIn first (till_put bag renewal)) (alg : Alg) where
+      is_old_one : HasFile bag (manifest_of Payload alg)
+          → file mid (manifest_of Payload alg) ≡ file bag (manifest_of Payload alg)
+      is_old_one there =
+          let path = manifest_of Payload alg in
+          let c =
+          content_of (file mid path) (still_there path there (λ removed.
+          payload_not_removed bag renewal (name alg) (puts (Remove path) removed))) in
+          elim (either path c.0 c.1) [
+            | inl old ↦ c.1 ∙ sym old
+            | inr made ↦ elim (old_or_anew bag renewal alg c.0 made) [
+              | inl was ↦ c.1 ∙ sym was.1
+              | inr anew ↦ absurd (false≢true (sym anew
+                  ∙ and_from (keeps bag renewal) (has_file bag path) keeps_it there))
+            ]
+          ]
+
+      named_till_put : (path : List ℕ) → Names bag Payload alg path → Names mid Payload alg path
+      named_till_put path names =
+          let there = ap is_some (named_by bag Payload alg path names).1 in
+          names_now mid bag is_as_bag Payload alg (is_old_one there) path names
+
+    -- and then all new ones are
+    module _ (drops : AllIn later (after_put bag renewal)) (alg : Alg) where
+      is_new_one : (text : List ℕ) → file new (manifest_of Payload alg) ≡ Some text
+          → file mid (manifest_of Payload alg) ≡ Some text
+      is_new_one text at = elim (new_from (manifest_of Payload alg) text at) [
+        | inl puts ↦ absurd (payload_not_put bag renewal (name alg) text
+            (drops (Put (manifest_of Payload alg) text) puts))
+        | inr there ↦ there.0
+      ]
+
+      named_after_put : (path : List ℕ) → Names new Payload alg path → Names mid Payload alg path
+      named_after_put path names =
+          let n = named_by new Payload alg path names in
+          names_now mid new is_as_new Payload alg (is_new_one n.0 n.1 ∙ sym n.1) path names
+
+    some_new : (alg : Alg) × HasSupported new Payload alg
+    some_new =
+        let m = some_member (new_algs bag renewal) can.can.some_alg in
+        let text = (payload_manifest bag renewal m.0).1 in
+        (
+          m.0,
+          ap is_some ((these_files bag renewal (manifest_of Payload m.0) text).1
+              (inr (Manifest Payload m.0, refl, (m.1, refl)))),
+        )
+
+    -- so what they leave out by the rules of 0.97, all old ones did, or all new ones do
+    left_out : IsByV097 bag → (path : List ℕ) → IsLeftOutByAll mid path
+        → IsUnlistedByV097 bag path ⊎ IsUnlistedByV097 new path
+    left_out v097 path out = elim (put_or_not bag renewal k) [
+      | inl puts ↦ inl (
+        v097,
+        (
+          some_manifest bag can.can.damaged,
+          λ named. out.1 (named.0, named_till_put puts named.0 path named.1),
+        ),
+      )
+      | inr drops ↦ inr (
+        same_rules new bag renewed_declaration ∙ v097,
+        (some_new, λ named. out.1 (named.0, named_after_put drops named.0 path named.1)),
+      )
+    ]
+
+    by_rules : (rules : Rules) → rules_in bag ≡ rules → IsByV10 mid ⊎ IsBetweenByV097 mid bag new
+    by_rules V10 is = inl (rules_stay ∙ is)
+    by_rules V097 is =
+        inr (record { rules = rules_stay ∙ is; old_rules = is; left_out = λ path may out. left_out is path out; })
+
     pub between : IsBetween mid bag new
     between = record {
-      rules = inl (same_rules mid bag declaration_stays ∙ v10);
-      as_old = as_bag declaration_stays;
-      as_new = as_new (declaration_stays ∙ sym renewed_declaration);
+      rules = by_rules (rules_in bag) refl;
+      as_old = is_as_bag;
+      as_new = is_as_new;
       folders = same_folders;
       declaration = declaration_stays;
       info = info_is;

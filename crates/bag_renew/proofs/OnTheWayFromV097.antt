@@ -2,12 +2,11 @@
 -- 0.97, by which what is written says the same; and then it is the renewed bag, but for tag
 -- manifests.
 use Rattle.bag_renew.proofs.Common.{◌≡◌, ◌≢◌, ◌⊎◌, ◌∙◌, inl, inr, ℕ, Bool, true, false, List, Option, None}
-use Rattle.bag_renew.proofs.Common.{Some, is_some, refl, ap, sym, subst, cond, ◌&&◌, false≢true}
+use Rattle.bag_renew.proofs.Common.{Some, is_some, refl, ap, sym, subst, ◌&&◌, false≢true}
 use Rattle.bag_renew.proofs.Common.{contains_nothing, is_manifest_name, manifest_name}
 use Rattle.bag_renew.proofs.Common.{tag_path, Kind, Payload, Tag, TagName, Declaration, Fetch, Info, Manifest, Alg, name}
 use Rattle.bag_renew.proofs.Common.{Bag, file, has_file, FileChange, Put, Remove, after, changes}
-use Rattle.bag_renew.proofs.Common.{is_kept, keeps, kept_or, new_algs, payload_manifest, Renewal}
-use Rattle.std.specs.Option.{unwrap_or}
+use Rattle.bag_renew.proofs.Common.{is_kept, keeps, new_algs, payload_manifest, Renewal}
 use Rattle.bag_text.specs.declared.alg.Alg.TheVariants.{Md5, Sha1, Sha224, Sha256, Sha384, Sha512}
 use Rattle.bag_text.specs.declared.code.Code.TheVariants.{InfoLine}
 use Rattle.bag_text.specs.declared.rules.Rules.TheVariants.{V10, V097}
@@ -15,11 +14,11 @@ use Rattle.bag_read.proofs.ManifestName.{is_named}
 use Rattle.bag_read.specs.Info.{IsInfoFault}
 use Rattle.bag_read.specs.declared.line_fault.LineFault.{LineFault}
 use Rattle.bag_facts.proofs.Found.{content_of}
-use Rattle.bag_facts.specs.Facts.{rules_in}
+use Rattle.bag_facts.specs.Facts.{IsByV10, rules_in}
 use Rattle.bag_facts.specs.FactsOfBag.{IsByV097}
 use Rattle.bag_facts.specs.declared.fault.Fault.{Fault}
 use Rattle.bag_report.specs.Report.{asks}
-use Rattle.bag_stages.proofs.LeftOut.{not_both, some_member}
+use Rattle.bag_stages.proofs.LeftOut.{some_member}
 use Rattle.bag_stages.specs.CompletenessStage.{IsPayloadFile}
 use Rattle.bag_stages.specs.FetchStage.{fetch_txt}
 use Rattle.bag_stages.specs.LeftOut.{IsLeftOutByAll, IsNamedBySome}
@@ -28,13 +27,15 @@ use Rattle.bag_stages.specs.TagFiles.{HasSupported, Names, bagit_txt, lines_in, 
 use Rattle.bag_tree.specs.Bag.{LacksFile}
 use Rattle.bag_renew.specs.Obstacles.{has_percent}
 use Rattle.bag_renew.specs.OnTheWay.{CanRenewInPlace, HasNoPercent}
-use Rattle.bag_renew.specs.Renewed.{is_v10, renewed}
-use Rattle.bag_renew.specs.Telling.{NamesItsFiles}
+use Rattle.bag_renew.specs.Renewed.{renewed}
+use Rattle.bag_renew.specs.Telling.{NamesFiles, NamesItsFiles}
 use Rattle.bag_renew.specs.Valid.{HasGoodInfo}
 use Rattle.bag_renew.proofs.AlikeFaults.{AreAlike, names_now}
-use Rattle.bag_renew.proofs.BetweenFaults.{IsBetween, IsTagManifestOf, named_by, other_kind}
+use Rattle.bag_renew.proofs.BetweenFaults.{IsBetween, IsTagManifestOf, IsUnlistedByV097, MayBeListed, named_by}
+use Rattle.bag_renew.proofs.BetweenFaults.{other_kind}
 use Rattle.bag_renew.proofs.Contents.{these_files}
 use Rattle.bag_renew.proofs.InChanges.{open_in}
+use Rattle.bag_renew.proofs.KeptOr.{becomes_v10, is_old}
 use Rattle.bag_renew.proofs.ManyChanges.{not_named}
 use Rattle.bag_renew.proofs.OnTheWayChanges.{AllIn, declaration_unnamed, declared_or_not, first_or_later, left, made}
 use Rattle.bag_renew.proofs.OnTheWayChanges.{no_remove_last, opened_or_not, payload_not_put, payload_not_removed}
@@ -44,9 +45,9 @@ use Rattle.bag_renew.proofs.OnTheWayFiles.{either, mid_from, new_begun, new_from
 use Rattle.bag_renew.proofs.OnTheWayFiles.{put_is_new, renewed_names, same_folders, same_rules, still_there, was_put}
 use Rattle.bag_renew.proofs.OnTheWayFiles.{as_renewed, while_opening}
 use Rattle.bag_renew.proofs.ReadAlike.{ReadAlike, SplitAlike, info_alike, manifest_alike}
-use Rattle.bag_renew.proofs.RenewedNames.{by_v10}
+use Rattle.bag_renew.proofs.RenewedNames.{by_new_rules}
 use Rattle.bag_renew.proofs.TagNames.{not_tag_manifest}
-use Rattle.bag_renew.proofs.Telling.{there_named}
+use Rattle.bag_renew.proofs.Telling.{v10_named}
 
 -- ---- a name without a %
 
@@ -78,7 +79,7 @@ renewed_percent bag renewal none path has =
 -- ---- what is written is read alike by the rules of 0.97
 
 module _ (bag : Bag) (renewal : Renewal) (none : HasNoPercent bag) (info : HasGoodInfo bag renewal)
-    (names : NamesItsFiles (renewed bag renewal)) where
+    (names : NamesItsFiles (renewed bag renewal)) (v10 : IsByV10 (renewed bag renewal)) where
   abbrev new : Bag
   new = renewed bag renewal
 
@@ -86,9 +87,9 @@ module _ (bag : Bag) (renewal : Renewal) (none : HasNoPercent bag) (info : HasGo
       → ReadAlike V097 V10 kind alg (lines_or_none o)
   manifest_by kind alg None at = λ line has some. absurd (contains_nothing line has)
   manifest_by kind alg (Some text) at =
-      let told = names.told kind alg text at in
+      let told = subst (λ rules. NamesFiles rules new kind alg text) v10 (names.told kind alg text at) in
       manifest_alike kind alg text told.no_fault (λ path named.
-      renewed_percent bag renewal none path ((told.paths path).0 named).0)
+      renewed_percent bag renewal none path (told.there path named).0)
 
   pub manifests_alike : (kind : Kind) (alg : Alg) → ReadAlike V097 V10 kind alg (lines_in new (manifest_of kind alg))
   manifests_alike kind alg = manifest_by kind alg (file new (manifest_of kind alg)) refl
@@ -107,7 +108,7 @@ module _ (bag : Bag) (renewal : Renewal) (none : HasNoPercent bag) (info : HasGo
         (
           text,
           at,
-          subst (λ rules. IsInfoFault rules text f_so) (sym names.rules)
+          subst (λ rules. IsInfoFault rules text f_so) (sym v10)
               (subst (IsInfoFault V10 text) same wrong),
         ),
       ) refl
@@ -121,20 +122,18 @@ module _ (bag : Bag) (renewal : Renewal) (none : HasNoPercent bag) (info : HasGo
 
 -- ---- nothing is kept
 
-module _ (bag : Bag) (renewal : Renewal) (v097 : IsByV097 bag) where
-  pub none_kept : keeps bag ≡ false
-  none_kept = ap is_v10 v097
+module _ (bag : Bag) (renewal : Renewal) (changes_rules : keeps bag renewal ≡ false) where
+  unkept_path : (path : List ℕ) → is_kept bag renewal path ≡ false
+  unkept_path path = ap (λ b. b && has_file bag path) changes_rules
 
-  unkept_path : (path : List ℕ) → is_kept bag path ≡ false
-  unkept_path path = ap (λ b. b && has_file bag path) none_kept
-
-  pub written_anew : (path text : List ℕ) → kept_or bag path text ≡ text
-  written_anew path text = ap (λ b. cond b (unwrap_or (file bag path) text) text) none_kept
+  -- the renewed bag is of 1.0
+  pub by_v10 : IsByV10 (renewed bag renewal)
+  by_v10 = by_new_rules bag renewal ∙ becomes_v10 bag renewal changes_rules
 
 -- ---- the bags on the way
 
-module _ (bag : Bag) (renewal : Renewal) (k : ℕ) (can : CanRenewInPlace bag renewal) (v097 : IsByV097 bag)
-    (none : HasNoPercent bag) where
+module _ (bag : Bag) (renewal : Renewal) (k : ℕ) (can : CanRenewInPlace bag renewal)
+    (changes_rules : keeps bag renewal ≡ false) (none : HasNoPercent bag) where
   abbrev mid : Bag
   mid = after bag renewal k
 
@@ -147,12 +146,18 @@ module _ (bag : Bag) (renewal : Renewal) (k : ℕ) (can : CanRenewInPlace bag re
   abbrev later : List FileChange
   later = left bag renewal k
 
+  v097 : IsByV097 bag
+  v097 = is_old bag renewal changes_rules
+
+  now_v10 : IsByV10 now
+  now_v10 = by_v10 bag renewal changes_rules
+
   names_new : NamesItsFiles now
   names_new = renewed_names bag renewal k can
 
   no_old_list : LacksFile bag fetch_txt
   no_old_list = elim can.can.fetch [
-    | inl v10 ↦ absurd (not_both (rules_in bag) v10 v097)
+    | inl keeps_it ↦ absurd (false≢true (sym changes_rules ∙ keeps_it))
     | inr lacks ↦ lacks
   ]
 
@@ -175,15 +180,15 @@ module _ (bag : Bag) (renewal : Renewal) (k : ℕ) (can : CanRenewInPlace bag re
 
     as_now : AreAlike mid now
     as_now = record {
-      v10 = λ ruled. by_v10 bag renewal;
+      v10 = λ ruled. now_v10;
       manifests = λ kind alg.
           subst (λ rules. ReadAlike rules (rules_in now) kind alg (lines_in now (manifest_of kind alg))) (sym mid_v097)
           (subst (λ rules. ReadAlike V097 rules kind alg (lines_in now (manifest_of kind alg)))
-          (sym (by_v10 bag renewal)) (manifests_alike bag renewal none can.info names_new kind alg));
+          (sym now_v10) (manifests_alike bag renewal none can.info names_new now_v10 kind alg));
       metadata =
           subst (λ rules. SplitAlike rules (rules_in now) (lines_in now bag_info_txt)) (sym mid_v097)
-          (subst (λ rules. SplitAlike V097 rules (lines_in now bag_info_txt)) (sym (by_v10 bag renewal))
-          (metadata_alike bag renewal none can.info names_new));
+          (subst (λ rules. SplitAlike V097 rules (lines_in now bag_info_txt)) (sym now_v10)
+          (metadata_alike bag renewal none can.info names_new now_v10));
       list = λ has.
           absurd (false≢true (sym no_list ∙ ap is_some (fetch_will_be bag renewal k can) ∙ has));
       fetch = fetch_will_be bag renewal k can;
@@ -198,8 +203,8 @@ module _ (bag : Bag) (renewal : Renewal) (k : ℕ) (can : CanRenewInPlace bag re
           → file now (manifest_of Payload alg) ≡ Some c → Names mid Payload alg path
       put_names alg c at written =
           names_now mid now as_now Payload alg (at ∙ sym written) path
-          (there_named now names_new Payload alg path (ap is_some written)
-          (ap is_some (sym (payload_will_be bag renewal k can path there.1)) ∙ there.0) there.1)
+          (v10_named now names_new now_v10 alg path (ap is_some written)
+          (ap is_some (sym (payload_will_be bag renewal k can path there.1)) ∙ there.0, there.1))
 
       module _ (unnamed : ¬ (IsNamedBySome mid path)) where
         -- so none was put
@@ -239,6 +244,11 @@ module _ (bag : Bag) (renewal : Renewal) (k : ℕ) (can : CanRenewInPlace bag re
       left_out ((alg, has), unnamed) =
           ((alg, ap is_some (sym (was_there unnamed alg has)) ∙ has), λ named. none_named unnamed named.0 named.1)
 
+    unlisted : (path : List ℕ) → MayBeListed mid path → IsLeftOutByAll mid path
+        → IsUnlistedByV097 bag path ⊎ IsUnlistedByV097 now path
+    unlisted path (inl there) out = inl (v097, left_out path there out)
+    unlisted path (inr has_list) out = absurd (false≢true (sym no_list ∙ has_list))
+
     early_tags : (alg : Alg) (text : List ℕ) → file mid (manifest_of Tag alg) ≡ Some text
         → IsTagManifestOf bag mid alg text
     early_tags alg text at = elim (opened_or_not bag renewal k) [
@@ -252,8 +262,7 @@ module _ (bag : Bag) (renewal : Renewal) (k : ℕ) (can : CanRenewInPlace bag re
       rules = inr (record {
         rules = mid_v097;
         old_rules = v097;
-        no_list = no_list;
-        left_out = left_out;
+        left_out = unlisted;
       });
       as_old = as_old;
       as_new = as_now;
@@ -326,7 +335,7 @@ module _ (bag : Bag) (renewal : Renewal) (k : ℕ) (can : CanRenewInPlace bag re
 
     pub late_between : IsBetween mid now now
     late_between = record {
-      rules = inl (same_rules mid now declaration_put ∙ by_v10 bag renewal);
+      rules = inl (same_rules mid now declaration_put ∙ now_v10);
       as_old = as_now_too;
       as_new = as_now_too;
       folders = now_folders;
@@ -341,7 +350,7 @@ module _ (bag : Bag) (renewal : Renewal) (k : ℕ) (can : CanRenewInPlace bag re
     }
 
   pub early_or_late : AllIn first (till_dropped bag renewal) ⊎ AllIn later (tags_put bag renewal)
-  early_or_late = declared_or_not bag renewal k (unkept_path bag renewal v097 bagit_txt)
+  early_or_late = declared_or_not bag renewal k (unkept_path bag renewal changes_rules bagit_txt)
 
   pub between_v097 : IsBetween mid bag now ⊎ IsBetween mid now now
   between_v097 = elim early_or_late [

@@ -6,7 +6,7 @@ use Rattle.bag_renew.proofs.Common.{contains_first, has_member, is_manifest_name
 use Rattle.bag_renew.proofs.Common.{Info, Manifest, Alg, name}
 use Rattle.bag_renew.proofs.Common.{Bag, HasFile, file, File, begun_file, declaration_file, algs_where}
 use Rattle.bag_renew.proofs.Common.{has_payload_manifest, info_files, is_new_alg, keeps, kept_or, kept_tag_files}
-use Rattle.bag_renew.proofs.Common.{manifest, named_tag_files, new_algs, new_elements, new_tag_files, payload}
+use Rattle.bag_renew.proofs.Common.{manifest, named_tag_files, new_algs, new_elements, new_rules, new_tag_files, payload}
 use Rattle.bag_renew.proofs.Common.{payload_manifest, payload_manifests, stays, tag_manifests, with_path, writes_info}
 use Rattle.bag_renew.proofs.Common.{Renewal, after, changes, create}
 use Rattle.std.specs.FinMap as fin
@@ -17,13 +17,11 @@ use Rattle.bag_text.specs.Text.{text_cmp}
 use Rattle.bag_text.specs.declared.rules.Rules.{Rules}
 use Rattle.bag_text.specs.declared.rules.Rules.TheVariants.{V10}
 use Rattle.bag_facts.specs.Facts.{IsByV10, rules_in}
-use Rattle.bag_facts.specs.FactsOfBag.{IsByV097}
-use Rattle.bag_stages.proofs.LeftOut.{not_both}
 use Rattle.bag_stages.specs.MetadataStage.{bag_info_txt}
 use Rattle.bag_read.specs.Oxum.{oxum_text}
 use Rattle.bag_stages.specs.Payload.{oxum, oxum_of_files}
 use Rattle.bag_stages.specs.TagFiles.{bagit_txt, lines_in, lines_or_none, manifest_of}
-use Rattle.bag_tags.proofs.LongInfo.{long_info_again}
+use Rattle.bag_tags.proofs.LongInfo.{long_info_again_by}
 use Rattle.bag_tags.specs.Declaration.{declaration_text}
 use Rattle.bag_tags.specs.Element.{NewElement}
 use Rattle.bag_tags.specs.OnLines.{text_on_lines}
@@ -41,14 +39,15 @@ use Rattle.bag_renew.proofs.BetweenFaults.{IsBetween, no_manifest_begun, other_k
 use Rattle.bag_renew.proofs.Contents.{these_files}
 use Rattle.bag_renew.proofs.ElementsAgain.{renewed_once_only}
 use Rattle.bag_facts.proofs.Found.{content_of, same_option}
-use Rattle.bag_renew.proofs.OnTheWay.{by_v10_or_v097}
+use Rattle.bag_renew.proofs.KeptOr.{becomes_v10, v10_keeps}
+use Rattle.bag_renew.proofs.NewRules.{still_v10}
 use Rattle.bag_renew.proofs.OnTheWayBegun.{at_manifest, elsewhere, stays_elsewhere, with_begun}
 use Rattle.bag_renew.proofs.OnTheWayChanges.{AllIn, left as yet_to_make, tags_put}
 use Rattle.bag_renew.proofs.OnTheWayFiles.{between, manifest_stays, same_rules, stays_as_it_was}
-use Rattle.bag_renew.proofs.OnTheWayFromV097.{early_between, early_or_late, late_between, put_all}
+use Rattle.bag_renew.proofs.OnTheWayFromV097.{by_v10, early_between, early_or_late, late_between, put_all}
 use Rattle.bag_renew.proofs.PayloadFiles.{files_alike, payload_alike}
 use Rattle.bag_renew.proofs.ReadAlike.{elements_alike}
-use Rattle.bag_renew.proofs.RenewedNames.{by_v10, declared, new_text, same_file}
+use Rattle.bag_renew.proofs.RenewedNames.{by_new_rules, declared, new_text, same_file}
 use Rattle.bag_renew.proofs.Staying.{no_begun}
 use Rattle.bag_renew.proofs.TagNames.{not_tag_manifest}
 
@@ -68,7 +67,8 @@ pub record AreRenewedAlike (left bag : Bag) (renewal : Renewal) : Type 0 where
   pub payload_file : (q : List ℕ) → is_payload_path q ≡ true → file left q ≡ file bag q
   pub kept : (q : List ℕ) → stays q ≡ true → file left q ≡ file bag q
   pub folders : left.folders ≡ bag.folders
-  pub declaration : declaration_file left ≡ declaration_file bag
+  pub rules : new_rules left renewal ≡ new_rules bag renewal
+  pub declaration : declaration_file left renewal ≡ declaration_file bag renewal
   pub algs : (alg : Alg) → is_new_alg left renewal alg ≡ is_new_alg bag renewal alg
   pub manifests : (alg : Alg) → is_new_alg bag renewal alg ≡ true
       → payload_manifest left renewal alg ≡ payload_manifest bag renewal alg
@@ -112,7 +112,7 @@ module _ (left bag : Bag) (renewal : Renewal) (are : AreRenewedAlike left bag re
 
   same_tags : tag_manifests left renewal ≡ tag_manifests bag renewal
   same_tags =
-      λ i. map {B = File} (λ alg. (tag_path (Manifest Tag alg), manifest alg (same_named i))) (same_algs i)
+      λ i. map {B = File} (λ alg. (tag_path (Manifest Tag alg), manifest (are.rules i) alg (same_named i))) (same_algs i)
 
   same_written : new_tag_files left renewal ≡ new_tag_files bag renewal
   same_written = λ i. are.declaration i ∷ (same_info i ++ (same_manifests i ++ same_tags i))
@@ -126,13 +126,13 @@ module _ (left bag : Bag) (renewal : Renewal) (are : AreRenewedAlike left bag re
 
 -- ---- the files of the renewed bag
 
-module _ (b : Bag) (path text : List ℕ) where
+module _ (b : Bag) (renewal : Renewal) (path text : List ℕ) where
   -- those that are kept
-  kept_is : keeps b ≡ true → kept_or b path text ≡ unwrap_or (file b path) text
+  kept_is : keeps b renewal ≡ true → kept_or b renewal path text ≡ unwrap_or (file b path) text
   kept_is keeps_b = ap (λ k. cond k (unwrap_or (file b path) text) text) keeps_b
 
   -- and those that aren't
-  written_is : keeps b ≡ false → kept_or b path text ≡ text
+  written_is : keeps b renewal ≡ false → kept_or b renewal path text ≡ text
   written_is none = ap (λ k. cond k (unwrap_or (file b path) text) text) none
 
 not_true : (b : Bool) → not b ≡ true → b ≡ false
@@ -160,7 +160,7 @@ module _ (bag : Bag) (renewal : Renewal) where
     path = manifest_of Payload alg
 
     abbrev written : List ℕ
-    written = manifest alg (payload bag)
+    written = manifest (new_rules bag renewal) alg (payload bag)
 
     has_or_added : (b : Bag) → is_new_alg b renewal alg ≡ true
         → ((has_payload_manifest b alg || has_member renewal.added alg) ≡ true)
@@ -177,14 +177,14 @@ module _ (bag : Bag) (renewal : Renewal) where
         has (ap not stays_in)
 
     new_manifest : (c : List ℕ) → file new path ≡ Some c
-        → (is_new_alg bag renewal alg ≡ true) × (c ≡ kept_or bag path written)
+        → (is_new_alg bag renewal alg ≡ true) × (c ≡ kept_or bag renewal path written)
     new_manifest c at =
         let text = new_text bag renewal (Manifest Payload alg) c tt at in
         (passes (is_new_alg bag renewal) alg text.0, text.1)
 
-    manifest_there : is_new_alg bag renewal alg ≡ true → file new path ≡ Some (kept_or bag path written)
+    manifest_there : is_new_alg bag renewal alg ≡ true → file new path ≡ Some (kept_or bag renewal path written)
     manifest_there is =
-        (these_files bag renewal path (kept_or bag path written)).1
+        (these_files bag renewal path (kept_or bag renewal path written)).1
         (inr (Manifest Payload alg, refl, (alg_in (is_new_alg bag renewal) alg is, refl)))
 
     -- an algorithm of a bag all of whose manifests are of the bag or of the renewed one
@@ -220,10 +220,10 @@ module _ (bag : Bag) (renewal : Renewal) where
 abbrev read_of : Rules → List (List ℕ) → List NewElement
 read_of rules lines = map {B = NewElement} (λ e. (e.label, e.value)) (elements rules (enumerate_from 1 lines))
 
-read_so : (b : Bag) → rules_in b ≡ V10 → (o : Option (List ℕ)) → file b bag_info_txt ≡ o
-    → elements_of b ≡ read_of V10 (lines_or_none o)
-read_so b ruled o at =
-    ap (λ rules. read_of rules (lines_in b bag_info_txt)) ruled ∙ ap (λ o. read_of V10 (lines_or_none o)) at
+read_so : (b : Bag) (rules : Rules) → rules_in b ≡ rules → (o : Option (List ℕ)) → file b bag_info_txt ≡ o
+    → elements_of b ≡ read_of rules (lines_or_none o)
+read_so b rules ruled o at =
+    ap (λ r. read_of r (lines_in b bag_info_txt)) ruled ∙ ap (λ o. read_of rules (lines_or_none o)) at
 
 read_alike : (one other : Bag) → AreAlike one other → file one bag_info_txt ≡ file other bag_info_txt
     → elements_of one ≡ elements_of other
@@ -234,9 +234,9 @@ read_alike one other alike same =
 
 pub written_are_read : WrittenElementsAreRead
 written_are_read bag renewal writes good =
-    read_so (renewed bag renewal) (by_v10 bag renewal) (Some (text bag renewal))
+    read_so (renewed bag renewal) (new_rules bag renewal) (by_new_rules bag renewal) (Some (text bag renewal))
     (new_info bag renewal ∙ ap (info_so bag renewal) writes)
-    ∙ (long_info_again (new_elements bag renewal) good.texts good.good).1
+    ∙ (long_info_again_by (new_rules bag renewal) (new_elements bag renewal) good.texts good.good).1
 
 -- the bag-info.txt is that of the bag, and is read alike
 abbrev pub HasInfoOf : Bag → Bag → Type 0
@@ -272,8 +272,14 @@ pub record IsOnTheWay (left bag : Bag) (renewal : Renewal) : Type 0 where
 module _ (left bag : Bag) (renewal : Renewal) (on : IsOnTheWay left bag renewal)
     (asked : is_bad_request renewal.elements ≡ false)
     (good : writes_info bag renewal ≡ true → HasGoodElements bag renewal) where
-  same_keeps : keeps left ≡ keeps bag
-  same_keeps = ap is_v10 (same_rules left bag on.between.declaration)
+  rules_are : rules_in left ≡ rules_in bag
+  rules_are = same_rules left bag on.between.declaration
+
+  same_keeps : keeps left renewal ≡ keeps bag renewal
+  same_keeps = ap (λ rules. is_v10 rules || not renewal.to_1_0) rules_are
+
+  same_new : new_rules left renewal ≡ new_rules bag renewal
+  same_new = ap (λ rules. cond renewal.to_1_0 V10 rules) rules_are
 
   payload_is : payload left ≡ payload bag
   payload_is = payload_alike left bag on.between.as_old.payload_file
@@ -295,7 +301,7 @@ module _ (left bag : Bag) (renewal : Renewal) (on : IsOnTheWay left bag renewal)
   ]
 
   -- where all is kept, and where nothing is
-  module _ (declaration : declaration_file left ≡ declaration_file bag)
+  module _ (declaration : declaration_file left renewal ≡ declaration_file bag renewal)
       (manifests : (alg : Alg) → is_new_alg bag renewal alg ≡ true
       → payload_manifest left renewal alg ≡ payload_manifest bag renewal alg) where
     kept_info : writes_info bag renewal ≡ false → file left bag_info_txt ≡ file bag bag_info_txt
@@ -312,6 +318,7 @@ module _ (left bag : Bag) (renewal : Renewal) (on : IsOnTheWay left bag renewal)
       payload_file = on.between.as_old.payload_file;
       kept = on.same;
       folders = on.between.folders;
+      rules = same_new;
       declaration = declaration;
       algs = same_alg;
       manifests = manifests;
@@ -323,38 +330,44 @@ module _ (left bag : Bag) (renewal : Renewal) (on : IsOnTheWay left bag renewal)
           ap (with_path bag_info_txt) (kept_info too) ∙ sym (ap files_so too);
     }
 
-  module _ (v10 : IsByV10 bag) where
-    keeps_bag : keeps bag ≡ true
-    keeps_bag = ap is_v10 v10
+  -- what would be written
+  module _ (alg : Alg) where
+    abbrev at_path : List ℕ
+    at_path = manifest_of Payload alg
 
-    keeps_left : keeps left ≡ true
+    abbrev anew : Bag → List ℕ
+    anew b = manifest (new_rules b renewal) alg (payload b)
+
+    same_anew : anew left ≡ anew bag
+    same_anew =
+        ap (λ rules. manifest rules alg (payload left)) same_new ∙ ap (manifest (new_rules bag renewal) alg) payload_is
+
+  module _ (keeps_bag : keeps bag renewal ≡ true) where
+    keeps_left : keeps left renewal ≡ true
     keeps_left = same_keeps ∙ keeps_bag
 
-    kept_declaration : kept_or left bagit_txt declaration_text ≡ kept_or bag bagit_txt declaration_text
+    kept_declaration : kept_or left renewal bagit_txt declaration_text ≡ kept_or bag renewal bagit_txt declaration_text
     kept_declaration =
-        kept_is left bagit_txt declaration_text keeps_left
+        kept_is left renewal bagit_txt declaration_text keeps_left
         ∙ ap (λ o. unwrap_or o declaration_text) on.between.declaration
-        ∙ sym (kept_is bag bagit_txt declaration_text keeps_bag)
+        ∙ sym (kept_is bag renewal bagit_txt declaration_text keeps_bag)
 
     -- the manifest is the old one, or the one that is written
     module _ (alg : Alg) (is : is_new_alg bag renewal alg ≡ true) where
-      abbrev at_path : List ℕ
-      at_path = manifest_of Payload alg
+      abbrev new_one : List ℕ
+      new_one = anew alg bag
 
-      abbrev anew : List ℕ
-      anew = manifest alg (payload bag)
-
-      by_file : (now was : Option (List ℕ)) → file left at_path ≡ now → file bag at_path ≡ was
-          → kept_or left at_path anew ≡ kept_or bag at_path anew
+      by_file : (now was : Option (List ℕ)) → file left (at_path alg) ≡ now → file bag (at_path alg) ≡ was
+          → kept_or left renewal (at_path alg) new_one ≡ kept_or bag renewal (at_path alg) new_one
       by_file (Some c) was at there =
-          kept_is left at_path anew keeps_left ∙ ap (λ o. unwrap_or o anew) at
-          ∙ elim (on.between.either at_path c (no_manifest_begun Payload (name alg)) at) [
-            | inl old ↦ sym (kept_is bag at_path anew keeps_bag ∙ ap (λ o. unwrap_or o anew) old)
+          kept_is left renewal (at_path alg) new_one keeps_left ∙ ap (λ o. unwrap_or o new_one) at
+          ∙ elim (on.between.either (at_path alg) c (no_manifest_begun Payload (name alg)) at) [
+            | inl old ↦ sym (kept_is bag renewal (at_path alg) new_one keeps_bag ∙ ap (λ o. unwrap_or o new_one) old)
             | inr made ↦ (new_manifest bag renewal alg c made).1
           ]
       by_file None None at there =
-          kept_is left at_path anew keeps_left ∙ ap (λ o. unwrap_or o anew) (at ∙ sym there)
-          ∙ sym (kept_is bag at_path anew keeps_bag)
+          kept_is left renewal (at_path alg) new_one keeps_left ∙ ap (λ o. unwrap_or o new_one) (at ∙ sym there)
+          ∙ sym (kept_is bag renewal (at_path alg) new_one keeps_bag)
       by_file None (Some c) at there =
           absurd (false≢true (sym (ap is_some at)
           ∙ on.manifests alg (has_or_added bag renewal alg bag is).1 (ap is_some there)))
@@ -362,37 +375,34 @@ module _ (left bag : Bag) (renewal : Renewal) (on : IsOnTheWay left bag renewal)
       kept_manifest : payload_manifest left renewal alg ≡ payload_manifest bag renewal alg
       kept_manifest =
           λ i. (
-            at_path,
-            (ap (λ es. kept_or left at_path (manifest alg es)) payload_is
-                ∙ by_file (file left at_path) (file bag at_path) refl refl) i,
+            at_path alg,
+            (ap (kept_or left renewal (at_path alg)) (same_anew alg)
+                ∙ by_file (file left (at_path alg)) (file bag (at_path alg)) refl refl) i,
           )
 
-    pub alike_v10 : AreRenewedAlike left bag renewal
-    alike_v10 = alike_so (λ i. (bagit_txt, kept_declaration i)) kept_manifest
+    pub alike_kept : AreRenewedAlike left bag renewal
+    alike_kept = alike_so (λ i. (bagit_txt, kept_declaration i)) kept_manifest
 
-  module _ (v097 : IsByV097 bag) where
-    keeps_none : keeps bag ≡ false
-    keeps_none = ap is_v10 v097
-
-    left_none : keeps left ≡ false
+  module _ (keeps_none : keeps bag renewal ≡ false) where
+    left_none : keeps left renewal ≡ false
     left_none = same_keeps ∙ keeps_none
 
-    new_declaration : kept_or left bagit_txt declaration_text ≡ kept_or bag bagit_txt declaration_text
+    new_declaration : kept_or left renewal bagit_txt declaration_text ≡ kept_or bag renewal bagit_txt declaration_text
     new_declaration =
-        written_is left bagit_txt declaration_text left_none ∙ sym (written_is bag bagit_txt declaration_text keeps_none)
+        written_is left renewal bagit_txt declaration_text left_none
+        ∙ sym (written_is bag renewal bagit_txt declaration_text keeps_none)
 
     written_manifest : (alg : Alg) → is_new_alg bag renewal alg ≡ true
         → payload_manifest left renewal alg ≡ payload_manifest bag renewal alg
     written_manifest alg is =
-        let path = manifest_of Payload alg in
         λ i. (
-          path,
-          (written_is left path (manifest alg (payload left)) left_none ∙ ap (manifest alg) payload_is
-              ∙ sym (written_is bag path (manifest alg (payload bag)) keeps_none)) i,
+          at_path alg,
+          (written_is left renewal (at_path alg) (anew alg left) left_none ∙ same_anew alg
+              ∙ sym (written_is bag renewal (at_path alg) (anew alg bag) keeps_none)) i,
         )
 
-    pub alike_v097 : AreRenewedAlike left bag renewal
-    alike_v097 = alike_so (λ i. (bagit_txt, new_declaration i)) written_manifest
+    pub alike_written : AreRenewedAlike left bag renewal
+    alike_written = alike_so (λ i. (bagit_txt, new_declaration i)) written_manifest
 
 -- ---- or all is that of the renewed bag, but for tag manifests and a file that is begun
 
@@ -401,14 +411,14 @@ pub record IsPutAll (left bag : Bag) (renewal : Renewal) : Type 0 where
   pub same : (q : List ℕ) → stays q ≡ true → file left q ≡ file bag q
   pub put : (q : List ℕ) → is_manifest_name Tag q ≡ false → q ≢ begun_file → file left q ≡ file (renewed bag renewal) q
 
-module _ (left bag : Bag) (renewal : Renewal) (v097 : IsByV097 bag) (on : IsPutAll left bag renewal)
+module _ (left bag : Bag) (renewal : Renewal) (none_kept : keeps bag renewal ≡ false) (on : IsPutAll left bag renewal)
     (asked : is_bad_request renewal.elements ≡ false)
     (good : writes_info bag renewal ≡ true → HasGoodElements bag renewal) where
-  none_kept : keeps bag ≡ false
-  none_kept = ap is_v10 v097
+  left_v10 : IsByV10 left
+  left_v10 = same_rules left (renewed bag renewal) on.between.declaration ∙ by_v10 bag renewal none_kept
 
-  all_kept : keeps left ≡ true
-  all_kept = ap is_v10 (same_rules left (renewed bag renewal) on.between.declaration ∙ by_v10 bag renewal)
+  all_kept : keeps left renewal ≡ true
+  all_kept = v10_keeps left renewal left_v10
 
   -- so bag-info.txt was written
   writes : writes_info bag renewal ≡ true
@@ -426,12 +436,12 @@ module _ (left bag : Bag) (renewal : Renewal) (v097 : IsByV097 bag) (on : IsPutA
 
   module _ (path anew : List ℕ) where
     -- what was written is kept
-    was_written : (c : List ℕ) → file left path ≡ Some c → kept_or left path anew ≡ c
-    was_written c at = kept_is left path anew all_kept ∙ ap (λ o. unwrap_or o anew) at
+    was_written : (c : List ℕ) → file left path ≡ Some c → kept_or left renewal path anew ≡ c
+    was_written c at = kept_is left renewal path anew all_kept ∙ ap (λ o. unwrap_or o anew) at
 
-  declaration_is : kept_or left bagit_txt declaration_text ≡ kept_or bag bagit_txt declaration_text
+  declaration_is : kept_or left renewal bagit_txt declaration_text ≡ kept_or bag renewal bagit_txt declaration_text
   declaration_is =
-      was_written bagit_txt declaration_text (kept_or bag bagit_txt declaration_text)
+      was_written bagit_txt declaration_text (kept_or bag renewal bagit_txt declaration_text)
       (on.between.declaration ∙ declared bag renewal)
 
   module _ (alg : Alg) where
@@ -450,10 +460,11 @@ module _ (left bag : Bag) (renewal : Renewal) (v097 : IsByV097 bag) (on : IsPutA
         → payload_manifest left renewal alg ≡ payload_manifest bag renewal alg
     manifest_is is =
         let path = manifest_of Payload alg in
-        let text = kept_or bag path (manifest alg (payload bag)) in
+        let text = kept_or bag renewal path (manifest (new_rules bag renewal) alg (payload bag)) in
+        let anew = manifest (new_rules left renewal) alg (payload left) in
         λ i. (
           path,
-          was_written path (manifest alg (payload left)) text (put_manifest ∙ manifest_there bag renewal alg is) i,
+          was_written path anew text (put_manifest ∙ manifest_there bag renewal alg is) i,
         )
 
   abbrev files_of_info : Bool → List File
@@ -464,6 +475,7 @@ module _ (left bag : Bag) (renewal : Renewal) (v097 : IsByV097 bag) (on : IsPutA
     payload_file = as_payload;
     kept = on.same;
     folders = folders_are;
+    rules = still_v10 left renewal left_v10 ∙ sym (becomes_v10 bag renewal none_kept);
     declaration = λ i. (bagit_txt, declaration_is i);
     algs = alg_is;
     manifests = manifest_is;
@@ -500,16 +512,17 @@ module _ (bag : Bag) (renewal : Renewal) (can : CanRenewInPlace bag renewal) (k 
               ∙ manifest_stays bag renewal k can alg keeps_it there;
         }
 
-  module _ (v097 : IsByV097 bag) (none : HasNoPercent bag) (late : AllIn (yet_to_make bag renewal k) (tags_put bag renewal))
+  module _ (changes_rules : keeps bag renewal ≡ false) (none : HasNoPercent bag)
+    (late : AllIn (yet_to_make bag renewal k) (tags_put bag renewal))
     where
       abbrev here : IsBetween mid (renewed bag renewal) (renewed bag renewal)
-      here = late_between bag renewal k can v097 none late
+      here = late_between bag renewal k can changes_rules none late
 
       put_so : IsPutAll mid bag renewal
       put_so = record {
         between = here;
         same = stays_as_it_was bag renewal k can;
-        put = λ q other unbegun. put_all bag renewal k can v097 none late q other;
+        put = λ q other unbegun. put_all bag renewal k can changes_rules none late q other;
       }
 
       put_with_begun : (found : List ℕ) → IsPutAll (create begun_file found mid) bag renewal
@@ -519,7 +532,7 @@ module _ (bag : Bag) (renewal : Renewal) (can : CanRenewInPlace bag renewal) (k 
             same = λ q is.
                 stays_elsewhere mid new new found here q is ∙ stays_as_it_was bag renewal k can q is;
             put = λ q other unbegun.
-                elsewhere mid new new found here q unbegun ∙ put_all bag renewal k can v097 none late q other;
+                elsewhere mid new new found here q unbegun ∙ put_all bag renewal k can changes_rules none late q other;
           }
 
 module _ (bag : Bag) (renewal : Renewal) (can : CanRenewInPlace bag renewal)
@@ -528,50 +541,53 @@ module _ (bag : Bag) (renewal : Renewal) (can : CanRenewInPlace bag renewal)
   abbrev IsAlike : Bag → Type 0
   IsAlike left = AreRenewedAlike left bag renewal
 
-  of_v10 : IsByV10 bag → (left : Bag) → IsOnTheWay left bag renewal → IsAlike left
-  of_v10 v10 left on = alike_v10 left bag renewal on asked good v10
+  of_kept : keeps bag renewal ≡ true → (left : Bag) → IsOnTheWay left bag renewal → IsAlike left
+  of_kept keeps_it left on = alike_kept left bag renewal on asked good keeps_it
 
-  of_v097 : IsByV097 bag → (left : Bag) → IsOnTheWay left bag renewal → IsAlike left
-  of_v097 v097 left on = alike_v097 left bag renewal on asked good v097
+  of_written : keeps bag renewal ≡ false → (left : Bag) → IsOnTheWay left bag renewal → IsAlike left
+  of_written changes_rules left on = alike_written left bag renewal on asked good changes_rules
 
-  of_put : IsByV097 bag → (left : Bag) → IsPutAll left bag renewal → IsAlike left
-  of_put v097 left on = alike_put left bag renewal v097 on asked good
+  of_put : keeps bag renewal ≡ false → (left : Bag) → IsPutAll left bag renewal → IsAlike left
+  of_put changes_rules left on = alike_put left bag renewal changes_rules on asked good
 
   -- the bag after the first changes, and with a file that is begun
   abbrev BothAlike : ℕ → Type 0
   BothAlike k =
       IsAlike (after bag renewal k) × ((found : List ℕ) → IsAlike (create begun_file found (after bag renewal k)))
 
-  both_v10 : (k : ℕ) → IsByV10 bag → BothAlike k
-  both_v10 k v10 =
-      let is = between bag renewal k can v10 in (
-        of_v10 v10 (after bag renewal k) (on_the_way bag renewal can k is),
-        λ found. of_v10 v10 (create begun_file found (after bag renewal k)) (with_a_begun bag renewal can k found is),
+  both_kept : (k : ℕ) → keeps bag renewal ≡ true → BothAlike k
+  both_kept k keeps_it =
+      let is = between bag renewal k can keeps_it in (
+        of_kept keeps_it (after bag renewal k) (on_the_way bag renewal can k is),
+        λ found. of_kept keeps_it (create begun_file found (after bag renewal k))
+            (with_a_begun bag renewal can k found is),
       )
 
-  both_v097 : (k : ℕ) → IsByV097 bag → HasNoPercent bag → BothAlike k
-  both_v097 k v097 none = elim (early_or_late bag renewal k can v097 none) [
+  both_written : (k : ℕ) → keeps bag renewal ≡ false → HasNoPercent bag → BothAlike k
+  both_written k changes_rules none = elim (early_or_late bag renewal k can changes_rules none) [
     | inl early ↦ (
-        let is = early_between bag renewal k can v097 none early in (
-          of_v097 v097 (after bag renewal k) (on_the_way bag renewal can k is),
-          λ found. of_v097 v097 (create begun_file found (after bag renewal k)) (with_a_begun bag renewal can k found is),
+        let is = early_between bag renewal k can changes_rules none early in (
+          of_written changes_rules (after bag renewal k) (on_the_way bag renewal can k is),
+          λ found. of_written changes_rules (create begun_file found (after bag renewal k))
+              (with_a_begun bag renewal can k found is),
         ))
     | inr late ↦ (
-      of_put v097 (after bag renewal k) (put_so bag renewal can k v097 none late),
-      λ found. of_put v097 (create begun_file found (after bag renewal k))
-          (put_with_begun bag renewal can k v097 none late found),
+      of_put changes_rules (after bag renewal k) (put_so bag renewal can k changes_rules none late),
+      λ found. of_put changes_rules (create begun_file found (after bag renewal k))
+          (put_with_begun bag renewal can k changes_rules none late found),
     )
   ]
 
-  by_rules : (k : ℕ) → IsByV10 bag ⊎ IsByV097 bag → IsByV10 bag ⊎ HasNoPercent bag → BothAlike k
-  by_rules k (inl v10) spelled = both_v10 k v10
-  by_rules k (inr v097) (inl v10) = absurd (not_both (rules_in bag) v10 v097)
-  by_rules k (inr v097) (inr none) = both_v097 k v097 none
+  by_rules : (k : ℕ) (keeps_it : Bool) → keeps bag renewal ≡ keeps_it → (keeps bag renewal ≡ true) ⊎ HasNoPercent bag
+      → BothAlike k
+  by_rules k true is spelled = both_kept k is
+  by_rules k false isnt (inl is) = absurd (false≢true (sym isnt ∙ is))
+  by_rules k false isnt (inr none) = both_written k isnt none
 
   pub cut_alike : (left : Bag) → IsAfterFirst begun_file (changes bag renewal) bag left
       → AreRenewedAlike left bag renewal
   cut_alike left cut =
-      let both = by_rules cut.k (by_v10_or_v097 (rules_in bag)) can.spelled in
+      let both = by_rules cut.k (keeps bag renewal) refl can.spelled in
       elim cut.is [
         | inl whole ↦ subst IsAlike (sym whole) both.0
         | inr begun ↦ subst IsAlike (sym begun.1) (both.1 begun.0)

@@ -341,7 +341,7 @@ module _ (bag : Bag) (renewal : Renewal) where
           )
         ]
 
-    are_nameable : AreNameable (new_rules bag renewal) now
+    pub are_nameable : AreNameable (new_rules bag renewal) now
     are_nameable q has =
         let c = content_of (file now q) has in
         elim (stands q c.0 c.1) [

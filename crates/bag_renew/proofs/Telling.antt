@@ -1,5 +1,5 @@
 -- A bag whose manifests name what they are to name is complete, and where they give the digests it is valid.
-use Rattle.bag_renew.proofs.Common.{◌≡◌, ◌≢◌, ◌∙◌, ℕ, true, List, [], Option, None, Some}
+use Rattle.bag_renew.proofs.Common.{◌≡◌, ◌≢◌, ◌∙◌, inl, inr, ℕ, true, List, [], Option, None, Some}
 use Rattle.bag_renew.proofs.Common.{refl, ap, sym, subst, Contains, false≢true, manifest_name, tag_path, Kind, Payload}
 use Rattle.bag_renew.proofs.Common.{Tag, Manifest, Alg, Bag, HasFile, file}
 use Rattle.std.proofs.Common.{◌-◌}
@@ -8,15 +8,20 @@ use Rattle.bag_text.specs.Lines.{lines_of_file}
 use Rattle.bag_text.specs.declared.code.Code.{Code}
 use Rattle.bag_text.specs.declared.code.Code.TheVariants.{NameClash, PayloadFileMissing, PayloadFileNotListed}
 use Rattle.bag_text.specs.declared.code.Code.TheVariants.{PayloadManifestNotListed, PayloadSumDiffers}
+use Rattle.bag_text.specs.declared.rules.Rules.{Rules}
+use Rattle.bag_text.specs.declared.rules.Rules.TheVariants.{V10, V097}
 use Rattle.bag_read.specs.Manifest.{IsEntry, named}
 use Rattle.bag_read.specs.declared.manifest.ManifestEntry.{ManifestEntry}
 use Rattle.bag_read.proofs.ManifestEntries.{named_has_entry}
-use Rattle.bag_facts.specs.Facts.{rules_in}
+use Rattle.bag_facts.specs.Facts.{IsByV10, rules_in}
 use Rattle.bag_facts.specs.declared.fault.Fault.{Fault}
+use Rattle.bag_stages.proofs.BagLists.{some_alg, there_or_not}
+use Rattle.bag_stages.proofs.LeftOut.{by_all, by_one}
 use Rattle.bag_stages.specs.CompletenessStage.{CompletenessHolds, IsOfCompleteness, Missing}
 use Rattle.bag_stages.specs.FaultFields.{in_line}
+use Rattle.bag_stages.specs.LeftOut.{IsNamedBySome}
 use Rattle.bag_stages.specs.ManifestsStage.{InManifest, IsOfManifests, ManifestHolds}
-use Rattle.bag_stages.specs.TagFiles.{HasSupported, Names, lines_or_none, manifest_of}
+use Rattle.bag_stages.specs.TagFiles.{HasSupported, Names, lines_or_none, manifest_of, named_in}
 use Rattle.bag_stages.specs.ValidityStage.{Differs, IsEntryIn, IsOfValidity, ValidityHolds}
 use Rattle.bag_renew.specs.Telling.{BagsThatNameTheirFilesAreComplete, BagsThatTellTheirFilesAreValid, GivesDigests}
 use Rattle.bag_renew.specs.Telling.{IsToBeNamed, NamesItsFiles, TellsItsFiles, is_to_name}
@@ -56,6 +61,31 @@ module _ (bag : Bag) (names : NamesItsFiles bag) where
       let text = content_of (file bag (manifest_of Tag alg)) has in
       subst (λ o. Contains (named (rules_in bag) Tag alg (lines_or_none o)) path) (sym text.1)
       (((names.all_tags alg text.0 text.1).paths path).1 is)
+
+  -- by the rules of 1.0 each payload manifest names all of the payload
+  pub v10_named : IsByV10 bag → (alg : Alg) (path : List ℕ) → HasSupported bag Payload alg
+      → IsToBeNamed bag Payload path → Names bag Payload alg path
+  v10_named v10 alg path has is = elim (there_or_not (named_in bag Payload alg) path) [
+    | inl names_it ↦ names_it
+    | inr unnamed ↦ absurd (names.listed (Some alg) path is
+        (by_one bag path (rules_in bag) alg v10 (has, unnamed)))
+  ]
+
+  -- and by either rules some payload manifest, where one is there, names each file of the payload
+  pub some_named : (alg : Alg) × HasSupported bag Payload alg → (path : List ℕ) → IsToBeNamed bag Payload path
+      → IsNamedBySome bag path
+  some_named has path is = elim (some_alg (λ alg. Names bag Payload alg path)
+      (λ alg. there_or_not (named_in bag Payload alg) path)) [
+        | inl named_it ↦ named_it
+        | inr unnamed ↦ absurd (by_rules (rules_in bag) refl unnamed)
+      ]
+    where
+      by_rules : (rules : Rules) → rules_in bag ≡ rules → ¬ (IsNamedBySome bag path) → ⊥
+      by_rules V10 v10 unnamed =
+          names.listed (Some has.0) path is
+          (by_one bag path (rules_in bag) has.0 v10 (has.1, λ named_it. unnamed (has.0, named_it)))
+      by_rules V097 v097 unnamed =
+          names.listed None path is (by_all bag path (rules_in bag) v097 (has, unnamed))
 
   module _ (f : Fault) where
     reads_well : InManifest bag f → ⊥
