@@ -27,7 +27,7 @@ use Rattle.bag_facts.specs.FactsOfBag.{IsByV097}
 use Rattle.bag_stages.proofs.LeftOut.{by_all, by_one, left_out_by, not_both}
 use Rattle.bag_stages.specs.CompletenessStage.{CompletenessHolds, IsOfCompleteness, IsPayloadFile, Missing}
 use Rattle.bag_stages.specs.DeclarationStage.{IsOfDeclaration}
-use Rattle.bag_stages.specs.FetchStage.{FetchHolds, HasFetch, IsOfFetch, fetch_txt}
+use Rattle.bag_stages.specs.FetchStage.{FetchHolds, IsOfFetch, fetch_txt}
 use Rattle.bag_stages.specs.LeftOut.{IsLeftOut, IsLeftOutByAll, IsLeftOutByOne}
 use Rattle.bag_stages.specs.ManifestsStage.{InManifest, IsOfManifests, ManifestHolds}
 use Rattle.bag_stages.specs.MetadataStage.{IsOfMetadata, bag_info_txt}
@@ -37,7 +37,6 @@ use Rattle.bag_stages.specs.FaultFields.{At}
 use Rattle.bag_stages.specs.ValidityStage.{Differs, IsEntryIn, IsOfValidity, ValidityHolds, expected_and_found}
 use Rattle.bag_tree.specs.Bag.{LacksFile}
 use Rattle.bag_tree.specs.Digest.{digest}
-use Rattle.bag_read.specs.declared.fetch.FetchEntry.{FetchEntry}
 use Rattle.bag_renew.proofs.AlikeFaults.{AreAlike, declaration_was, differs_was, entry_was, fetch_was, has_list}
 use Rattle.bag_renew.proofs.AlikeFaults.{left_out_was}
 use Rattle.bag_renew.proofs.AlikeFaults.{manifest_was, metadata_was, missing_was, named_was, names_now}

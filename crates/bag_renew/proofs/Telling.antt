@@ -1,5 +1,5 @@
 -- A bag whose manifests name what they are to name is complete, and where they give the digests it is valid.
-use Rattle.bag_renew.proofs.Common.{◌≡◌, ◌≢◌, ◌∙◌, inl, inr, ℕ, true, List, [], Option, None, Some}
+use Rattle.bag_renew.proofs.Common.{◌≡◌, ◌≢◌, ◌∙◌, inl, inr, ℕ, List, [], Option, None, Some}
 use Rattle.bag_renew.proofs.Common.{refl, ap, sym, subst, Contains, false≢true, manifest_name, tag_path, Kind, Payload}
 use Rattle.bag_renew.proofs.Common.{Tag, Manifest, Alg, Bag, HasFile, file}
 use Rattle.std.proofs.Common.{◌-◌}
