@@ -26,7 +26,7 @@ pub(crate) const NEW: Files = &[
     ),
 ];
 
-/// One of version 0.97, of which all is written, and such a file.
+/// One of version 0.97, of which all is written where it becomes one of 1.0, and such a file.
 pub(crate) const OLD: Files = &[
     (".bagit-begun", b"xyz"),
     (

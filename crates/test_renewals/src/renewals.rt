@@ -16,19 +16,24 @@ fn text(stop: &impl Abort, alloc: Global, text: &str) -> Text {
 }
 
 /// Has each kind of tag file put or removed: SHA-1 comes in place of MD5, and an element is set.
-fn renewal(stop: &impl Abort, alloc: Global) -> Renewal {
+fn renewal(stop: &impl Abort, alloc: Global, to_1_0: bool) -> Renewal {
     let mut renewal = Renewal::nothing(alloc);
     renewal.added = AlgSet::empty().with(Alg::Sha1);
     renewal.dropped = AlgSet::empty().with(Alg::Md5);
-    renewal.to_1_0 = true;
+    renewal.to_1_0 = to_1_0;
     let element = (text(stop, alloc, "Contact-Name"), text(stop, alloc, "Bo"));
     renewal.elements.set.push(element).expect(stop, "succeeds");
     renewal
 }
 
-/// Whether a bag was renewed.
-pub(crate) fn is_renewed<T: ReplaceTree>(stop: &impl Abort, alloc: Global, tree: &mut T) -> bool {
-    let renewal = renewal(stop, alloc);
+/// Whether a bag was renewed, to one of version 1.0 where that is asked.
+pub(crate) fn is_renewed<T: ReplaceTree>(
+    stop: &impl Abort,
+    alloc: Global,
+    tree: &mut T,
+    to_1_0: bool,
+) -> bool {
+    let renewal = renewal(stop, alloc, to_1_0);
     renew(alloc, tree, &renewal).is_ok()
 }
 
@@ -63,9 +68,14 @@ pub(crate) fn tree_of(stop: &impl Abort, alloc: Global, disk: &MemoryDisk) -> Fi
 }
 
 /// The tree over a copy of a disk whose bag was renewed.
-pub(crate) fn renewed(stop: &impl Abort, alloc: Global, disk: &MemoryDisk) -> FileTree<MemoryDisk> {
+pub(crate) fn renewed(
+    stop: &impl Abort,
+    alloc: Global,
+    disk: &MemoryDisk,
+    to_1_0: bool,
+) -> FileTree<MemoryDisk> {
     let mut tree = tree_of(stop, alloc, disk);
-    assert!(stop; is_renewed(stop, alloc, &mut tree), "refused");
+    assert!(stop; is_renewed(stop, alloc, &mut tree, to_1_0), "refused");
     tree
 }
 
@@ -112,11 +122,12 @@ pub(crate) fn finish<T: ReplaceTree + Drop>(
     stop: &impl Abort,
     alloc: Global,
     tree: T,
+    to_1_0: bool,
     wanted: &mut FileTree<MemoryDisk>,
 ) {
     let (mut tree, is_valid) = checked(stop, alloc, tree);
     assert!(stop; is_valid, "a fault");
-    assert!(stop; is_renewed(stop, alloc, &mut tree), "refused");
+    assert!(stop; is_renewed(stop, alloc, &mut tree, to_1_0), "refused");
     assert!(stop; are_same(stop, alloc, &mut tree, wanted), "another bag");
     let (_tree, is_valid) = checked(stop, alloc, tree);
     assert!(stop; is_valid, "a fault then");

@@ -1,5 +1,5 @@
 //! Renewals that are stopped, by a power cut or by a call that is refused.
-use crate::bags::{NEW, OLD};
+use crate::bags::{Files, NEW, OLD};
 use crate::renewals::{are_same, disk, finish, is_renewed, renewed, tree_of};
 use bag_disk::DiskFault;
 use bag_store::FileTree;
@@ -7,17 +7,21 @@ use std::alloc::Global;
 use std::process::Abort;
 use test_disk::{Call, MemoryDisk, RefusingDisk, cuts};
 
+/// The bags that are renewed, and whether each is to become one of version 1.0.
+const BAGS: [(Files, bool); 3] = [(NEW, false), (OLD, true), (OLD, false)];
+
 #[test]
 fn a_power_cut_at_any_moment_leaves_a_valid_bag(rt: HostRuntime) {
-    for files in [NEW, OLD] {
+    for (files, to_1_0) in BAGS {
         let first = disk(&rt, rt.alloc(), files);
-        let mut wanted = renewed(&rt, rt.alloc(), &first);
-        let tree = renewed(&rt, rt.alloc(), &first);
+        let mut wanted = renewed(&rt, rt.alloc(), &first, to_1_0);
+        let tree = renewed(&rt, rt.alloc(), &first, to_1_0);
         let trail = tree.disk().trail();
         for moment in 0..=trail.len() {
             let left = cuts(rt.alloc(), &first, &trail[..moment]).expect(&rt, "succeeds");
             for one in &left {
-                finish(&rt, rt.alloc(), tree_of(&rt, rt.alloc(), one), &mut wanted);
+                let tree = tree_of(&rt, rt.alloc(), one);
+                finish(&rt, rt.alloc(), tree, to_1_0, &mut wanted);
             }
         }
     }
@@ -25,10 +29,10 @@ fn a_power_cut_at_any_moment_leaves_a_valid_bag(rt: HostRuntime) {
 
 #[test]
 fn a_power_cut_after_a_renewal_leaves_the_renewed_bag(rt: HostRuntime) {
-    for files in [NEW, OLD] {
+    for (files, to_1_0) in BAGS {
         let first = disk(&rt, rt.alloc(), files);
-        let mut wanted = renewed(&rt, rt.alloc(), &first);
-        let tree = renewed(&rt, rt.alloc(), &first);
+        let mut wanted = renewed(&rt, rt.alloc(), &first, to_1_0);
+        let tree = renewed(&rt, rt.alloc(), &first, to_1_0);
         let left = cuts(rt.alloc(), &first, tree.disk().trail()).expect(&rt, "succeeds");
         assert!(rt; left.len() == 1, "{}", left.len());
         for one in &left {
@@ -38,17 +42,18 @@ fn a_power_cut_after_a_renewal_leaves_the_renewed_bag(rt: HostRuntime) {
     }
 }
 
-/// Refuses each call of a renewal in turn, and finishes it then. Gives how many there are.
+/// Refuses each call of a renewal to version 1.0 in turn, and finishes it then. Gives how many there
+/// are.
 fn refuse_each(stop: &impl Abort, alloc: Global, first: &MemoryDisk) -> u64 {
-    let mut wanted = renewed(stop, alloc, first);
+    let mut wanted = renewed(stop, alloc, first, true);
     for number in 0..1000 {
         let copy = first.fresh_copy(alloc).expect(stop, "succeeds");
         let refusing = RefusingDisk::over(copy, Call::Numbered(number), DiskFault::Device);
         let mut tree = FileTree::over(alloc, refusing);
-        if is_renewed(stop, alloc, &mut tree) {
+        if is_renewed(stop, alloc, &mut tree, true) {
             return number;
         }
-        finish(stop, alloc, tree, &mut wanted);
+        finish(stop, alloc, tree, true, &mut wanted);
     }
     1000
 }
