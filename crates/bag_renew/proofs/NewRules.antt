@@ -1,13 +1,13 @@
 -- The rules of the renewed bag: those of its declaration, which is kept, or written.
 use Rattle.bag_renew.proofs.Common.{◌≡◌, ◌||◌, ◌&&◌, ◌∙◌, ℕ, Bool, true, false, not, cond, List, Option, None, Some}
 use Rattle.bag_renew.proofs.Common.{is_some, refl, ap, sym, tag_path, Declaration, Bag, file, has_file, is_kept, keeps}
-use Rattle.bag_renew.proofs.Common.{new_rules, Renewal, rules_in}
+use Rattle.bag_renew.proofs.Common.{new_rules, Renewal}
 use Rattle.std.specs.Prelude.{option_and_then}
 use Rattle.bag_text.specs.Rules.{rules_of}
 use Rattle.bag_text.specs.declared.rules.Rules.{Rules}
 use Rattle.bag_text.specs.declared.rules.Rules.TheVariants.{V10, V097}
 use Rattle.bag_read.specs.Declaration.{declared_version}
-use Rattle.bag_facts.specs.Facts.{IsByV10}
+use Rattle.bag_facts.specs.Facts.{IsByV10, rules_in}
 use Rattle.bag_facts.specs.FactsOfBag.{IsByV097}
 use Rattle.bag_renew.specs.Renewed.{is_v10}
 use Rattle.bag_renew.proofs.KeptOr.{becomes_v10, keeps_rules}

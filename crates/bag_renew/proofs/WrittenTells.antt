@@ -129,7 +129,7 @@ module _ (rules : Rules) (bag : Bag) (kind : Kind) (alg : Alg) where
 
     writable : All (λ entry. IsText entry.1) entries × CanWriteBy rules kind alg entries
     writable =
-        let good = good_entries kind alg (to_name bag kind) can_name in
+        let good = good_entries rules kind alg (to_name bag kind) can_name in
         (All-from_recursion (λ (entry : NewEntry). IsText entry.1) entries good.0, (good.1, each_once))
 
     abbrev text_of : List ℕ
