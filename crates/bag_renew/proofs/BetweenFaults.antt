@@ -68,7 +68,6 @@ IsUnlistedByV097 bag path = IsByV097 bag × IsLeftOutByAll bag path
 -- did, or those of the new one do.
 pub record IsBetweenByV097 (mid old new : Bag) : Type 0 where
   pub rules : IsByV097 mid
-  pub old_rules : IsByV097 old
   pub left_out : (path : List ℕ) → MayBeListed mid path → IsLeftOutByAll mid path
       → IsUnlistedByV097 old path ⊎ IsUnlistedByV097 new path
 

@@ -3,7 +3,7 @@ use Rattle.bag_renew.proofs.Common.{◌≡◌, ◌⊎◌, ◌∙◌, ◌<◌, �
 use Rattle.bag_renew.proofs.Common.{refl, sym, ap, subst, Contains, All, and_parts, any_from, false≢true, list_any}
 use Rattle.bag_renew.proofs.Common.{tag_path, Payload, Tag, Fetch, Info, Manifest, Alg, Bag, IsBag, file, has_folder}
 use Rattle.bag_renew.proofs.Common.{begun_file, is_kept, is_kept_alg, is_new_alg, keeps, new_algs, new_rules}
-use Rattle.bag_renew.proofs.Common.{payload_manifest, rules_in, writes_info, Renewal, changes, IsOutOfTheWay}
+use Rattle.bag_renew.proofs.Common.{rules_in, writes_info, Renewal, changes, IsOutOfTheWay}
 use Rattle.std.specs.FinSet as set
 use Rattle.std.specs.Prelude.{◌^◌}
 use Rattle.bag_text.specs.Text.{IsText}
@@ -11,11 +11,10 @@ use Rattle.bag_text.specs.declared.rules.Rules.{Rules}
 use Rattle.bag_text.specs.declared.rules.Rules.TheVariants.{V10, V097}
 use Rattle.bag_read.specs.Manifest.{named}
 use Rattle.bag_stages.proofs.BagLists.{same_or_not}
-use Rattle.bag_stages.proofs.LeftOut.{some_member}
 use Rattle.bag_stages.specs.LeftOut.{IsNamedBySome}
 use Rattle.bag_stages.specs.MetadataStage.{IsOfMetadata}
 use Rattle.bag_stages.specs.Payload.{oxum, oxum_of_files}
-use Rattle.bag_stages.specs.TagFiles.{HasSupported, lines_in, lines_or_none, manifest_of}
+use Rattle.bag_stages.specs.TagFiles.{lines_in, lines_or_none, manifest_of}
 use Rattle.bag_tags.specs.OnLines.{is_bad_long_element}
 use Rattle.bag_tags.specs.Writable.{is_unnameable}
 use Rattle.bag_tree.specs.Bag.{LacksFile}
@@ -29,7 +28,6 @@ use Rattle.bag_renew.specs.Telling.{AreNameable, AreStillListed, IsNamedByKept, 
 use Rattle.bag_renew.specs.Valid.{HasGoodElements, HasGoodInfo}
 use Rattle.bag_renew.proofs.AlgsWhere.{alg_in, passes}
 use Rattle.bag_renew.proofs.BetweenFaults.{IsBetween, named_by, names_begun}
-use Rattle.bag_renew.proofs.Contents.{these_files}
 use Rattle.bag_facts.proofs.Found.{content_of}
 use Rattle.bag_renew.proofs.KeptOr.{kept_rules}
 use Rattle.bag_renew.proofs.NewRules.{renewed_keeps}
@@ -37,8 +35,10 @@ use Rattle.bag_renew.proofs.OldBag.{known, names_its_payload}
 use Rattle.bag_renew.proofs.OnTheWay.{cut_on_its_way, each_cut_has_old_faults}
 use Rattle.bag_renew.proofs.OnTheWayFiles.{same_rules}
 use Rattle.bag_renew.proofs.OnTheWayFromV097.{renewed_percent}
-use Rattle.bag_renew.proofs.RenewedAgain.{AreRenewedAlike, cut_alike, same_algs, same_payload, same_renewed}
-use Rattle.bag_renew.proofs.RenewedNames.{are_nameable, by_new_rules, names_files, new_text, same_file, same_manifest}
+use Rattle.bag_renew.proofs.RenewedAgain.{cut_alike}
+use Rattle.bag_renew.proofs.RenewedAlike.{AreRenewedAlike, same_algs, same_payload, same_renewed}
+use Rattle.bag_renew.proofs.RenewedNames.{are_nameable, by_new_rules, names_files, new_text, one_manifest, same_file}
+use Rattle.bag_renew.proofs.RenewedNames.{same_manifest}
 use Rattle.bag_renew.proofs.Telling.{some_named}
 
 begun_nameable : (rules : Rules) → is_unnameable rules begun_file ≡ false
@@ -142,16 +142,6 @@ module _ (bag : Bag) (renewal : Renewal) (left : Bag) (can : CanRenewInPlace bag
       names_files bag renewal can.can.is_bag can.can.nameable (names_its_payload bag can.can.damaged) can.can.listed
       (known bag can.can.damaged)
 
-  some_manifest : (alg : Alg) × HasSupported new Payload alg
-  some_manifest =
-      let m = some_member (new_algs bag renewal) can.can.some_alg in
-      let text = (payload_manifest bag renewal m.0).1 in
-      (
-        m.0,
-        ap is_some ((these_files bag renewal (manifest_of Payload m.0) text).1
-            (inr (Manifest Payload m.0, refl, (m.1, refl)))),
-      )
-
   module _ (none_written : writes_payload_manifest left renewal ≡ false) (path : List ℕ)
       (is : IsToBeNamed left Payload path) where
     -- the renewed bag's manifest of an algorithm is that which is kept
@@ -174,8 +164,7 @@ module _ (bag : Bag) (renewal : Renewal) (left : Bag) (can : CanRenewInPlace bag
         let rules : rules_in new ≡ rules_in left =
         by_new_rules bag renewal ∙ sym are.rules ∙ kept_rules left renewal manifest_path of_it in
         let file_is : file new manifest_path ≡ file left manifest_path =
-        sym (ap (λ b. file b manifest_path) same) ∙ same_manifest left renewal alg kept in
-        (
+        sym (ap (λ b. file b manifest_path) same) ∙ same_manifest left renewal alg kept in (
           alg,
           kept,
           subst (λ o. Contains (named (rules_in left) Payload alg (lines_or_none o)) path) file_is
@@ -187,7 +176,7 @@ module _ (bag : Bag) (renewal : Renewal) (left : Bag) (can : CanRenewInPlace bag
         (ap is_some (sym (ap (λ b. file b path) same) ∙ same_file left renewal path is.1) ∙ is.0, is.1)
 
     named_by_kept : IsNamedByKept left renewal path
-    named_by_kept = named_still (some_named new names_new some_manifest path named_in_new)
+    named_by_kept = named_still (some_named new names_new (one_manifest bag renewal can.can.some_alg) path named_in_new)
 
   still_listed : (writes : Bool) → writes_payload_manifest left renewal ≡ writes → AreStillListed left renewal
   still_listed true writes = inr (inl writes)

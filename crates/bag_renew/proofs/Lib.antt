@@ -52,6 +52,7 @@ pub mod ReadBag
 pub mod ReadForRenewal
 pub mod PlannedRenewal
 pub mod RenewedAgain
+pub mod RenewedAlike
 pub mod RenewedNames
 pub mod ReplacedAgain
 pub mod SamePayload

@@ -249,7 +249,7 @@ module _ (bag : Bag) (damaged : (f : Fault) → IsFaultOf bag f → IsDamage f) 
     )
 
     names_files : NamesFiles (rules_in bag) bag Payload alg text
-    names_files = record { no_fault = no_line_fault; there = to_be_named; }
+    names_files = record { no_fault = no_line_fault; there = to_be_named }
 
     names_all : IsByV10 bag → NamesAll (rules_in bag) bag Payload alg text
     names_all v10 = record {

@@ -79,7 +79,6 @@ module _ (mid old new : Bag) (found : List ℕ) (between : IsBetween mid old new
   ruled (inl v10) = inl (by_same ∙ v10)
   ruled (inr by_v097) = inr (record {
     rules = by_same ∙ by_v097.rules;
-    old_rules = by_v097.old_rules;
     left_out = λ path may out. by_v097.left_out path (may_before path may) (left_out_before path out);
   })
 

@@ -5,7 +5,7 @@ use Rattle.bag_renew.proofs.Common.{fold-append, is_payload_path, manifest_name,
 use Rattle.bag_renew.proofs.Common.{Declaration, Fetch, Info, Alg, name, name_is_text, Bag, HasFile, file, has_file}
 use Rattle.bag_renew.proofs.Common.{paths_differ, All-contains, All-from_recursion, FileChange, Put, Remove, after}
 use Rattle.bag_renew.proofs.Common.{changes, HasKnownManifests, begun_file, has_member, stays, is_kept, keeps}
-use Rattle.bag_renew.proofs.Common.{Manifest, new_algs, payload_manifest, Renewal}
+use Rattle.bag_renew.proofs.Common.{Renewal}
 use Rattle.std.proofs.Common.{take-append-drop}
 use Rattle.std.specs.Prelude.{option_and_then}
 use Rattle.bag_text.specs.Rules.{rules_of}
@@ -21,9 +21,8 @@ use Rattle.bag_report.specs.Report.{Is, asks}
 use Rattle.bag_stages.specs.DeclarationStage.{DeclarationHolds, IsOfDeclaration}
 use Rattle.bag_stages.specs.MetadataStage.{bag_info_txt}
 use Rattle.bag_stages.specs.FetchStage.{fetch_txt}
-use Rattle.bag_stages.proofs.LeftOut.{some_member}
 use Rattle.bag_stages.specs.LeftOut.{IsLeftOutByAll}
-use Rattle.bag_stages.specs.TagFiles.{HasSupported, Names, bagit_txt, lines_or_none, manifest_of}
+use Rattle.bag_stages.specs.TagFiles.{Names, bagit_txt, lines_or_none, manifest_of}
 use Rattle.bag_tags.specs.Declaration.{declaration_text}
 use Rattle.bag_renew.specs.OnTheWay.{CanRenewInPlace}
 use Rattle.bag_renew.specs.Renewed.{renewed}
@@ -45,7 +44,7 @@ use Rattle.bag_renew.proofs.OnTheWayChanges.{opened_or_not, payload_not_put, pay
 use Rattle.bag_renew.proofs.OnTheWayChanges.{tag_not_put, tag_not_removed, till_opened, till_put}
 use Rattle.bag_renew.proofs.OneChange.{all_level, at_changes, first_are, itself_level, name_of, with_change}
 use Rattle.bag_renew.proofs.OneChange.{with_changes}
-use Rattle.bag_renew.proofs.RenewedNames.{declared, names_files, old_or_anew}
+use Rattle.bag_renew.proofs.RenewedNames.{declared, names_files, old_or_anew, one_manifest}
 use Rattle.bag_renew.proofs.Staying.{IsWritten, itself, no_begun, no_payload_name, no_payload_tag, stays_so}
 use Rattle.bag_renew.proofs.Staying.{written_goes}
 
@@ -373,16 +372,6 @@ module _ (bag : Bag) (renewal : Renewal) (k : ℕ) (can : CanRenewInPlace bag re
           let n = named_by new Payload alg path names in
           names_now mid new is_as_new Payload alg (is_new_one n.0 n.1 ∙ sym n.1) path names
 
-    some_new : (alg : Alg) × HasSupported new Payload alg
-    some_new =
-        let m = some_member (new_algs bag renewal) can.can.some_alg in
-        let text = (payload_manifest bag renewal m.0).1 in
-        (
-          m.0,
-          ap is_some ((these_files bag renewal (manifest_of Payload m.0) text).1
-              (inr (Manifest Payload m.0, refl, (m.1, refl)))),
-        )
-
     -- so what they leave out by the rules of 0.97, all old ones did, or all new ones do
     left_out : IsByV097 bag → (path : List ℕ) → IsLeftOutByAll mid path
         → IsUnlistedByV097 bag path ⊎ IsUnlistedByV097 new path
@@ -396,14 +385,14 @@ module _ (bag : Bag) (renewal : Renewal) (k : ℕ) (can : CanRenewInPlace bag re
       )
       | inr drops ↦ inr (
         same_rules new bag renewed_declaration ∙ v097,
-        (some_new, λ named. out.1 (named.0, named_after_put drops named.0 path named.1)),
+        (one_manifest bag renewal can.can.some_alg, λ named. out.1 (named.0, named_after_put drops named.0 path named.1)),
       )
     ]
 
     by_rules : (rules : Rules) → rules_in bag ≡ rules → IsByV10 mid ⊎ IsBetweenByV097 mid bag new
     by_rules V10 is = inl (rules_stay ∙ is)
     by_rules V097 is =
-        inr (record { rules = rules_stay ∙ is; old_rules = is; left_out = λ path may out. left_out is path out; })
+        inr (record { rules = rules_stay ∙ is; left_out = λ path may out. left_out is path out })
 
     pub between : IsBetween mid bag new
     between = record {

@@ -6,7 +6,7 @@ use Rattle.bag_renew.proofs.Common.{Some, is_some, refl, ap, sym, subst, ◌&&�
 use Rattle.bag_renew.proofs.Common.{contains_nothing, is_manifest_name, manifest_name}
 use Rattle.bag_renew.proofs.Common.{tag_path, Kind, Payload, Tag, TagName, Declaration, Fetch, Info, Manifest, Alg, name}
 use Rattle.bag_renew.proofs.Common.{Bag, file, has_file, FileChange, Put, Remove, after, changes}
-use Rattle.bag_renew.proofs.Common.{is_kept, keeps, new_algs, payload_manifest, Renewal}
+use Rattle.bag_renew.proofs.Common.{is_kept, keeps, Renewal}
 use Rattle.bag_text.specs.declared.alg.Alg.TheVariants.{Md5, Sha1, Sha224, Sha256, Sha384, Sha512}
 use Rattle.bag_text.specs.declared.code.Code.TheVariants.{InfoLine}
 use Rattle.bag_text.specs.declared.rules.Rules.TheVariants.{V10, V097}
@@ -18,7 +18,6 @@ use Rattle.bag_facts.specs.Facts.{IsByV10, rules_in}
 use Rattle.bag_facts.specs.FactsOfBag.{IsByV097}
 use Rattle.bag_facts.specs.declared.fault.Fault.{Fault}
 use Rattle.bag_report.specs.Report.{asks}
-use Rattle.bag_stages.proofs.LeftOut.{some_member}
 use Rattle.bag_stages.specs.CompletenessStage.{IsPayloadFile}
 use Rattle.bag_stages.specs.FetchStage.{fetch_txt}
 use Rattle.bag_stages.specs.LeftOut.{IsLeftOutByAll, IsNamedBySome}
@@ -45,7 +44,7 @@ use Rattle.bag_renew.proofs.OnTheWayFiles.{either, mid_from, new_begun, new_from
 use Rattle.bag_renew.proofs.OnTheWayFiles.{put_is_new, renewed_names, same_folders, same_rules, still_there, was_put}
 use Rattle.bag_renew.proofs.OnTheWayFiles.{as_renewed, while_opening}
 use Rattle.bag_renew.proofs.ReadAlike.{ReadAlike, SplitAlike, info_alike, manifest_alike}
-use Rattle.bag_renew.proofs.RenewedNames.{by_new_rules}
+use Rattle.bag_renew.proofs.RenewedNames.{by_new_rules, one_manifest}
 use Rattle.bag_renew.proofs.TagNames.{not_tag_manifest}
 use Rattle.bag_renew.proofs.Telling.{v10_named}
 
@@ -228,15 +227,12 @@ module _ (bag : Bag) (renewal : Renewal) (k : ℕ) (can : CanRenewInPlace bag re
               in
               unnamed (alg, names_now mid bag as_old Payload alg (was_there alg has) path names))
           | inr drops ↦ (
-              let some = some_member (new_algs bag renewal) can.can.some_alg in
-              let at : file now (manifest_of Payload some.0) ≡ Some (payload_manifest bag renewal some.0).1 =
-              (these_files bag renewal (manifest_of Payload some.0) (payload_manifest bag renewal some.0).1).1
-              (inr (Manifest Payload some.0, refl, (some.1, refl))) in
-              elim (new_from bag renewal k can (manifest_of Payload some.0) (payload_manifest bag renewal some.0).1 at) [
-                | inl puts ↦ payload_not_put bag renewal (name some.0) (payload_manifest bag renewal some.0).1
-                    (drops (Put (manifest_of Payload some.0) (payload_manifest bag renewal some.0).1) puts)
-                | inr stays_put ↦
-                    unnamed (some.0, put_names some.0 (payload_manifest bag renewal some.0).1 stays_put.0 at)
+              let one = one_manifest bag renewal can.can.some_alg in
+              let text = content_of (file now (manifest_of Payload one.0)) one.1 in
+              elim (new_from bag renewal k can (manifest_of Payload one.0) text.0 text.1) [
+                | inl puts ↦ payload_not_put bag renewal (name one.0) text.0
+                    (drops (Put (manifest_of Payload one.0) text.0) puts)
+                | inr stays_put ↦ unnamed (one.0, put_names one.0 text.0 stays_put.0 text.1)
               ])
         ]
 
@@ -261,7 +257,6 @@ module _ (bag : Bag) (renewal : Renewal) (k : ℕ) (can : CanRenewInPlace bag re
     early_between = record {
       rules = inr (record {
         rules = mid_v097;
-        old_rules = v097;
         left_out = unlisted;
       });
       as_old = as_old;

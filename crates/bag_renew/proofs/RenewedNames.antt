@@ -1,5 +1,5 @@
 -- The manifests of the renewed bag name what it holds.
-use Rattle.bag_renew.proofs.Common.{◌≡◌, ◌&&◌, ◌⊎◌, ◌++◌, ◌∷◌, ◌∙◌, inl, inr, ℕ, Bool, true, false, not, cond}
+use Rattle.bag_renew.proofs.Common.{◌≡◌, ◌≢◌, ◌&&◌, ◌⊎◌, ◌++◌, ◌∷◌, ◌∙◌, inl, inr, ℕ, Bool, true, false, not, cond}
 use Rattle.bag_renew.proofs.Common.{List, Option}
 use Rattle.bag_renew.proofs.Common.{[], None, Some, is_some, refl, ap, sym, subst, Contains, and_from, and_parts}
 use Rattle.bag_renew.proofs.Common.{false≢true, entries_sorted, find, get-entries, get-from_entries}
@@ -25,10 +25,10 @@ use Rattle.bag_read.proofs.ManifestName.{named_is}
 use Rattle.bag_read.specs.Manifest.{named}
 use Rattle.bag_facts.proofs.Mapped.{kept, passed}
 use Rattle.bag_facts.specs.Facts.{rules_in}
-use Rattle.bag_stages.proofs.LeftOut.{left_out_by, not_both}
+use Rattle.bag_stages.proofs.LeftOut.{left_out_by, not_both, some_member}
 use Rattle.bag_stages.proofs.PartFaults.{one_alg}
 use Rattle.bag_stages.specs.LeftOut.{IsLeftOut, IsLeftOutByOne, IsNamedBySome}
-use Rattle.bag_stages.specs.TagFiles.{Names, lines_or_none}
+use Rattle.bag_stages.specs.TagFiles.{HasSupported, Names, lines_or_none}
 use Rattle.bag_tags.proofs.DeclarationReadAgain.{declaration_again}
 use Rattle.bag_tags.specs.Declaration.{declaration_text}
 use Rattle.bag_tags.specs.OnLines.{text_on_lines}
@@ -329,6 +329,15 @@ module _ (bag : Bag) (renewal : Renewal) where
         | inr anew ↦ absurd (false≢true (sym anew.0 ∙ two.1))
       ]
 
+  -- some payload manifest is there, as long as an algorithm is left
+  pub one_manifest : new_algs bag renewal ≢ [] → (alg : Alg) × HasSupported now Payload alg
+  one_manifest some =
+      let m = some_member (new_algs bag renewal) some in
+      let text = (payload_manifest bag renewal m.0).1 in (
+        m.0,
+        ap is_some (is_there (tag_path (Manifest Payload m.0)) text (inr (Manifest Payload m.0, refl, (m.1, refl)))),
+      )
+
   module _ (is : IsBag bag) (nameable : AreNameable (new_rules bag renewal) bag) where
     are_paths : ArePaths now
     are_paths q has =
@@ -413,8 +422,7 @@ module _ (bag : Bag) (renewal : Renewal) where
       by_kept : (path : List ℕ) → IsNamedByKept bag renewal path → IsNamedBySome now path
       by_kept path (alg, kept, names) =
           let manifest_path = tag_path (Manifest Payload alg) in
-          let of_it = (and_parts (is_new_alg bag renewal alg) (is_kept bag renewal manifest_path) kept).1 in
-          (
+          let of_it = (and_parts (is_new_alg bag renewal alg) (is_kept bag renewal manifest_path) kept).1 in (
             alg,
             subst (λ o. Contains (named (rules_in now) Payload alg (lines_or_none o)) path)
                 (sym (same_manifest alg kept))
