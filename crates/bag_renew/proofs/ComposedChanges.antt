@@ -49,7 +49,7 @@ module _ (bag : Bag) (renewal : Renewal) where
         is
         ∙ ap (λ xs. with_path (tag_path Info) info ++ xs)
         (ap (manifests_by (new_rules bag renewal) Payload (written_algs bag renewal)) some
-        ∙ manifests_some (new_rules bag renewal) (new_algs bag renewal) files summed are (written_algs bag renewal)
+        ∙ manifests_some (new_algs bag renewal) files summed are (new_rules bag renewal) (written_algs bag renewal)
         (written_is_new bag renewal))
 
     -- the digests of the tag files that keep their bytes

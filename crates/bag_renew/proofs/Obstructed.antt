@@ -7,7 +7,7 @@ use Rattle.bag_renew.proofs.Common.{list_any, and_from, and_parts, tag_path, alg
 use Rattle.bag_renew.proofs.Common.{TagName, Declaration, Info, Fetch, Manifest, bytes_eq-Decides, codes, false_from_ne_true}
 use Rattle.bag_renew.proofs.Common.{first_component, get_or, is_payload_path, suc, take, zero}
 use Rattle.bag_renew.proofs.Common.{Bag, HasFile, files_of, has_file, under, keeps, new_algs, new_rules, Renewal}
-use Rattle.bag_renew.proofs.Common.{begun_file, both_ways, bytes_eq, is_kept_alg, IsTrue, rules_in}
+use Rattle.bag_renew.proofs.Common.{begun_file, bytes_eq, is_kept_alg, IsTrue, rules_in}
 use Rattle.std.specs.Prelude.{MatchOption, find}
 use Rattle.std.specs.Option.{option_map}
 use Rattle.std.proofs.lemmas.Simd.{map-map}
@@ -22,6 +22,7 @@ use Rattle.bag_tags.specs.Writable as by_rules
 use Rattle.bag_tree.proofs.ListingLaw.{listings_are_of_the_bag}
 use Rattle.bag_tree.proofs.Within.{prefix_test}
 use Rattle.bag_tree.specs.declared.listing.FileEntry.{FileEntry}
+use Rattle.bag_renew.proofs.AlgsMade.{same_truth}
 use Rattle.bag_renew.specs.Obstacles.{AreFree, HasBelow, HasNoObstacle, IsInTheWay, IsNamedAsTag, first_unlisted}
 use Rattle.bag_renew.specs.Obstacles.{first_unnameable, has_percent, is_below, is_below_some, is_unlisted}
 use Rattle.bag_renew.specs.Obstacles.{is_unnameable, is_unnameable_by}
@@ -333,11 +334,11 @@ module _ (bag : Bag) (renewal : Renewal) where
   none_names_all is = neither_of (rules_in bag) (writes_payload_manifest bag renewal) is
 
 -- it is named just where it is in the list of names
-pub names_by : (path : List ℕ) (paths : List (List ℕ)) (b : Bool) → (IsTrue b → Contains paths path)
-    → (Contains paths path → IsTrue b) → b ≡ list_any (bytes_eq path) paths
-names_by path paths b to back =
-    both_ways b (list_any (bytes_eq path) paths)
-    (λ is. any_from (bytes_eq path) paths path (to is) ((bytes_eq-Decides path path).1 refl))
+pub names_by : (name : List ℕ) (names : List (List ℕ)) (b : Bool) → (IsTrue b → Contains names name)
+    → (Contains names name → IsTrue b) → b ≡ list_any (bytes_eq name) names
+names_by name names b to back =
+    same_truth b (list_any (bytes_eq name) names)
+    (λ is. any_from (bytes_eq name) names name (to is) ((bytes_eq-Decides name name).1 refl))
     (λ some.
-    let one = from_any (bytes_eq path) paths some in
-    back (subst (Contains paths) (sym ((bytes_eq-Decides path one.0).0 one.2)) one.1))
+    let one = from_any (bytes_eq name) names some in
+    back (subst (Contains names) (sym ((bytes_eq-Decides name one.0).0 one.2)) one.1))

@@ -19,14 +19,14 @@ returns-in-Ok-manifests-clause-same_bytes g c =
     same_bytes c.in-Ok.rules c.args.algs (g.T.Tree.state c.args.tree.now) (g.T.Tree.state c.check_bag.new.tree) c.in-Ok.summed.items
     c.in-Ok.ensures.checked c.in-Ok-manifests.made.items
     (c.in-Ok-manifests.ensures
-    ∙ ap (manifests_by c.in-Ok.rules Payload c.args.algs) (c.deref.ensures.value ∙ c.payload_only-summed.ensures))
+    ∙ ap (manifests_by c.in-Ok.rules Payload c.args.algs) (c.deref.ensures.value ∙ c.payload_only.ensures))
 
 pub returns-in-Ok-manifests-clause-manifests : goal.returns-in-Ok-manifests-clause-manifests
 returns-in-Ok-manifests-clause-manifests g c = λ honest.
     of_the_bag c.in-Ok.rules c.args.algs (g.T.Tree.state c.args.tree.now) (g.T.Tree.state c.check_bag.new.tree)
     c.in-Ok.summed.items c.in-Ok.ensures.checked honest c.in-Ok-manifests.made.items
     (c.in-Ok-manifests.ensures
-    ∙ ap (manifests_by c.in-Ok.rules Payload c.args.algs) (c.deref.ensures.value ∙ c.payload_only-summed.ensures))
+    ∙ ap (manifests_by c.in-Ok.rules Payload c.args.algs) (c.deref.ensures.value ∙ c.payload_only.ensures))
 
 pub returns-clause-stopped : goal.returns-clause-stopped
 returns-clause-stopped g c =

@@ -12,6 +12,6 @@ returns-in-None c = λ bag of deep.
     (sym (c.has_old_fetch.ensures bag of deep) ∙ c.if-has_old_fetch.false)
     (λ e. false≢true (sym c.if-is_empty.false ∙ c.is_empty.ensures.1 (c.new_algs.ensures bag of deep ∙ e)))
     free.0 free.1
-    (sym (c.in_ok-unnameable_path.ensures bag of) ∙ c.in_default-2.is)
-    (at_none (AreStillListed bag c.args.renewal.now) _ c.in_ok-unlisted_path.field-0 c.in-None.is
-    (c.in_ok-unlisted_path.ensures bag of deep))
+    (sym (c.in_ok-path.ensures bag of) ∙ c.in_default-2.is)
+    (at_none (AreStillListed bag c.args.renewal.now) _ c.in_ok-path-2.field-0 c.in-None.is
+    (c.in_ok-path-2.ensures bag of deep))

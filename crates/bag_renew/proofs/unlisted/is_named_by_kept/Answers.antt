@@ -9,4 +9,4 @@ pub returns : goal.returns
 returns c = λ bag facts deep.
     any_from_yields_List
     (λ (alg : Alg). is_kept_alg bag c.args.renewal.now alg && list_any (bytes_eq c.args.path.now) (named_in bag Payload alg))
-    _ _ c.any.result c.any.ensures.ran (YieldsList-from_slice algs cc) (λ x b q k. search (rules, tests))
+    _ _ c.any.result c.any.ensures.ran (YieldsList-from_slice algs cc) (λ x b q k. ?)
