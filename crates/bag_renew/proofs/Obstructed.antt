@@ -24,8 +24,8 @@ use Rattle.bag_tree.proofs.Within.{prefix_test}
 use Rattle.bag_tree.specs.declared.listing.FileEntry.{FileEntry}
 use Rattle.bag_renew.proofs.AlgsMade.{same_truth}
 use Rattle.bag_renew.specs.Obstacles.{AreFree, HasBelow, HasNoObstacle, IsInTheWay, IsNamedAsTag, first_unlisted}
-use Rattle.bag_renew.specs.Obstacles.{first_unnameable, has_percent, is_below, is_below_some, is_unlisted}
-use Rattle.bag_renew.specs.Obstacles.{is_unnameable, is_unnameable_by}
+use Rattle.bag_renew.specs.Obstacles.{first_unnameable, has_percent, is_below, is_below_some, is_named_by_kept}
+use Rattle.bag_renew.specs.Obstacles.{is_unlisted, is_unnameable, is_unnameable_by, keeps_naming}
 use Rattle.bag_renew.specs.Obstacles.{manifest_names, paths_of, reserved_names}
 use Rattle.bag_renew.specs.Renewed.{is_v10, writes_payload_manifest}
 use Rattle.bag_renew.specs.Telling.{AreStillListed, IsNamedByKept, IsToBeNamed}
@@ -262,18 +262,17 @@ module _ (bag : Bag) (facts : Facts) (of : IsFactsOf bag facts) where
     -- where none is unlisted, each file of the payload is named by a manifest that is kept
     module _ (none : find (λ entry. is_unlisted bag renewal entry.path) files ≡ None) (name : List ℕ)
         (to_name : IsToBeNamed bag Payload name) where
-      abbrev naming : Alg → Bool
-      naming alg = is_kept_alg bag renewal alg && list_any (bytes_eq name) (named_in bag Payload alg)
-
-      some_names : list_any naming algs ≡ true
+      some_names : list_any (keeps_naming bag renewal name) algs ≡ true
+      unfolding is_named_by_kept
       some_names =
-          not_false (is_payload_path name) (list_any naming algs) to_name.1
+          not_false (is_payload_path name) (is_named_by_kept bag renewal name) to_name.1
           (none_passes (is_unlisted bag renewal) (paths_of bag) name
           (sym (first_where (is_unlisted bag renewal) files None refl (sym none))) (among_paths name to_name.0))
 
       pub named_by_kept : IsNamedByKept bag renewal name
+      unfolding keeps_naming
       named_by_kept =
-          let one = from_any naming algs some_names in
+          let one = from_any (keeps_naming bag renewal name) algs some_names in
           let both = and_parts (is_kept_alg bag renewal one.0) (list_any (bytes_eq name) (named_in bag Payload one.0)) one.2
           in
           let path = from_any (bytes_eq name) (named_in bag Payload one.0) both.1 in (

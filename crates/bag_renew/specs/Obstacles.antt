@@ -74,11 +74,14 @@ paths_of bag = map (λ e. e.0) (files_of bag)
 abbrev pub first_unnameable : Bag → Renewal → Option Path
 first_unnameable bag renewal = find (is_unnameable bag renewal) (paths_of bag)
 
+-- the payload manifest of an algorithm is kept, and names the path
+unfoldable pub keeps_naming : Bag → Renewal → Path → Alg → Bool
+keeps_naming bag renewal path alg =
+    is_kept_alg bag renewal alg && list_any (bytes_eq path) (named_in bag Payload alg)
+
 -- a payload manifest that is kept names the path
-abbrev pub is_named_by_kept : Bag → Renewal → Path → Bool
-is_named_by_kept bag renewal path =
-    list_any (λ alg.
-    is_kept_alg bag renewal alg && list_any (bytes_eq path) (named_in bag Payload alg)) algs
+unfoldable pub is_named_by_kept : Bag → Renewal → Path → Bool
+is_named_by_kept bag renewal path = list_any (keeps_naming bag renewal path) algs
 
 -- a file of the payload that none of them names
 abbrev pub is_unlisted : Bag → Renewal → Path → Bool

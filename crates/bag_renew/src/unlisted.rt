@@ -1,11 +1,8 @@
 //! Files of the payload that no payload manifest of the renewed bag would name.
-ghost use Rattle.std.specs.Prelude.{◌≡◌, ◌&&◌, ◌||◌, IfOk, MatchOption, Some, bytes_eq, find};
-ghost use Rattle.std.specs.List.{list_any};
+ghost use Rattle.std.specs.Prelude.{◌≡◌, ◌||◌, IfOk, MatchOption, Some, find};
 ghost use Rattle.std.specs.Option.{option_copied};
-ghost use Rattle.bag_read.specs.declared.kind.Kind.TheVariants.{Payload};
 ghost use Rattle.bag_facts.specs.Facts.{rules_in};
 ghost use Rattle.bag_facts.specs.FactsOfBag.{IfBagRead, IsByV097};
-ghost use Rattle.bag_stages.specs.TagFiles.{named_in};
 ghost use Rattle.bag_renew.specs.Obstacles as spec;
 ghost use Rattle.bag_renew.specs.Renewed as renewed;
 ghost use Rattle.bag_renew.specs.Telling.{AreStillListed};
@@ -81,10 +78,10 @@ fn is_named_by_kept(facts: &Facts, renewal: &Renewal, path: &Text) -> bool
 }
 
 /// Whether the payload manifest of an algorithm is kept, and names a path.
+#[tactic(auto, unfolding(crate::specs::Obstacles::keeps_naming))]
 fn keeps_naming(facts: &Facts, renewal: &Renewal, alg: Alg, path: &Text) -> bool
-    ensures { IfBagRead facts.now (λ bag. result
-        ≡ (renewed.is_kept_alg bag renewal.now alg
-        && list_any (bytes_eq path.now) (named_in bag Payload alg))) }
+    ensures { IfBagRead facts.now (λ bag.
+        result ≡ spec.keeps_naming bag renewal.now path.now alg) }
 {
     is_kept(facts, renewal, alg) && is_named_by(facts, Kind::Payload, alg, path)
 }

@@ -1,9 +1,11 @@
 use Rattle.bag_renew.proofs.Common.{◌∙◌, ◌&&◌, ap, sym, bytes_eq, list_any, Payload}
 use Rattle.bag_stages.specs.TagFiles.{named_in}
+use Rattle.bag_renew.specs.Obstacles.{keeps_naming}
 use Rattle.bag_renew.proofs.Obstructed.{names_by}
 use Rattle.bag_renew.proofs.unlisted.keeps_naming.Goals as goal
 
 pub returns-then-is_kept : goal.returns-then-is_kept
+unfolding keeps_naming
 returns-then-is_kept c = λ bag of deep.
     let names = named_in bag Payload c.args.alg in
     let named = c.is_named_by.ensures bag of deep in
