@@ -1,7 +1,7 @@
 -- Each bag on the way from one of 0.97: until the declaration is put, it is judged by the rules of
 -- 0.97, by which what is written says the same; and then it is the renewed bag, but for tag
 -- manifests.
-use Rattle.bag_renew.proofs.Common.{◌≡◌, ◌≢◌, ◌⊎◌, ◌∙◌, inl, inr, ℕ, Bool, true, false, List, Option, None}
+use Rattle.bag_renew.proofs.Common.{◌≡◌, ◌⊎◌, ◌∙◌, inl, inr, ℕ, Bool, true, false, List, Option, None}
 use Rattle.bag_renew.proofs.Common.{Some, is_some, refl, ap, sym, subst, ◌&&◌, false≢true}
 use Rattle.bag_renew.proofs.Common.{contains_nothing, is_manifest_name, manifest_name}
 use Rattle.bag_renew.proofs.Common.{tag_path, Kind, Payload, Tag, TagName, Declaration, Fetch, Info, Manifest, Alg, name}

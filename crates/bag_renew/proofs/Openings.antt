@@ -28,7 +28,6 @@ use Rattle.bag_renew.proofs.DroppedManifests.{none_dropped}
 use Rattle.bag_renew.proofs.CheckedBag.{deep, none_early, paths_to_read}
 use Rattle.bag_renew.proofs.GivenDigests.{read_are}
 use Rattle.bag_renew.proofs.NoPayload.{no_payload_tag}
-use Rattle.bag_renew.specs.Obstacles.{HasNoObstacle}
 use Rattle.bag_renew.specs.FirstFaults.{HasNoneBefore}
 use Rattle.bag_renew.specs.NewInfo.{IsInfoRefusal}
 use Rattle.bag_renew.specs.Openings.{AsksNoReading, IsEarly, IsOfSeventh, IsReadyFor, OpensAllInTurn, OpensBefore}

@@ -2,11 +2,10 @@
 use Rattle.bag_renew.proofs.Common.{◌≡◌, ◌∙◌, inr, ℕ, false, is_some, IsTrue, List, Option, File, FileChange, Renewal}
 use Rattle.bag_renew.proofs.Common.{changes, files_of, new_algs, writes_info}
 use Rattle.bag_text.specs.Lines.{lines_of_file}
-use Rattle.bag_facts.specs.FactsOfBag.{IfBagRead, IsFactsOf}
+use Rattle.bag_facts.specs.FactsOfBag.{IfBagRead}
 use Rattle.bag_stages.specs.MetadataStage.{bag_info_txt}
 use Rattle.bag_stages.specs.TagFiles.{lines_in}
 use Rattle.bag_facts.specs.declared.facts.Facts.{Facts}
-use Rattle.bag_tree.specs.Bag.{Bag}
 use Rattle.bag_tree.specs.Tree.{TreeState}
 use Rattle.bag_renew.specs.Composing.{AreOfFiles}
 use Rattle.bag_renew.specs.NewInfo.{IsInfoAfter}

@@ -1,5 +1,5 @@
 -- What renewing a bag promises follows from what reading it and changing its files promise.
-use Rattle.bag_renew.proofs.Common.{arith, ◌≡◌, ◌≢◌, ◌≤◌, ◌++◌, ◌∷◌, ◌⊎◌, ◌∙◌, inl, inr, ℕ, true, false, IsTrue, List, [], refl}
+use Rattle.bag_renew.proofs.Common.{arith, ◌≡◌, ◌≢◌, ◌≤◌, ◌++◌, ◌∷◌, ◌∙◌, inl, inr, ℕ, true, IsTrue, List, [], refl}
 use Rattle.bag_renew.proofs.Common.{ap, sym, subst, append-nil, false≢true, Bag, FileChange, Put, Remove, Renewal, begun_file}
 use Rattle.bag_renew.proofs.Common.{after_changes, changes, renewed, IsOutOfTheWay}
 use Rattle.bag_renew.proofs.CanChange.{changes_can_be_made}
