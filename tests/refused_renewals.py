@@ -61,7 +61,7 @@ def cases():
     (Path("old") / renew.FETCH.decode()).write_bytes(FETCHED)
     (Path("two") / BEGUN.decode()).write_bytes(b"begun")
     element = (("Contact-Name", "Bob"), ("External-Identifier", "A 2026/17"))
-    yield Case("SHA-512 beside MD5 in a bag of 0.97", "old", Options(add=("sha512",)), True)
+    yield Case("SHA-512 and elements in a bag of 0.97", "old", Options(add=("sha512",), set=element), True)
     without_md5 = Options(drop=("md5",), unset=("bag-size",), set=element)
     yield Case("elements, and without MD5", "two", without_md5, True)
     yield Case("the same unchecked", "two", without_md5._replace(unchecked=True), False)
