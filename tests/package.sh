@@ -54,7 +54,7 @@ diff <(cd "$root/companions/bagitkeep" && ls *.py) <(ls tree/usr/lib/python3/dis
 [[ $(bagit-keep --version) == "bagit-keep $(<"$root/VERSION")" ]] || give_up 'bagit-keep has another version'
 bagit-keep round round deposit >printed
 [[ $(bagit-keep report --round round) == "{\"bag\": \"$work/deposit\", \"ended\": \"is valid\"}" ]] || give_up 'bagit-keep makes no round'
-for command in info report round; do programs+=" bagit-keep-$command"; done
+for command in $(bagit-keep --help | sed -nE 's/^  ([a-z]+) .*/\1/p'); do programs+=" bagit-keep-$command"; done
 
 # If the program is killed in the middle of a piece, no report is closed; started again, it goes on. A report that can't
 # be written doesn't end as one with faults.
@@ -161,7 +161,7 @@ completes 'photographs plans profile.json' bagit-keep report p
 completes '--files' bagit-keep report --fi
 completes '' bagit-keep report --files 6
 completes '' bagit-keep report -- --fi
-completes 'report round' bagit-keep r
+completes 'renew report retire round' bagit-keep r
 completes 'photographs plans' bagit-keep info p
 completes '--version' bagit-keep --v
 completes '' bagit-keep p

@@ -675,88 +675,48 @@ for way in 1 3; do
     rm -r 20??-??-??-??????
 done
 
-# The nights: the script as it stands, with other folders, a calendar and a letter box.
-awk '/^```sh$/ { inside = 1; next } /^```$/ { inside = 0 } inside' "$root/docs/LARGE_BAGS.md" |
-    sed "s#/srv/#$work/srv/#g; s#/usr/local/bin#$work/bin#" >bagit-night
-chmod +x bagit-night
-printf '#!/bin/sh\ncat "%s/today"\n' "$work" >bin/date
-printf '#!/bin/bash\n{ printf "%%s\\n" "$*"; cat; } >>"%s/mailed"\n' "$work" >bin/mail
-chmod +x bin/date bin/mail
-mkdir -p srv/rounds srv/bags
-touch srv/rounds/bags
+# The nights: the commands of the page, and what the timer runs, with a letter box.
+printf '#!/bin/bash\n{ printf "%%s\\n" "$*"; cat; } >"%s/mailed"\n' "$work" >bin/mail
+chmod +x bin/mail
+mkdir -p srv/bags
 for bag in one 'the other' "it's"; do
     mkdir -p "srv/bags/$bag"
     echo "$bag" >"srv/bags/$bag/file"
 done
 bagit --quiet srv/bags/*
-night() {
-    local wanted=$2 status=0
-    echo "2026-01-$1" >today
-    rm -f mailed
-    ./bagit-night >printed 2>&1 || status=$?
-    [[ $status == "$wanted" ]] || { cat mailed; give_up "docs/LARGE_BAGS.md: night $1 ends with $status"; }
-    [[ ! -s printed ]] || { cat printed; give_up "docs/LARGE_BAGS.md: night $1 prints something"; }
-    if [[ $wanted == 0 ]]; then
-        [[ ! -e mailed ]] || { cat mailed; give_up "docs/LARGE_BAGS.md: night $1 mails something"; }
-    else
-        [[ $(head -n 1 mailed) == "-s bags, 2026-01-$1: status $wanted archivist@example.org" ]] ||
-            { cat mailed; give_up "docs/LARGE_BAGS.md: night $1 has another subject"; }
-    fi
-    followed=$((followed + 1))
+night() { # STATUS FIRST_LINE BLOCK [TEXT OTHER]..
+    local wanted=$1 first=$2 block=$3 status=0
+    shift 3
+    follow docs/LARGE_BAGS.md 'Each night' "$block" /srv/ "$work/srv/" "$@" >printed 2>messages || status=$?
+    [[ $status == "$wanted" && $(head -n 1 printed) == $first ]] ||
+        { cat printed messages; give_up "docs/LARGE_BAGS.md: a night ends with $status: $(head -n 1 printed)"; }
 }
-mails() { grep -qP -- "$1" mailed || { cat mailed; give_up "docs/LARGE_BAGS.md: it isn't mailed: $1"; }; }
-night 01 0
-night 01 2
-mails 'is finished, and nothing was checked'
+night 0 '3 of 3 bags were adopted' 1
+night 0 'no news: 3 bags, each read whole since 20*' 2
 printf X | dd of="srv/bags/it's/data/file" conv=notrunc status=none
-night 02 1
-mails "^1\t.*/bags/it's has faults: 2\t.*\tworse\t0\t"
-printf i | dd of="srv/bags/it's/data/file" conv=notrunc status=none
+night 1 'news of 1 bag: 1 with faults' 2
+grep -q "^fault .*/bags/it's 701 payload-sum-differs data/file sha512 - " printed || { cat printed; give_up 'the fault is not named'; }
+night 0 '' 3 NAME "it\'s" 2027-01-31 9999-12-31
+night 0 'no news: 3 bags, each *, 2 known findings' 2
 mv srv/bags away
 mkdir srv/bags
-for day in 03 04; do
-    night "$day" 3
-    [[ $(grep -c 'is not there' mailed) == 6 ]] || { cat mailed; give_up 'docs/LARGE_BAGS.md: bags that are gone are not mailed'; }
-done
+nightly=(env OPTIONS= REGISTER="$work/srv/register" MAILTO=archivist@example.org "$root/packaging/lib/night")
+! "${nightly[@]}" || give_up 'bags that are gone are no news'
+[[ $(head -n 1 mailed) == '-s news of 3 bags: 3 missing archivist@example.org' && $(grep -c '^missing ' mailed) == 3 ]] ||
+    { cat mailed; give_up 'bags that are gone are not mailed'; }
 rmdir srv/bags
-night 05 3
-mails "^find: .*srv/bags"
 mv away srv/bags
-night 06 0
-rm -r 'srv/bags/the other'
-for day in 07 08; do
-    night "$day" 3
-    mails '^3\t.*/bags/the%20other is not there\t'
-done
-
-# A bag leaves the list by the page's command, which changes nothing where it isn't in the list or the rounds aren't there.
-leave() { # NAME
-    block docs/LARGE_BAGS.md 'Each night' 1 | sed "s#/srv/#$work/srv/#g; s#NAME#$1#" | bash >printed 2>&1 || return
-    followed=$((followed + 1))
-}
-cp srv/rounds/bags listed
-leave 'another'
-cmp srv/rounds/bags listed || give_up 'docs/LARGE_BAGS.md: another bag leaves the list'
-leave "'the other'"
-tr '\0' '\n' <srv/rounds/bags | diff - <(printf '%s\n' "$work/srv/bags/it's" "$work/srv/bags/one")
-night 09 3
-mails '^3\tnot in this round\t.*/bags/the%20other\t.*\tgone\t'
-night 10 0
-
-# What the pages leave beside a bag isn't listed, also if it once was; without that bag it is.
-for beside in old new kept kept.aB3dE6 part.aB3dE6; do
-    mkdir "srv/bags/one.$beside" "srv/bags/lone.$beside"
-done
-mkdir srv/bags/{lost+found,one.kept.aB3dE6x,older}
-printf '%s\0' "$work/srv/bags/one.kept.aB3dE6" "$work/srv/bags/lost+found" >>srv/rounds/bags
-night 11 1
-tr '\0' '\n' <srv/rounds/bags | sed 's#.*/##' | diff - <(printf '%s\n' it\'s lone.{kept,kept.aB3dE6,new,old,part.aB3dE6} older one one.kept.aB3dE6x)
-mv srv/rounds away
-! leave "'one'" || give_up 'docs/LARGE_BAGS.md: a bag leaves a list that is not there'
-mkdir srv/rounds
-night 12 3
-rm bin/date bin/mail
+printf i | dd of="srv/bags/it's/data/file" conv=notrunc status=none
+"${nightly[@]}" || give_up 'a night without news ends otherwise'
+[[ $(head -n 1 mailed) == '-s no news: 3 bags, '* ]] || { cat mailed; give_up 'a night without news is not mailed'; }
+mv srv/register/register.sqlite away
+status=0
+"${nightly[@]}" || status=$?
+[[ $status == 2 && $(head -n 1 mailed) == '-s bags were not audited (status 2) '* ]] || { cat mailed; give_up 'a register that is gone is not mailed'; }
+mv away srv/register/register.sqlite
+rm bin/mail
 hash -r
+followed=$((followed + 3))
 
 # LARGE_BAGS: a bag in pieces.
 cp -a 'bags/bag 11' deposit

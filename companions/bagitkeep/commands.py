@@ -14,6 +14,18 @@ COMMANDS = {
     "info": ("info", "write what the tag files of a bag say"),
     "report": ("report", "write reports of bagit as data, or a summary"),
     "round": ("go_round", "check many bags, and write the table of a round"),
+    "init": ("keeping", "make a register of bags"),
+    "adopt": ("keeping", "take bags into a register, by a full check"),
+    "audit": ("audit", "read bags of a register whole, and say what is new"),
+    "status": ("keeping", "say what is new in a register"),
+    "known": ("keeping", "note that a finding is known"),
+    "accept": ("keeping", "take a bag as it is now for good"),
+    "retire": ("keeping", "note that a bag isn't kept any more"),
+    "moved": ("keeping", "note that a bag is at another place"),
+    "renew": ("keeping", "renew a bag of a register"),
+    "history": ("keeping", "write all that happened to a bag"),
+    "dump": ("keeping", "write all that a register says, as JSON"),
+    "premis": ("keeping", "write what happened to a bag as PREMIS 3"),
 }
 SIGNALS = (signal.SIGINT, signal.SIGTERM, signal.SIGHUP)
 
@@ -62,7 +74,8 @@ def do(words: List[str]) -> int:
         names = " or ".join(COMMANDS)
         raise Refused(f"it takes a command, {names}; --help says more")
     module = import_module(f".{COMMANDS[words[0]][0]}", __package__)
-    status: int = module.run(words[1:])
+    work = getattr(module, "COMMANDS", {}).get(words[0], module.run)
+    status: int = work(words[1:])
     return status
 
 

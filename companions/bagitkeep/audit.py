@@ -1,0 +1,271 @@
+"""`bagit-keep audit`: reads bags of a register whole, and says what is new."""
+import argparse
+import json
+import os
+import re
+import shutil
+import time
+from contextlib import closing, suppress
+from os.path import join
+from typing import Iterator, List, Optional, Sequence, Tuple
+
+from . import rounds
+from .checks import Checks, now
+from .go_round import jobs_of, set_aside, task_of
+from .messages import Parser, Refused, printable
+from .news import found_of, is_past, remind, settle, state_of, welcome
+from .program import Asked, Program, find
+from .progress import Progress, bytes_of
+from .register import Register, Row, alone, path_of
+from .rounds import Round, text_of
+from .rounds import Row as Result
+
+USAGE = "bagit-keep audit [OPTIONS] REGISTER"
+ABOUT = """\
+Reads bags of a register whole, those first that were read longest ago, and
+says what is new: faults, and bags that are altered, missing, not read or
+overdue. An audit that was cut off is gone on with. Without an option it reads
+all bags."""
+END = """\
+Exit status:
+  0  there is no news
+  1  there is news, which the first line counts
+  2  the arguments are wrong
+  3  something couldn't be read or written; nothing is known then"""
+
+FULL = Asked()
+
+
+def number_of(word: str) -> int:
+    if not re.fullmatch("[1-9][0-9]{0,17}", word):
+        raise argparse.ArgumentTypeError(f"not a number: {word}")
+    return int(word)
+
+
+def read_words(words: Sequence[str]) -> argparse.Namespace:
+    parser = Parser("bagit-keep audit", USAGE, ABOUT, END)
+    add = parser.option
+    add("--share", "this share of all bags, as 1/7", "K/N", type=task_of)
+    add(
+        "--days", "bags not read for so many days", "D", type=number_of
+    )
+    add("--bytes", "bags of so many bytes together", "B", type=number_of)
+    add("--hours", "begin no check after so many hours", "H", type=number_of)
+    add("--jobs", "so many at a time (the processors)", "J", type=jobs_of)
+    add(
+        "--task",
+        "check a share of the audit, for job arrays, and leave the rest to"
+        " others; an audit without --task then takes all in",
+        "K/N",
+        type=task_of,
+    )
+    add("--progress", "say each minute how far it is, as on a terminal")
+    read = parser.read(words)
+    if len(read.operands) != 1:
+        raise Refused("it takes a register; --help says more")
+    return read
+
+
+def in_order(bags: List[Row]) -> List[Row]:
+    """The bags that are kept, those first that were read longest ago."""
+    kept = [bag for bag in bags if bag["is_kept"]]
+    ahead = now()
+    return sorted(
+        kept,
+        key=lambda bag: bag["read"]
+        if bag["read"] and bag["read"] <= ahead else "",
+    )
+
+
+def due(bags: List[Row], asked: argparse.Namespace) -> List[Row]:
+    """The bags that an audit is to read."""
+    chosen = in_order(bags)
+    if asked.days is not None:
+        chosen = [bag for bag in chosen if is_past(bag["read"], asked.days)]
+    if asked.share is not None:
+        share, whole = asked.share
+        chosen = chosen[: -(-len(chosen) * share // whole)]
+    if asked.bytes is not None:
+        total = 0
+        for count, bag in enumerate(chosen):
+            if total >= asked.bytes:
+                return chosen[:count]
+            total += bytes_of(path_of(bag["path"]))
+    return chosen
+
+
+class Timed(Checks):
+    """Checks of which none begins after a time."""
+
+    until: Optional[float] = None
+
+    def begin(self, number: int) -> None:
+        if self.until is None or time.monotonic() < self.until:
+            super().begin(number)
+        else:
+            self.done.append(number)
+
+
+def open_round(register: Register) -> Optional[Row]:
+    """The round that isn't taken in yet."""
+    found = register.rows("rounds", "ended IS NULL")
+    return found[0] if found else None
+
+
+def begin_round(register: Register, bags: List[Row]) -> Row:
+    """Begins a round over these bags, or takes the one that another process
+    has just begun."""
+    with register.changing():
+        there = open_round(register)
+        if there is not None:
+            return there
+        number = 1 + max(
+            [int(row["name"]) for row in register.rows("rounds")] or [0]
+        )
+        name = f"{number:06d}"
+        folder = folder_of(register, name)
+        os.makedirs(os.path.dirname(folder), exist_ok=True)
+        shutil.rmtree(folder, ignore_errors=True)
+        rounds.begin(folder, [path_of(it["path"]) for it in bags], FULL, None)
+        register.add(
+            "rounds", name=name, begun=now(), ended=None, results=None
+        )
+        found = open_round(register)
+        assert found is not None
+        return found
+
+
+def folder_of(register: Register, name: str) -> bytes:
+    return join(register.folder, b"rounds", name.encode())
+
+
+def check(
+    a_round: Round, numbers: List[int], asked: argparse.Namespace
+) -> None:
+    """Checks the bags of these numbers of a round."""
+    bagit = find()
+    program = Program(bagit) if bagit is not None else None
+    sought = os.environ.get("BAGIT") or "bagit"
+    checks = Timed(a_round, program, sought, None)
+    if asked.hours is not None:
+        checks.until = time.monotonic() + asked.hours * 3600
+    progress = Progress(checks, numbers)
+    if asked.progress or progress.is_terminal:
+        progress.begin()
+    try:
+        checks.run(numbers, asked.jobs or len(os.sched_getaffinity(0)))
+    finally:
+        progress.end()
+
+
+def left_of(a_round: Round, task: Tuple[int, int]) -> List[int]:
+    """The bags of a share of a round that have no result."""
+    numbers = range(task[0], len(a_round.directories) + 1, task[1])
+    return [
+        number
+        for number in numbers
+        if a_round.row(number).status == 3 or set_aside(a_round, number)
+    ]
+
+
+def bags_in(stores: List[str]) -> Iterator[bytes]:
+    """The bags in some folders, but none within another one, or in a folder
+    of which the name begins with a dot."""
+    for store in stores:
+        for place, names, files in os.walk(path_of(store)):
+            if b"bagit.txt" in files:
+                names.clear()
+                yield place
+            names[:] = sorted(it for it in names if it[:1] != b".")
+
+
+def take_in(
+    register: Register, row: Optional[Row], is_cut_off: bool = False
+) -> None:
+    """Notes in the register what a round has found, and ends the round; and
+    which bags are overdue."""
+    results: List[Tuple[bytes, Result]] = []
+    there = list(bags_in(register.setting("stores")))
+    if row is not None:
+        a_round = rounds.load(folder_of(register, row["name"]))
+        results = list(zip(a_round.directories, a_round.rows()))
+    with register.changing():
+        bags = {bag["path"]: bag for bag in register.rows("bags", "is_kept")}
+        statuses = {}
+        for path, result in results:
+            bag = bags.get(text_of(path))
+            if bag is not None and result.record is not None:
+                take_result(register, bag, result)
+                statuses[bag["id"]] = result.status
+        if row is not None:
+            register.alter(
+                "rounds", row, ended=now(), results=json.dumps(statuses)
+            )
+            if is_cut_off:
+                register.note("cut-off", None, begun=row["begun"])
+        welcome(register, there)
+        remind(register)
+
+
+def take_result(register: Register, bag: Row, result: Result) -> None:
+    """Notes how a bag is."""
+    settle(register, bag, found_of(result, bag["seal"]))
+    if result.status != 3 and result.record is not None:
+        register.alter("bags", bag, read=result.record.ended)
+
+
+def prune(register: Register) -> None:
+    """Of rounds but the last, removes the reports of bags without faults."""
+    for row in register.rows("rounds", "ended IS NOT NULL")[:-1]:
+        folder = folder_of(register, row["name"])
+        with suppress(Refused, OSError):
+            a_round = rounds.load(folder)
+            for number in range(1, len(a_round.directories) + 1):
+                path = a_round.report_path(number)
+                with suppress(FileNotFoundError):
+                    if a_round.row(number).status == 0:
+                        os.unlink(path)
+
+
+def was_cut_off(a_round: Round, left: List[int]) -> bool:
+    """Whether a round that was begun before has bags that nobody checked."""
+    return any(a_round.row(number).record is None for number in left)
+
+
+def audit(register: Register, asked: argparse.Namespace) -> int:
+    """One audit, or one task of it, and what is new."""
+    there, is_cut_off = open_round(register), False
+    is_new = there is None
+    if there is None:
+        bags = due(register.rows("bags"), asked)
+        there = begin_round(register, bags) if bags else None
+    if there is not None:
+        a_round = rounds.load(folder_of(register, there["name"]))
+        left = left_of(a_round, asked.task or (1, 1))
+        is_cut_off = not is_new and was_cut_off(a_round, left)
+        if left:
+            check(a_round, left, asked)
+        if asked.task is not None:
+            print(f"{len(left)} bags were checked for {there['name']}")
+            return 0
+    take_in(register, there, is_cut_off)
+    prune(register)
+    register.copy()
+    return tell(register, there if is_cut_off else None)
+
+
+def tell(register: Register, cut_off: Optional[Row] = None) -> int:
+    """Writes the news; the status says whether there are any."""
+    state = state_of(register, cut_off)
+    for line in state.lines():
+        print(printable(line))
+    return 1 if state.news else 0
+
+
+def run(words: Sequence[str]) -> int:
+    """Does what the command is asked for, and says its status."""
+    asked = read_words(words)
+    folder = os.path.abspath(os.fsencode(asked.operands[0]))
+    with alone(folder, shared=asked.task is not None):
+        with closing(Register(folder)) as register:
+            return audit(register, asked)

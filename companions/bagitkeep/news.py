@@ -1,0 +1,187 @@
+"""What was found of bags, and what of it is news: what nobody has taken note
+of yet."""
+import json
+from collections import Counter
+from dataclasses import dataclass
+from datetime import datetime, timedelta, timezone
+from typing import Dict, Iterable, List, Optional, Set, Tuple
+
+from .checks import now
+from .lines import Fault, NotALine, encoded, line_of
+from .register import Register, Row, path_of
+from .rounds import Row as Result
+from .rounds import text_of
+
+MOST_FAULTS = 1000
+KINDS = {
+    "fault": "with faults",
+    "altered": "altered",
+    "new": "new",
+    "missing": "missing",
+    "unread": "not read",
+    "overdue": "overdue",
+    "cut-off": "cut off",
+}
+"""What is found, and how it is counted in a first line."""
+
+Found = Set[Tuple[str, str]]
+"""A kind, and a text that says what exactly."""
+
+
+def faults_in(report: Iterable[bytes], count: int) -> Iterable[str]:
+    """The lines of the faults of a report; of very many only how many."""
+    if count > MOST_FAULTS:
+        yield f"{count} faults"
+        return
+    for text in report:
+        try:
+            line = line_of(text)
+        except NotALine:
+            continue
+        if isinstance(line, Fault):
+            yield str(line)
+
+
+def found_of(result: Result, seal: Optional[str]) -> Found:
+    """What a check has found of a bag with this seal in the register."""
+    if result.status == 3:
+        is_missing = result.result.endswith(" is not there")
+        return {("missing", "")} if is_missing else {("unread", result.result)}
+    found: Found = set()
+    if result.status == 1 and result.report is not None:
+        with open(result.report, "rb") as report:
+            lines = faults_in(report, result.faults or 0)
+            found = {("fault", line) for line in lines}
+    if result.record is None or result.record.seal is None:
+        return found | {("unread", "its tag files can't be read")}
+    if seal is not None and result.record.seal != seal:
+        found.add(("altered", result.record.seal))
+    return found
+
+
+def settle(register: Register, bag: Row, found: Found) -> None:
+    """Has the register say that this is what is found of a bag now, but for
+    what is overdue."""
+    there = register.rows("findings", "bag = ?", bag["id"])
+    for row in there:
+        what = (row["kind"], row["text"])
+        if what not in found and row["kind"] != "overdue":
+            register.remove("findings", row)
+            register.note("gone", bag["id"], of=what[0], text=what[1])
+    known = {(row["kind"], row["text"]) for row in there}
+    for kind, text in sorted(found - known):
+        register.add(
+            "findings", bag=bag["id"], kind=kind, text=text, since=now(),
+            known=None,
+        )
+        register.note("found", bag["id"], of=kind, text=text)
+
+
+def is_past(time: Optional[str], days: float) -> bool:
+    """Whether a time is so many days ago. So it is where none was noted, and
+    where it is to come, as the clock was ahead."""
+    if time is None:
+        return True
+    then = datetime.strptime(time, "%Y-%m-%dT%H:%M:%SZ")
+    ago = datetime.now(timezone.utc) - then.replace(tzinfo=timezone.utc)
+    return ago > timedelta(days=days) or ago < timedelta(hours=-1)
+
+
+def welcome(register: Register, there: List[bytes]) -> None:
+    """Finds the bags of these that the register never had."""
+    ours = {bag["path"] for bag in register.rows("bags")}
+    new = {text_of(path) for path in there} - ours
+    for row in register.rows("findings", "kind = 'new'"):
+        if row["text"] in new:
+            new.remove(row["text"])
+        else:
+            register.remove("findings", row)
+    for text in sorted(new):
+        register.add(
+            "findings", bag=None, kind="new", text=text, since=now(),
+            known=None,
+        )
+
+
+def remind(register: Register) -> None:
+    """Finds the bags that are overdue, and those that aren't any more."""
+    days = register.setting("every")
+    found = register.rows("findings", "kind = 'overdue'")
+    late = {row["bag"]: row for row in found}
+    for bag in register.rows("bags", "is_kept"):
+        is_late = is_past(bag["read"], days)
+        if is_late and bag["id"] not in late:
+            text = f"not read whole since {bag['read']}"
+            register.add(
+                "findings", bag=bag["id"], kind="overdue", text=text,
+                since=now(), known=None,
+            )
+            register.note("found", bag["id"], of="overdue", text=text)
+        if not is_late and bag["id"] in late:
+            register.remove("findings", late[bag["id"]])
+
+
+def is_news(row: Row, today: str) -> bool:
+    """Whether nobody knows of it, or only until a day that is over."""
+    if row["known"] is None:
+        return True
+    until = json.loads(row["known"]).get("until")
+    return until is not None and bool(until < today)
+
+
+@dataclass(frozen=True)
+class State:
+    """How the bags of a register are, as far as people don't know it."""
+
+    news: List[Row]
+    known: int
+    bags: Dict[int, Row]
+
+    def first_line(self) -> str:
+        """How many news there are, and of what."""
+        if not self.news:
+            return f"no news: {self.counted()}"
+        of = {(row["kind"], self.name_of(row)) for row in self.news}
+        count = Counter(kind for kind, _ in of)
+        kinds = [f"{count[it]} {KINDS[it]}" for it in KINDS if count[it]]
+        bags = len({name for _, name in of} - {"-"})
+        noun = "bag" if bags == 1 else "bags"
+        return f"news of {bags} {noun}: {', '.join(kinds)}"
+
+    def counted(self) -> str:
+        """How many bags there are, and which was read longest ago."""
+        kept = [bag for bag in self.bags.values() if bag["is_kept"]]
+        text = f"{len(kept)} bags"
+        if kept:
+            oldest = min(bag["read"] or "" for bag in kept)
+            text += f", each read whole since {oldest}"
+        return f"{text}, {self.known} known findings" if self.known else text
+
+    def lines(self) -> List[str]:
+        """The first line, one for each of the news, and one about the rest."""
+        lines = [self.first_line()]
+        for row in self.news:
+            name = self.name_of(row)
+            text = "" if row["kind"] == "new" else row["text"]
+            lines.append(f"{row['kind']} {name} {text}".rstrip())
+        return lines + ([self.counted()] if self.news else [])
+
+    def name_of(self, row: Row) -> str:
+        """The bag of one of the news."""
+        bag = self.bags.get(row["bag"])
+        if bag is not None:
+            return encoded(path_of(bag["path"]))
+        return encoded(path_of(row["text"])) if row["kind"] == "new" else "-"
+
+
+def state_of(register: Register, cut_off: Optional[Row] = None) -> State:
+    """The news of a register, and of a round of it that was cut off."""
+    bags = {bag["id"]: bag for bag in register.rows("bags")}
+    found = register.rows("findings")
+    today = now()[:10]
+    news = [row for row in found if is_news(row, today)]
+    known = len(found) - len(news)
+    if cut_off is not None:
+        text = f"the audit of {cut_off['begun']} was gone on with"
+        news.insert(0, {"bag": None, "kind": "cut-off", "text": text})
+    return State(news, known, bags)

@@ -1,0 +1,249 @@
+"""The register: an archive's memory of its bags, in one database.
+
+    register.sqlite    the bags, what was found of them, what people said
+    register.copy      the same, as it was after the last audit
+    rounds/000001/     a round, as `bagit-keep round` has it
+    lock, asked        are locked by who audits, or checks some bags
+
+Each row has the SHA-256 of its values, so that a bit that changes in the
+file is an error by name. Nothing here says how a bag is: that is read from
+reports, which `bagit` has written.
+"""
+import fcntl
+import hashlib
+import json
+import os
+import sqlite3
+from contextlib import closing, contextmanager, suppress
+from os.path import join
+from typing import Any, Dict, Iterator, List, Optional
+
+from .checks import NO_LOCKS, now
+from .lines import encoded
+from .messages import Refused
+from .rounds import sync_folder, text_of
+
+FORMAT = 1
+APPLICATION = 0x62616769
+SECONDS = 60.0
+
+COLUMNS = {
+    "settings": ["name", "value"],
+    "bags": "path is_kept seal files bytes adopted read".split(),
+    "findings": "bag kind text since known".split(),
+    "events": "at bag kind data".split(),
+    "rounds": "name begun ended results".split(),
+}
+"""The columns of each table, beside `id` and `digest`."""
+
+UNIQUE = {
+    "settings": "name",
+    "bags": "path",
+    "findings": "bag, kind, text",
+    "rounds": "name",
+}
+
+Row = Dict[str, Any]
+
+
+def path_of(text: str) -> bytes:
+    """The path that `text_of` has made a text of."""
+    return text.encode("utf-8", "surrogateescape")
+
+
+def plain(value: Any) -> Any:
+    """A value as the database takes it: a text that isn't ASCII, as a path of
+    any bytes, is a string of JSON."""
+    if isinstance(value, str):
+        if not value.isascii() or value[:1] == '"':
+            return json.dumps(value)
+    return value
+
+
+def unplain(value: Any) -> Any:
+    if isinstance(value, str) and value[:1] == '"':
+        return json.loads(value)
+    return value
+
+
+def digest_of(table: str, values: List[Any]) -> str:
+    """The digest of a row, whose first value is its number."""
+    text = json.dumps([table, *values])
+    return hashlib.sha256(text.encode()).hexdigest()
+
+
+class Register:
+    """An open register. What is changed in a `with self.changing()` is
+    changed as a whole, or not at all."""
+
+    def __init__(self, folder: bytes) -> None:
+        self.folder = folder
+        self.path = join(folder, b"register.sqlite")
+        if not os.path.isfile(self.path):
+            raise Refused(f"{encoded(folder)} is no register")
+        with self.reading():
+            self._base = connect(self.path)
+            found = self._base.execute("PRAGMA integrity_check").fetchone()
+            kind = self._base.execute("PRAGMA application_id").fetchone()
+            form = self._base.execute("PRAGMA user_version").fetchone()
+        if kind[0] != APPLICATION or form[0] != FORMAT:
+            raise Refused(f"{encoded(folder)} is of another program", 3)
+        if found[0] != "ok":
+            raise self.altered(str(found[0]))
+
+    def altered(self, why: str) -> Refused:
+        where = encoded(self.path)
+        return Refused(
+            f"{where} was altered or is damaged ({why}): put register.copy in"
+            " its place, and audit again",
+            3,
+        )
+
+    def close(self) -> None:
+        self._base.close()
+
+    @contextmanager
+    def reading(self) -> Iterator[None]:
+        """Has what goes wrong with the database be said by its name."""
+        try:
+            yield
+        except sqlite3.Error as error:
+            if "locked" in str(error):
+                text = f"{encoded(self.path)} is in use by another process"
+                raise Refused(text, 3) from error
+            raise self.altered(str(error)) from error
+
+    @contextmanager
+    def changing(self) -> Iterator[None]:
+        """One change, which is durable when it ends."""
+        with self.reading():
+            self._base.execute("BEGIN IMMEDIATE")
+            try:
+                yield
+            except BaseException:
+                self._base.execute("ROLLBACK")
+                raise
+            self._base.execute("COMMIT")
+
+    def rows(self, table: str, where: str = "1", *values: Any) -> List[Row]:
+        """The rows of a table, in the order of their numbers, each with the
+        digest that it has to have."""
+        names = ["id", *COLUMNS[table], "digest"]
+        query = f"SELECT {', '.join(names)} FROM {table} WHERE {where}"
+        with self.reading():
+            found = self._base.execute(
+                f"{query} ORDER BY id", list(map(plain, values))
+            ).fetchall()
+        for row in found:
+            if digest_of(table, list(row[:-1])) != row[-1]:
+                raise self.altered(f"row {row[0]} of {table}")
+        return [dict(zip(names, map(unplain, row))) for row in found]
+
+    def add(self, table: str, **values: Any) -> int:
+        """Adds a row, and gives its number."""
+        query = f"SELECT coalesce(max(id), 0) + 1 FROM {table}"
+        number: int = self._base.execute(query).fetchone()[0]
+        self.put(table, number, values)
+        return number
+
+    def put(self, table: str, number: int, values: Row) -> None:
+        """Puts the row of this number."""
+        names = COLUMNS[table]
+        row = [number, *(plain(values[name]) for name in names)]
+        marks = ", ".join("?" * (len(row) + 1))
+        self._base.execute(
+            f"INSERT OR REPLACE INTO {table} (id, {', '.join(names)}, digest)"
+            f" VALUES ({marks})",
+            [*row, digest_of(table, row)],
+        )
+
+    def alter(self, table: str, row: Row, **values: Any) -> None:
+        """Puts a row that was read, with other values."""
+        self.put(table, row["id"], {**row, **values})
+
+    def remove(self, table: str, row: Row) -> None:
+        self._base.execute(f"DELETE FROM {table} WHERE id = ?", [row["id"]])
+
+    def note(self, kind: str, bag: Optional[int], **data: Any) -> None:
+        """Adds an event. None is ever changed or removed."""
+        text = json.dumps(data, sort_keys=True)
+        self.add("events", at=now(), bag=bag, kind=kind, data=text)
+
+    def bag_at(self, path: bytes) -> Row:
+        """The bag at a path, which has to be there."""
+        found = self.rows("bags", "path = ?", text_of(path))
+        if not found:
+            raise Refused(f"the register has no bag {encoded(path)}")
+        return found[0]
+
+    def setting(self, name: str) -> Any:
+        found = self.rows("settings", "name = ?", name)
+        return json.loads(found[0]["value"]) if found else None
+
+    def copy(self) -> None:
+        """Puts a copy beside the register, whole and durable."""
+        draft = join(self.folder, b".draft-" + os.urandom(8).hex().encode())
+        try:
+            with closing(connect(draft)) as other, self.reading():
+                self._base.backup(other)
+            with open(draft, "rb") as file:
+                os.fsync(file)
+            os.rename(draft, join(self.folder, b"register.copy"))
+        finally:
+            with suppress(FileNotFoundError):
+                os.unlink(draft)
+        sync_folder(self.folder)
+
+
+def connect(path: bytes) -> sqlite3.Connection:
+    base = sqlite3.connect(
+        os.fsdecode(path), timeout=SECONDS, isolation_level=None
+    )
+    base.execute("PRAGMA synchronous = FULL")
+    return base
+
+
+def make(folder: bytes, settings: Row) -> None:
+    """Makes a register in a folder of its own, whole or not at all."""
+    os.makedirs(folder, exist_ok=True)
+    if [name for name in os.listdir(folder) if name[:7] != b".draft-"]:
+        raise Refused(f"{encoded(folder)} is not empty")
+    draft = join(folder, b".draft-" + os.urandom(8).hex().encode())
+    os.mkdir(draft)
+    path = join(draft, b"register.sqlite")
+    with closing(connect(path)) as base:
+        base.execute(f"PRAGMA application_id = {APPLICATION}")
+        base.execute(f"PRAGMA user_version = {FORMAT}")
+        for table, columns in COLUMNS.items():
+            unique = f", UNIQUE ({UNIQUE[table]})" if table in UNIQUE else ""
+            base.execute(
+                f"CREATE TABLE {table} (id INTEGER PRIMARY KEY,"
+                f" {', '.join(columns)}, digest{unique})"
+            )
+        base.execute("CREATE INDEX of_bag ON events (bag)")
+    with closing(Register(draft)) as register, register.changing():
+        for name, value in settings.items():
+            register.add("settings", name=name, value=json.dumps(value))
+        register.note("init", None, **settings)
+    os.rename(path, join(folder, b"register.sqlite"))
+    os.rmdir(draft)
+    sync_folder(folder)
+
+
+@contextmanager
+def alone(
+    folder: bytes, name: bytes = b"lock", shared: bool = False
+) -> Iterator[None]:
+    """Locks a register for one process of a kind, or for those that share
+    the work."""
+    if not os.path.isdir(folder):
+        raise Refused(f"{encoded(folder)} is no register")
+    how = fcntl.LOCK_SH if shared else fcntl.LOCK_EX
+    with open(join(folder, name), "a+b") as file:
+        try:
+            fcntl.lockf(file, how | fcntl.LOCK_NB)
+        except OSError as error:
+            if error.errno not in NO_LOCKS:
+                text = f"another process is at work in {encoded(folder)}"
+                raise Refused(text, 3) from error
+        yield

@@ -1,0 +1,214 @@
+"""The register: its rows, what is news, and which bags are due."""
+import os
+import sqlite3
+import tempfile
+import unittest
+from argparse import Namespace
+from contextlib import closing
+from typing import Any, Dict, Optional
+
+from bagitkeep import audit, news, register
+from bagitkeep.messages import Refused
+from bagitkeep.premis import premis_of
+from bagitkeep.rounds import Record
+from bagitkeep.rounds import Row as Result
+
+SEAL = "0" * 128
+OTHER = "1" * 128
+
+
+def record(seal: Optional[str]) -> Record:
+    return Record(
+        1, "/a", "/a", "2026-01-01T00:00:00Z", "2026-01-01T00:00:01Z", 1,
+        seal=seal,
+    )
+
+
+def result(status: int, text: str, seal: Optional[str] = SEAL) -> Result:
+    return Result(status, text, b"/a", 0, None, record(seal))
+
+
+def bag(number: int, read: Optional[str], kept: int = 1) -> Dict[str, Any]:
+    return {"id": number, "read": read, "is_kept": kept, "path": "/none"}
+
+
+def asked(**values: Any) -> Namespace:
+    names = "days share bytes".split()
+    return Namespace(**{**dict.fromkeys(names), **values})
+
+
+class OfRegister(unittest.TestCase):
+    """A register in a folder of its own."""
+
+    def setUp(self) -> None:
+        room = tempfile.TemporaryDirectory()
+        self.addCleanup(room.cleanup)
+        self.folder = os.fsencode(room.name) + b"/register"
+        register.make(self.folder, {"stores": ["/s"], "every": 90})
+
+    def open(self) -> register.Register:
+        opened = register.Register(self.folder)
+        self.addCleanup(opened.close)
+        return opened
+
+    def test_rows_come_back_as_they_were_put(self) -> None:
+        paths = ["/a", '/"b"', "/\udcff", "/é", '"']
+        with closing(self.open()) as it, it.changing():
+            for path in paths:
+                it.add(
+                    "bags", path=path, is_kept=1, seal=SEAL, files=1,
+                    bytes=2, adopted="x", read=None,
+                )
+        opened = self.open()
+        self.assertEqual(paths, [row["path"] for row in opened.rows("bags")])
+        self.assertEqual(3, opened.bag_at(b"/\xff")["id"])
+        self.assertEqual(90, opened.setting("every"))
+
+    def test_a_value_that_was_altered_is_an_error(self) -> None:
+        with closing(self.open()) as it, it.changing():
+            it.note("a", None, text="b")
+        path = os.fsdecode(self.folder + b"/register.sqlite")
+        with closing(sqlite3.connect(path)) as base, base:
+            base.execute("UPDATE events SET kind = 'c' WHERE id = 2")
+        opened = self.open()
+        with self.assertRaises(Refused) as refused:
+            opened.rows("events")
+        self.assertEqual(3, refused.exception.status)
+
+    def test_a_change_that_fails_changes_nothing(self) -> None:
+        opened = self.open()
+        with self.assertRaises(ZeroDivisionError), opened.changing():
+            opened.note("a", None)
+            raise ZeroDivisionError
+        self.assertEqual(1, len(opened.rows("events")))
+
+    def test_another_file_is_no_register(self) -> None:
+        with open(self.folder + b"/register.sqlite", "wb") as file:
+            file.write(b"no database, but long enough to be looked at" * 100)
+        with self.assertRaises(Refused):
+            register.Register(self.folder)
+
+    def test_a_copy_is_a_register(self) -> None:
+        opened = self.open()
+        opened.copy()
+        names = sorted(os.listdir(self.folder))
+        self.assertEqual([b"register.copy", b"register.sqlite"], names)
+
+    def test_findings_come_and_go(self) -> None:
+        opened = self.open()
+        with opened.changing():
+            news.settle(opened, bag(1, None), {("fault", "x")})
+            both = {("fault", "x"), ("missing", "")}
+            news.settle(opened, bag(1, None), both)
+            news.settle(opened, bag(1, None), {("missing", "")})
+        found = [row["kind"] for row in opened.rows("findings")]
+        self.assertEqual(["missing"], found)
+        kinds = [row["kind"] for row in opened.rows("events")]
+        self.assertEqual(["init", "found", "found", "gone"], kinds)
+
+
+class OfNews(unittest.TestCase):
+    """What is found, and what of it is news."""
+
+    def test_what_is_found(self) -> None:
+        for found, wanted in (
+            (result(0, "/a is valid"), set()),
+            (result(0, "/a is valid", OTHER), {("altered", OTHER)}),
+            (result(3, "/a is not there"), {("missing", "")}),
+            (result(3, "killed"), {("unread", "killed")}),
+            (
+                result(0, "/a is valid", None),
+                {("unread", "its tag files can't be read")},
+            ),
+        ):
+            with self.subTest(found.result):
+                self.assertEqual(wanted, news.found_of(found, SEAL))
+
+    def test_faults_are_named_unless_there_are_very_many(self) -> None:
+        line = "601 payload-file-missing data/a md5 - -"
+        text = line.encode() + b"\n"
+        self.assertEqual([line], list(news.faults_in([text, b"x"], 1)))
+        self.assertEqual(["1001 faults"], list(news.faults_in([text], 1001)))
+
+    def test_a_time_that_is_to_come_is_past(self) -> None:
+        self.assertTrue(news.is_past(None, 1))
+        self.assertTrue(news.is_past("9999-01-01T00:00:00Z", 1))
+        self.assertTrue(news.is_past("2000-01-01T00:00:00Z", 1))
+        self.assertFalse(news.is_past(audit.now(), 1))
+
+    def test_what_is_known_until_a_day(self) -> None:
+        for known, wanted in (
+            (None, True),
+            ("{}", False),
+            ('{"until": "2026-01-01"}', True),
+            ('{"until": "2026-01-02"}', False),
+        ):
+            self.assertEqual(
+                wanted, news.is_news({"known": known}, "2026-01-02")
+            )
+
+    def test_the_first_line(self) -> None:
+        found = [
+            {"bag": 1, "kind": "fault", "text": "x"},
+            {"bag": 1, "kind": "fault", "text": "y"},
+            {"bag": 2, "kind": "altered", "text": OTHER},
+        ]
+        bags = {it: bag(it, "2026-01-01T00:00:00Z") for it in (1, 2)}
+        for it in bags:
+            bags[it]["path"] = f"/{it}"
+        state = news.State(found, 0, bags)
+        self.assertEqual(
+            "news of 2 bags: 1 with faults, 1 altered", state.first_line()
+        )
+        self.assertEqual("altered /2 " + OTHER, state.lines()[3])
+        self.assertEqual(
+            ["no news: 2 bags, each read whole since 2026-01-01T00:00:00Z"],
+            news.State([], 0, bags).lines(),
+        )
+
+
+class OfAudit(unittest.TestCase):
+    """Which bags an audit reads."""
+
+    BAGS = [
+        bag(1, "2026-01-03T00:00:00Z"),
+        bag(2, "2026-01-01T00:00:00Z"),
+        bag(3, None),
+        bag(4, "2026-01-02T00:00:00Z", 0),
+        bag(5, "9999-01-01T00:00:00Z"),
+    ]
+
+    def due(self, **values: Any) -> Any:
+        return [row["id"] for row in audit.due(self.BAGS, asked(**values))]
+
+    def test_longest_unread_first(self) -> None:
+        self.assertEqual([3, 5, 2, 1], self.due())
+
+    def test_a_share_is_rounded_up(self) -> None:
+        self.assertEqual([3, 5], self.due(share=(1, 3)))
+        self.assertEqual([3, 5, 2, 1], self.due(share=(3, 3)))
+
+    def test_bytes_are_one_bag_at_least(self) -> None:
+        self.assertEqual([3, 5, 2, 1], self.due(bytes=1))
+
+    def test_days(self) -> None:
+        self.assertEqual([3, 5, 2, 1], self.due(days=1))
+
+
+class OfPremis(unittest.TestCase):
+    """The document of a bag."""
+
+    def test_events(self) -> None:
+        row = {"id": 7, "at": "2026-01-01T00:00:00Z", "kind": "adopted"}
+        text = premis_of("/a", bag(1, None), [{**row, "data": "{}"}])
+        for part in (
+            'xmlns:premis="http://www.loc.gov/premis/v3"',
+            "<premis:eventType>ingestion</premis:eventType>",
+            "<premis:eventOutcome>pass</premis:eventOutcome>",
+            "<premis:eventIdentifierValue>7</premis:eventIdentifierValue>",
+        ):
+            self.assertIn(part, text)
+
+
+if __name__ == "__main__":
+    unittest.main()

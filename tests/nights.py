@@ -1,0 +1,266 @@
+"""Sixty nights of `bagit-keep audit` over twenty bags, as tests/nights.sh says.
+
+usage: nights.py KEEP FOLDER
+
+KEEP is the command, FOLDER an empty one. BAGIT and BAGIT_RENEW name the programs.
+"""
+import hashlib
+import json
+import os
+import random
+import shutil
+import signal
+import subprocess
+import sys
+import time
+from pathlib import Path
+
+keep, work = sys.argv[1], Path(sys.argv[2])
+store, register = work / 'store', work / 'register'
+who = ['--by', 'Ada', '--why', 'a test']
+seen = 0
+
+
+def run(*words, wanted=0, **how):
+    """Runs a command, which has to end with this status; its lines."""
+    global seen
+    ran = subprocess.run([keep, *map(str, words)], capture_output=True, text=True, timeout=300, **how)
+    said = f'{" ".join(map(str, words))}: {ran.returncode}, not {wanted}\n{ran.stdout}{ran.stderr}'
+    assert ran.returncode == wanted and 'Traceback' not in ran.stderr, said
+    seen += 1
+    return ran.stdout.splitlines()
+
+
+def make(place, text):
+    """A new bag of one payload file, made by hand (RFC 8493, 2)."""
+    (place / 'data').mkdir(parents=True)
+    (place / 'data/a').write_text(text)
+    (place / 'bagit.txt').write_text('BagIt-Version: 1.0\nTag-File-Character-Encoding: UTF-8\n')
+    digest = hashlib.sha256(text.encode()).hexdigest()
+    (place / 'manifest-sha256.txt').write_text(f'{digest}  data/a\n')
+
+
+def bag(number):
+    return store / f'bag-{number:02d}'
+
+
+def news(*lines):
+    """An audit, whose news are these, in any order."""
+    said = run('audit', register, wanted=1 if lines else 0)
+    assert said[0].startswith('news of ' if lines else 'no news: 20 bags'), said
+    found = [line for line in said[1:] if not line[:1].isdigit()]
+    assert sorted(found) == sorted(lines), (found, lines)
+
+
+def known(number):
+    run('known', register, bag(number), '--all', *who)
+
+
+def damaged(number, old, new):
+    """The line of a payload file that has other bytes (docs/FAULTS.md, 701)."""
+    was, now = (hashlib.sha256(text.encode()).hexdigest() for text in (old, new))
+    return f'fault {bag(number)} 701 payload-sum-differs data/a sha256 - {was}%20{now}'
+
+
+def seal(number):
+    """The seal of a bag without folders but `data`, as its page says it is taken."""
+    line = b''
+    for path in sorted(os.listdir(os.fsencode(bag(number)))):
+        if path != b'data':
+            content = (bag(number) / os.fsdecode(path)).read_bytes()
+            line += hashlib.sha512(content).hexdigest().encode() + b'  ' + path + b'\0'
+    return hashlib.sha512(line).hexdigest()
+
+
+def altered(number):
+    return f'altered {bag(number)} {seal(number)}'
+
+
+def change(number, text):
+    (bag(number) / 'data/a').write_text(text)
+
+
+def remake(number, text):
+    shutil.rmtree(bag(number))
+    make(bag(number), text)
+
+
+def night_added():
+    make(bag(21), '21')
+    news(f'new {bag(21)}')
+    run('adopt', register, bag(21))
+    run('retire', register, bag(21), *who)
+    shutil.rmtree(bag(21))
+
+
+def night_damaged():
+    change(3, 'x')
+    news(damaged(3, '3', 'x'))
+    news(damaged(3, '3', 'x'))
+    known(3)
+
+
+def night_restored():
+    change(3, '3')
+    news()
+
+
+def night_damaged_again():
+    change(3, 'x')
+    news(damaged(3, '3', 'x'))
+    change(3, '3')
+    news()
+
+
+def night_removed():
+    os.rename(bag(4), work / 'away')
+    news(f'missing {bag(4)}')
+    known(4)
+    news()
+    os.rename(work / 'away', bag(4))
+    news()
+
+
+def night_renewed():
+    run('renew', register, bag(5), '--', '--quiet', '--set', 'Contact-Name', 'Ada')
+    news()
+
+
+def night_renewed_by_another():
+    words = [os.environ['BAGIT_RENEW'], '--quiet', '--set', 'Contact-Name', 'Bob', '--', bag(6)]
+    subprocess.run(words, check=True)
+    news(altered(6))
+    run('accept', register, bag(6), *who)
+    news()
+
+
+def night_replaced():
+    remake(7, 'another')
+    news(altered(7))
+    known(7)
+    news()
+    remake(7, '7')
+    news()
+
+
+def night_swapped():
+    for one, other in ((8, 9), (9, 8)):
+        os.rename(bag(one), work / f'bag-{other}')
+    for number in 8, 9:
+        os.rename(work / f'bag-{number}', bag(number))
+    news(altered(8), altered(9))
+    for number in 8, 9:
+        run('accept', register, bag(number), *who)
+
+
+def night_moved():
+    os.rename(bag(10), store / 'moved')
+    run('moved', register, bag(10), store / 'moved', *who)
+    news()
+    os.rename(store / 'moved', bag(10))
+    run('moved', register, store / 'moved', bag(10), *who)
+
+
+def night_moved_and_remade():
+    os.rename(bag(10), work / 'kept')
+    make(store / 'moved', '10, altered')
+    run('moved', register, bag(10), store / 'moved', *who, wanted=3)
+    shutil.rmtree(store / 'moved')
+    os.rename(work / 'kept', bag(10))
+    news()
+
+
+def night_disk_full():
+    """An audit that can write no file of more than so many blocks."""
+    for blocks in 0, 8, 64, 200:
+        words = ['sh', '-c', f'ulimit -f {blocks}; exec "$@"', 'sh', keep, 'audit', register]
+        ran = subprocess.run(words, capture_output=True, text=True)
+        assert ran.returncode == 3 or (ran.returncode == 0 and blocks > 64), (blocks, ran)
+        assert ran.returncode == 0 or 'no news' not in ran.stdout, (blocks, ran)
+    change(13, 'x')
+    said = subprocess.run([keep, 'audit', register], capture_output=True, text=True)
+    assert said.returncode == 1 and damaged(13, '13', 'x') in said.stdout.splitlines(), said
+    change(13, '13')
+    news()
+
+
+def night_of_tasks():
+    change(11, 'x')
+    tasks = [subprocess.Popen([keep, 'audit', register, '--task', f'{it}/8'], stdout=subprocess.DEVNULL) for it in range(1, 9)]
+    assert not any(task.wait() for task in tasks)
+    news(damaged(11, '11', 'x'))
+    change(11, '11')
+    news()
+
+
+def night_killed():
+    change(12, 'x')
+    begun = time.monotonic()
+    subprocess.run([keep, 'audit', register], capture_output=True)
+    seconds = time.monotonic() - begun
+    known(12)
+    for _ in range(20):
+        killed = subprocess.Popen([keep, 'audit', register], stdout=subprocess.DEVNULL, stderr=subprocess.DEVNULL)
+        time.sleep(random.uniform(0, seconds))
+        killed.send_signal(signal.SIGKILL)
+        killed.wait()
+        said = subprocess.run([keep, 'audit', register], capture_output=True, text=True)
+        lines = said.stdout.splitlines()
+        was_cut_off = any(line.startswith('cut-off - ') for line in lines)
+        assert said.returncode == (1 if was_cut_off else 0), said
+        assert not any(line.startswith(('fault', 'missing', 'unread', 'altered')) for line in lines), said
+    change(12, '12')
+    news()
+
+
+def night_of_two():
+    slow = work / 'slow'
+    slow.write_text(f'#!/bin/sh\nsleep 1\nexec "{os.environ["BAGIT"]}" "$@"\n')
+    slow.chmod(0o755)
+    first = subprocess.Popen([keep, 'audit', register, '--jobs', '20'], env={**os.environ, 'BAGIT': str(slow)}, stdout=subprocess.DEVNULL)
+    time.sleep(0.8)
+    run('audit', register, wanted=3)
+    assert first.wait() == 0
+
+
+def night_of_bits():
+    """A bit that changes in the register is told, or changes nothing that is said."""
+    path = register / 'register.sqlite'
+    whole, said = path.read_bytes(), run('status', register)
+    dumped = run('dump', register)
+    told = 0
+    for _ in range(60):
+        place, bit = random.randrange(len(whole)), 1 << random.randrange(8)
+        path.write_bytes(whole[:place] + bytes([whole[place] ^ bit]) + whole[place + 1:])
+        for words, right in (('status', said), ('dump', dumped)):
+            ran = subprocess.run([keep, words, register], capture_output=True, text=True)
+            assert (ran.returncode, ran.stdout.splitlines()) == (0, right) or ran.returncode == 3, (place, bit, ran)
+            assert 'Traceback' not in ran.stderr, ran.stderr
+            told += ran.returncode == 3
+    path.write_bytes(whole)
+    assert told > 20, told
+    shutil.copy(register / 'register.copy', path)
+    assert run('status', register)[0] == said[0]
+    path.write_bytes(whole)
+
+
+def main():
+    store.mkdir(parents=True)
+    for number in range(1, 21):
+        make(bag(number), str(number))
+    run('init', register, store)
+    assert run('adopt', register)[-1] == '20 of 20 bags were adopted'
+    nights = [work for name, work in globals().items() if name.startswith('night_')]
+    for night in nights:
+        news()
+        night()
+    while seen < 60:
+        news()
+    text = '\n'.join(run('premis', register, bag(3)))
+    assert '<premis:eventOutcome>fail</premis:eventOutcome>' in text
+    said = run('history', register, bag(5))
+    assert any('accepted' in line for line in said), said
+    print(f'{len(nights)} kinds of nights, {seen} commands ended as they should')
+
+
+main()
