@@ -45,7 +45,9 @@ def build_wheel(
 ) -> str:
     """Writes the wheel into a folder, and gives its name there."""
     sources = sorted((HERE / "bagitkeep").glob("*.py"))
-    files = {f"bagitkeep/{path.name}": path.read_bytes() for path in sources}
+    sources += sorted((HERE / "bagitkeep").glob("templates/*.html"))
+    names = [path.relative_to(HERE).as_posix() for path in sources]
+    files = {it: (HERE / it).read_bytes() for it in names}
     files[f"{NAME}.dist-info/METADATA"] = METADATA.encode()
     files[f"{NAME}.dist-info/WHEEL"] = WHEEL.encode()
     files[f"{NAME}.dist-info/entry_points.txt"] = SCRIPTS.encode()

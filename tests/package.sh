@@ -50,7 +50,8 @@ cp tree/usr/bin/bagit-check-large alone
 [[ $status == 3 && ! -e unwritten ]] || give_up "bagit-check-large ends with $status without its modules"
 
 # bagit-keep, and its package.
-diff <(cd "$root/companions/bagitkeep" && ls *.py) <(ls tree/usr/lib/python3/dist-packages/bagitkeep) || give_up 'it has another package'
+diff <(cd "$root/companions/bagitkeep" && ls *.py templates) <(cd tree/usr/lib/python3/dist-packages/bagitkeep && ls *.py templates) ||
+    give_up 'it has another package'
 [[ $(bagit-keep --version) == "bagit-keep $(<"$root/VERSION")" ]] || give_up 'bagit-keep has another version'
 bagit-keep round round deposit >printed
 [[ $(bagit-keep report --round round) == "{\"bag\": \"$work/deposit\", \"ended\": \"is valid\"}" ]] || give_up 'bagit-keep makes no round'

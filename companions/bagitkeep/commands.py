@@ -26,6 +26,7 @@ COMMANDS = {
     "history": ("keeping", "write all that happened to a bag"),
     "dump": ("keeping", "write all that a register says, as JSON"),
     "premis": ("keeping", "write what happened to a bag as PREMIS 3"),
+    "page": ("page", "write a register, a round or a report as pages"),
 }
 SIGNALS = (signal.SIGINT, signal.SIGTERM, signal.SIGHUP)
 

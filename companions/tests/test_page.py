@@ -1,0 +1,98 @@
+"""What pages show, and that no name on them acts."""
+import os
+import tempfile
+import unittest
+from importlib.util import find_spec
+from pathlib import Path
+
+from bagitkeep import page
+from bagitkeep.messages import Refused
+
+LINE = "701 payload-sum-differs data/a/%3Cb sha256 - x%20y"
+HOSTILE = '<script>alert("1")</script>&\'/'
+
+
+class Views(unittest.TestCase):
+    """What is taken from reports and from FAULTS.md."""
+
+    def test_faults_by_folder(self) -> None:
+        lines = [
+            "701 payload-sum-differs data/b/z md5 - x%20y",
+            "no line of bagit",
+            "701 payload-sum-differs data/a/z sha256 - x%20y",
+            "101 no-declaration bagit.txt - - -",
+        ]
+        found = page.by_folder(lines, {701: ("means", "do")})
+        self.assertEqual(
+            ["data/a", "data/b", "the bag"], [it[0] for it in found]
+        )
+        view = found[0][1][0]
+        self.assertEqual(
+            ("z", 701, "sha256", "means", "do"),
+            (view.file, view.code, view.algorithm, view.means, view.todo),
+        )
+        self.assertEqual("", found[2][1][0].means)
+
+    def test_each_code_has_its_meaning(self) -> None:
+        if not (Path(page.__file__).parents[2] / "docs").is_dir():
+            self.skipTest("the pages aren't here")
+        means = page.meanings()
+        self.assertLess(40, len(means))
+        for code in 101, 701, 813:
+            self.assertTrue(means[code][0] and means[code][1])
+            self.assertNotIn("`", means[code][0] + means[code][1])
+
+    def test_marks_go(self) -> None:
+        self.assertEqual("a b c d|e", page.plain("[a](x) `b` **c** d\\|e"))
+
+    def test_ages(self) -> None:
+        today = page.now()
+        bags = [{"read": it} for it in (today, None, "2000-01-01T00:00:00Z")]
+        ages = {it["days"]: it["bags"] for it in page.ages_of(bags)}
+        self.assertEqual(1, ages["0 to 6"])
+        self.assertEqual(2, ages[page.LAST_AGE])
+
+
+@unittest.skipUnless(find_spec("jinja2"), "there is no Jinja2")
+class Written(unittest.TestCase):
+    """Pages in a folder."""
+
+    def setUp(self) -> None:
+        room = tempfile.TemporaryDirectory()
+        self.addCleanup(room.cleanup)
+        self.room = Path(room.name)
+        bag = page.BagView(HOSTILE, HOSTILE, [HOSTILE])
+        bag.events = [{"at": HOSTILE, "kind": HOSTILE, "says": HOSTILE}]
+        bag.faults = page.by_folder([LINE], {701: (HOSTILE, HOSTILE)})
+        self.site = page.Site(HOSTILE, [bag])
+        page.name_pages(self.site)
+        names = "what bag says since page".split()
+        self.site.news = [dict.fromkeys(names, HOSTILE)]
+
+    def write(self) -> Path:
+        page.replace(self.site, os.fsencode(self.room / "pages"))
+        return self.room / "pages"
+
+    def test_no_name_acts(self) -> None:
+        folder = self.write()
+        files = sorted(folder.glob("*.html"))
+        self.assertEqual(3, len(files))
+        for file in files:
+            text = file.read_text("utf-8")
+            self.assertNotIn("<script", text)
+            self.assertIn("&lt;script&gt;", text)
+            self.assertNotIn("http:", text.replace("http-equiv", ""))
+
+    def test_pages_are_replaced_and_nothing_else_is(self) -> None:
+        folder = self.write()
+        (folder / "bag-9.html").write_text("old")
+        self.assertFalse((self.write() / "bag-9.html").exists())
+        self.assertEqual(["pages"], os.listdir(self.room))
+        (self.room / "other").mkdir()
+        with self.assertRaises(Refused):
+            page.replace(self.site, os.fsencode(self.room / "other"))
+        self.assertEqual([], os.listdir(self.room / "other"))
+
+
+if __name__ == "__main__":
+    unittest.main()
