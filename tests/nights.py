@@ -59,7 +59,7 @@ def known(number):
 def damaged(number, old, new):
     """The line of a payload file that has other bytes (docs/FAULTS.md, 701)."""
     was, now = (hashlib.sha256(text.encode()).hexdigest() for text in (old, new))
-    return f'fault {bag(number)} 701 payload-sum-differs data/a sha256 - {was}%20{now}'
+    return f'fault {bag(number)} 701 payload-sum-differs data/a sha256 - {was}:{now}'
 
 
 def seal(number):
@@ -122,12 +122,12 @@ def night_removed():
 
 
 def night_renewed():
-    run('renew', register, bag(5), '--', '--quiet', '--set', 'Contact-Name', 'Ada')
+    run('renew', register, bag(5), '--', '--quiet', '--set', 'Contact-Name=Ada')
     news()
 
 
 def night_renewed_by_another():
-    words = [os.environ['BAGIT_RENEW'], '--quiet', '--set', 'Contact-Name', 'Bob', '--', bag(6)]
+    words = [os.environ['BAGIT_RENEW'], '--quiet', '--set', 'Contact-Name=Bob', '--', bag(6)]
     subprocess.run(words, check=True)
     news(altered(6))
     run('accept', register, bag(6), *who)

@@ -8,7 +8,7 @@ from pathlib import Path
 from bagitkeep import page
 from bagitkeep.messages import Refused
 
-LINE = "701 payload-sum-differs data/a/%3Cb sha256 - x%20y"
+LINE = "701 payload-sum-differs data/a/<b sha256 - x:y"
 HOSTILE = '<script>alert("1")</script>&\'/'
 
 
@@ -17,9 +17,9 @@ class Views(unittest.TestCase):
 
     def test_faults_by_folder(self) -> None:
         lines = [
-            "701 payload-sum-differs data/b/z md5 - x%20y",
+            "701 payload-sum-differs data/b/z md5 - x:y",
             "no line of bagit",
-            "701 payload-sum-differs data/a/z sha256 - x%20y",
+            "701 payload-sum-differs data/a/z sha256 - x:y",
             "101 no-declaration bagit.txt - - -",
         ]
         found = page.by_folder(lines, {701: ("means", "do")})
