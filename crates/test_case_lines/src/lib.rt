@@ -33,7 +33,7 @@ mod written;
 pub use answers::Answer;
 pub use bytes::Bytes;
 pub use entries::{name_text, path_and_bytes, read_row};
-pub use lines::{Entry, Line, Turn, Word, below, lines_of};
+pub use lines::{Entry, Line, Turn, Word, below, lines_in_memory, lines_of, lines_on_disk};
 pub use mistake::Mistake;
 pub use reader::Reader;
 pub use report::{Report, Sight};

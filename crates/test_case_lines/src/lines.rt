@@ -23,6 +23,8 @@ pub enum Word {
     Written,
     /// A line of its error output.
     Told,
+    /// A line of its error output on the disk alone.
+    ToldOnDisk,
     /// Its exit status.
     Status,
     /// The next of its answers.
@@ -31,7 +33,7 @@ pub enum Word {
 }
 
 /// The words that lines begin with.
-const WORDS: [(&str, Word); 16] = [
+const WORDS: [(&str, Word); 17] = [
     ("|", Word::Written),
     ("-", Word::Row),
     ("$", Word::Run),
@@ -45,6 +47,7 @@ const WORDS: [(&str, Word); 16] = [
     ("read", Word::Read),
     ("folder", Word::Folder),
     ("!", Word::Told),
+    ("!disk", Word::ToldOnDisk),
     ("bag", Word::Bag),
     ("opened", Word::Opened),
     ("link", Word::Link),
@@ -86,7 +89,10 @@ impl Word {
 
     /// Whether such a line is wanted of the entry above it.
     pub fn is_wanted(self) -> bool {
-        matches!(self, Word::Written | Word::Told | Word::Status | Word::Then)
+        matches!(
+            self,
+            Word::Written | Word::Told | Word::ToldOnDisk | Word::Status | Word::Then
+        )
     }
 }
 
@@ -120,6 +126,34 @@ pub fn below<'a>(lines: &'a [Line<'a>], place: usize) -> &'a [Line<'a>] {
         }
     }
     rest
+}
+
+/// The lines that are wanted on the disk, where an entry is followed on the disk and in memory.
+pub fn lines_on_disk<'a>(alloc: Global, lines: &[Line<'a>]) -> Result<Vec<Line<'a>>, AllocError> {
+    let mut wanted = Vec::new(alloc);
+    for line in lines {
+        let word = match line.word {
+            Word::ToldOnDisk => Word::Told,
+            word => word,
+        };
+        wanted.push(Line {
+            number: line.number,
+            word,
+            rest: line.rest,
+        })?;
+    }
+    Ok(wanted)
+}
+
+/// Those that are wanted in memory: all but those of the disk alone.
+pub fn lines_in_memory<'a>(alloc: Global, lines: &[Line<'a>]) -> Result<Vec<Line<'a>>, AllocError> {
+    let mut wanted = Vec::new(alloc);
+    for line in lines {
+        if line.word != Word::ToldOnDisk {
+            wanted.push(*line)?;
+        }
+    }
+    Ok(wanted)
 }
 
 impl Entry<'_> {

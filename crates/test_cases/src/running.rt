@@ -7,7 +7,9 @@ use crate::world::World;
 use crate::{renewals, stages, trees, turns};
 use bag_cli::{Plan, Usage, plan_of};
 use std::str;
-use test_case_lines::{Mistake, Report, Sight, words_of};
+use test_case_lines::{
+    Entry, Line, Mistake, Report, Sight, lines_in_memory, lines_on_disk, words_of,
+};
 
 /// Runs a command, and compares its answers.
 pub(crate) fn run(rt: &HostRuntime, sight: &Sight<'_>, world: &mut World, report: &mut Report) {
@@ -38,37 +40,60 @@ fn run_verb(
         Verb::RefuseTree | Verb::RefuseDisk(_) => see_planned(sight, verb, words, world, report),
         Verb::RefuseRenewal(fault) => renewals::see_refused(sight, fault, words, world, report),
         Verb::Stage => stages::see_stage(sight, words, world, report),
-        // on the disk no file holds something else than is listed
         Verb::RunOnDisk if world.opened.is_some() => report.text.fail(Mistake::Place),
-        Verb::RunOnDisk => see_on_disk(rt, sight, verb, words, world, report),
+        Verb::RunOnDisk => see_on_disk(rt, sight, verb, words, report),
         Verb::Run | Verb::RunWithRoom(_) | Verb::Renew | Verb::List | Verb::Write => {
-            see_on_disk(rt, sight, verb, words, world, report);
-            let found = answer_in_memory(sight.texts.alloc, world, None, verb, words);
-            report.see(sight, "on a disk in memory", &found);
-            match verb {
-                Verb::Run => see_planned(sight, verb, words, world, report),
-                Verb::Renew if world.opened.is_none() => {
-                    renewals::renew_in_memory(sight.texts.alloc, words, world, report);
+            // on the disk no file holds something else than is listed
+            if world.opened.is_some() {
+                return see_in_memory(sight, verb, words, world, report);
+            }
+            let (alloc, below) = (sight.texts.alloc, sight.entry.below);
+            match (lines_on_disk(alloc, below), lines_in_memory(alloc, below)) {
+                (Ok(on_disk), Ok(in_memory)) => {
+                    see_on_disk(rt, &with_lines(sight, &on_disk), verb, words, report);
+                    see_in_memory(&with_lines(sight, &in_memory), verb, words, world, report);
                 }
-                _ => {}
+                _ => report.text.fail(Mistake::Memory),
             }
         }
     }
 }
 
-/// Compares what is answered over the folders on the disk, where no file holds something else than
-/// is listed.
+/// The sight of an entry with these lines below it.
+fn with_lines<'a>(sight: &Sight<'a>, below: &'a [Line<'a>]) -> Sight<'a> {
+    let (file, texts, line) = (sight.file, sight.texts, sight.entry.line);
+    let entry = Entry { line, below };
+    Sight { file, texts, entry }
+}
+
+/// Compares what is answered over the folders on the disk.
 fn see_on_disk(
     rt: &HostRuntime,
     sight: &Sight<'_>,
     verb: Verb,
     words: &[&str],
-    world: &World,
     report: &mut Report,
 ) {
-    if world.opened.is_none() {
-        let found = answer_to(sight.texts.alloc, rt, verb, words);
-        report.see(sight, "on the disk", &found);
+    let found = answer_to(sight.texts.alloc, rt, verb, words);
+    report.see(sight, "on the disk", &found);
+}
+
+/// Compares what is answered over disks in memory, and then over trees where it can be.
+fn see_in_memory(
+    sight: &Sight<'_>,
+    verb: Verb,
+    words: &[&str],
+    world: &mut World,
+    report: &mut Report,
+) {
+    let found = answer_in_memory(sight.texts.alloc, world, None, verb, words);
+    report.see(sight, "on a disk in memory", &found);
+    match verb {
+        Verb::Run => see_planned(sight, verb, words, world, report),
+        Verb::Renew if world.opened.is_none() => {
+            renewals::renew_in_memory(sight.texts.alloc, words, world, report);
+        }
+        _ => {}
     }
 }
 
