@@ -42,6 +42,9 @@ take_renew() {
     [[ -x $renew ]] || give_up "there is no program $renew"
 }
 
+# A line that says what the system refused, and why.
+refusal_line='^bagit(-renew)?: [^ ]+: (not there|not a folder|permission denied|.+ \(os error [0-9]+\))$'
+
 # Goes into a new folder, `work`, which is removed at the end.
 enter() {
     work=$(mktemp -d "/tmp/bagit-$1.XXXXXX")

@@ -107,12 +107,13 @@ d has a good declaration
 101 no-declaration bagit.txt - - -
 e has faults: 1
 END
-wanted 3 --validate --declaration-only e 'not there' d <<'END'
+run 3 --validate --declaration-only e 'not there' d <<'END'
 101 no-declaration bagit.txt - - -
 e has faults: 1
 not%20there unread - device, faults: 0
 d has a good declaration
 END
+diff <(echo 'bagit: not%20there: not there') errors || give_up 'it says something else of what is not there'
 
 # Two folders and a limit: one bag is complete, and of the other, which is damaged, the first faults are written.
 rm -rf letters damaged

@@ -763,7 +763,8 @@ chmod 644 closed/*.txt closed/data/*
 chmod 000 "closed/data/$hostile"
 chmod 777 .
 reads() { if ((EUID)); then "$@"; else setpriv --reuid 65534 --regid 65534 --clear-groups "$@"; fi; }
-! reads ./bagit --validate closed >report || give_up 'a file of mode 000 is read'
+! reads ./bagit --validate closed >report 2>errors || give_up 'a file of mode 000 is read'
+[[ $(<errors) == 'bagit: closed/data/'*': permission denied' ]] || give_up "docs/FAULTS.md: it says why: $(<errors)"
 way=$(block docs/FAULTS.md "Going on after a file that can't be read" 1 | sed 's/^bagit/.\/&/; s/DIR/closed/')
 fails docs/FAULTS.md reads bash -c "$way"
 [[ $(cut -d ' ' -f 1-3 printed) == $'701 payload-sum-differs data/z\nclosed rest done,' ]] ||

@@ -9,6 +9,8 @@
 #   couldn't be read; or why nothing could be begun; or a first part of all that, where the output itself was refused or the program was
 #   killed. The folder is as it was.
 #
+# Where the cause is `device`, standard error names what the system refused, and says why, as the system's error has it; nowhere else.
+#
 # It also counts which folders are synced by a making, and how often: at most ten times, the base folder last. It needs strace.
 #
 # usage: tests/refused_calls.sh [PROGRAM]
@@ -99,6 +101,7 @@ move_back() {
 
 made() {
     keeps_all || is_wrong 'a file is lost, or stands twice'
+    [[ $status == 137 ]] || says_why || is_wrong 'standard error says something else of why'
     if [[ $status == 0 ]] || grep -q ' made$' output; then
         is_whole_bag || is_wrong 'made is reported of what is no whole bag'
     fi
@@ -107,13 +110,29 @@ made() {
     move_back && diff -r pristine d >/dev/null || is_wrong 'moved back, the folder is another'
 }
 
+# How the errors are said that may have the cause `device`.
+declare -A said=([EIO]='Input/output error (os error 5)' [EACCES]='permission denied' [ENOSPC]='No space left on device (os error 28)'
+    [EINTR]='Interrupted system call (os error 4)')
+
+# Whether standard error says why, if the cause is `device`, and else doesn't.
+says_why() {
+    local why=${said[${refusal#error=}]:-}
+    grep -E "$refusal_line" failures >whys || true
+    if grep -qE '^d (unread .* device, faults: [0-9]+|not made: .* device)$' output; then
+        [[ $why && $(wc -l <whys) == 1 && $(<whys) =~ ^'bagit: d'(/[^\ ]+)?': '"$why"$ ]]
+    else
+        [[ ! -s whys ]]
+    fi
+}
+
 # Whether an answer is one that a refused call may have.
 answers() {
     if [[ $status == "$wanted" ]] && cmp -s whole output; then return; fi
     [[ $status == 3 ]] || return 1
-    if [[ -s failures ]]; then
+    grep -vE "$refusal_line" failures >complaints || true
+    if [[ -s complaints ]]; then
         # The output was refused, or nothing could be begun.
-        grep -qE '^bagit: (out of memory|output refused|profile unread)' failures && cmp -s -n "$(stat -c %s output)" whole output
+        grep -qE '^bagit: (out of memory|output refused|profile unread)' complaints && cmp -s -n "$(stat -c %s output)" whole output
         return
     fi
     head -n -1 output >front
@@ -126,6 +145,7 @@ checked() {
         cmp -s -n "$(stat -c %s output)" whole output || is_wrong 'what a killed check wrote is no first part of the report'
     else
         answers || is_wrong 'something else is written'
+        says_why || is_wrong 'standard error says something else of why'
     fi
     diff -r pristine d >/dev/null || is_wrong 'the folder was changed'
 }

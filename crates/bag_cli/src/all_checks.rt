@@ -24,11 +24,12 @@ pub(crate) fn check_samples<O: Out>(alloc: Global, plan: &Plan, out: &mut O) -> 
 impl<D: Disks> Work<'_, D> {
     /// Checks the bags in the folders of the plan, one after the other, by this profile or without
     /// one. Gives the greatest status.
-    pub(crate) fn check_each<O: Out>(
+    pub(crate) fn check_each<O: Out, E: Out>(
         &self,
         profile: Option<&Profile>,
         visits: &mut Visits<D>,
         out: &mut O,
+        err: &mut E,
     ) -> Result<u8, Halt>
         ensures { Does O.Out visits.old visits.new out.old out.new (status_of result)
             (AreChecked (D.below (disks_of self.now.folders.now)) self.now.plan.now
@@ -36,7 +37,7 @@ impl<D: Disks> Work<'_, D> {
     {
         let mut greatest = 0;
         for directory in self.plan.directories.as_slice() {
-            let status = self.check_folder(profile, directory.as_str(), visits, out)?;
+            let status = self.check_folder(profile, directory.as_str(), visits, out, err)?;
             greatest = greatest.max(status);
         }
         Ok(greatest)

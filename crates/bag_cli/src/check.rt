@@ -11,25 +11,26 @@ ghost use Rattle.bag_cli.specs.Status as spec;
 use crate::check_outcome::CheckOutcome;
 use crate::sample::sample_tree;
 use crate::work::Work;
-use crate::{Disks, Halt, Visits};
+use crate::{Disks, Halt, Visits, say_trouble};
 use bag_arguments::Plan;
 use bag_facts::{Fault, Part};
 use bag_profile::Profile;
-use bag_text::Text;
+use bag_text::{Text, said};
 use bag_tree::{Out, Tree};
 use bag_walk::{Request, run, run_part};
 use std::alloc::{AllocError, Global};
 
 impl<D: Disks> Work<'_, D> {
     /// Checks the bag in a folder, as the plan says, by this profile or without one. Gives the
-    /// status where the whole report was written. The folder is asked for before anything else that
-    /// takes memory.
-    pub(crate) fn check_folder<O: Out>(
+    /// status where the whole report was written, and says on `err` why the system refused. The
+    /// folder is asked for before anything else that takes memory.
+    pub(crate) fn check_folder<O: Out, E: Out>(
         &self,
         profile: Option<&Profile>,
         directory: &str,
         visits: &mut Visits<D>,
         out: &mut O,
+        err: &mut E,
     ) -> Result<u8, Halt>
         ensures { HasVisited (visits_of visits.old) (visits_of visits.new) (λ own.
             ChecksFolder self.now.plan.now (option_copied profile.entry)
@@ -38,6 +39,7 @@ impl<D: Disks> Work<'_, D> {
     {
         let tree = self.folders.enter(self.alloc, directory, visits)?;
         let (tree, checked) = check_tree(self.alloc, tree, self.plan, profile, directory, out);
+        say_trouble(self.alloc, said::PROGRAM, self.folders.trouble(&tree), err);
         self.folders.leave(tree, visits);
         whole_status(checked)
     }

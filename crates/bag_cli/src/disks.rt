@@ -8,7 +8,7 @@ ghost use Rattle.bag_cli.specs.declared.read_fault.ReadFault.TheVariants.{Unread
 
 use crate::read_fault::ReadFault;
 use crate::system_file::{open_file, read_within};
-use bag_disk::{ReplaceDisk, SystemDisk};
+use bag_disk::{ReplaceDisk, SystemDisk, Trouble};
 use std::alloc::{AllocError, Global};
 use std::os::fd::AsFd;
 use std::rt::Files;
@@ -31,6 +31,12 @@ pub trait Disks {
     fn disk(&self, alloc: Global, base: &str) -> Result<Self::Disk, AllocError>
         ensures state { IfOk result (λ disk. Self.Disk.state disk ≡ below self.now base.now) }
         ensures base { IfOk result (λ disk. is_below disk base.now) };
+
+    /// Why the system refused last in a disk, for people to read, as far as that is known: no
+    /// contract speaks of it.
+    fn trouble<'d>(&self, _disk: &'d Self::Disk) -> Option<&'d Trouble> {
+        None
+    }
 
     /// The bytes of the file at a path, all of them. A file of more than `most` bytes can't be
     /// read.
@@ -57,6 +63,10 @@ where
 
     fn disk(&self, alloc: Global, base: &str) -> Result<SystemDisk<R>, AllocError> {
         SystemDisk::new(self.clone()?, alloc, base)
+    }
+
+    fn trouble<'d>(&self, disk: &'d SystemDisk<R>) -> Option<&'d Trouble> {
+        disk.trouble()
     }
 
     fn read_file(&self, alloc: Global, path: &str, most: u32) -> Result<Vec<u8>, ReadFault> {

@@ -10,6 +10,7 @@ ghost use Rattle.bag_cli.specs.declared.read_fault.ReadFault.TheVariants.{Unread
 use crate::disks::Disks;
 use crate::read_fault::ReadFault;
 use crate::visits::Visits;
+use bag_disk::Trouble;
 use bag_store::FileTree;
 use std::alloc::{AllocError, Global};
 
@@ -55,6 +56,11 @@ impl<'d, D: Disks> Folders<'d, D> {
                 Err(AllocError)
             }
         }
+    }
+
+    /// Why the system refused last in a tree, for people to read, as far as that is known.
+    pub fn trouble<'t>(&self, tree: &'t FileTree<D::Disk>) -> Option<&'t Trouble> {
+        self.disks.trouble(tree.disk())
     }
 
     /// Drops a tree, which is left as it is now.

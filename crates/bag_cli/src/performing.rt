@@ -17,7 +17,7 @@ use bag_tree::{Out, put_pieces};
 use std::alloc::Global;
 
 /// Does a plan: writes the reports, what was made or the help to `out`, and what is refused beside
-/// that to `err`.
+/// that to `err`, as well as why the system refused.
 ///
 /// Gives the exit status, over several folders the greatest: 0 if a bag was checked to its end,
 /// without a cursor, and has no fault, or was made, or help was written; 1 if it has faults, or its
@@ -69,7 +69,7 @@ impl<D: Disks> Work<'_, D> {
             Action::Sample => check_samples(self.alloc, self.plan, out),
             Action::Help(text) => write_text(text.as_str(), out),
             Action::Check => self.check_all(visits, out, err),
-            Action::Make => self.make_all(visits, out),
+            Action::Make => self.make_all(visits, out, err),
         }
     }
 
@@ -86,27 +86,28 @@ impl<D: Disks> Work<'_, D> {
             (D.file (disks_of self.now.folders.now)) self.now.plan.now self.now.plan.now.profile) }
     {
         let Some(path) = &self.plan.profile else {
-            return self.check_each(None, visits, out);
+            return self.check_each(None, visits, out, err);
         };
         match read_profile(self.alloc, self.folders, path.as_str(), visits) {
-            Ok(profile) => self.check_by(&profile, visits, out),
+            Ok(profile) => self.check_by(&profile, visits, out, err),
             Err(refusal) => Ok(refuse_profile(refusal, err)),
         }
     }
 
     /// Says which keys of a profile aren't checked, and checks the bags in the folders of the plan
     /// by it.
-    fn check_by<O: Out>(
+    fn check_by<O: Out, E: Out>(
         &self,
         profile: &Profile,
         visits: &mut Visits<D>,
         out: &mut O,
+        err: &mut E,
     ) -> Result<u8, Halt>
         ensures { Does O.Out visits.old visits.new out.old out.new (status_of result)
             (AreCheckedBy (D.below (disks_of self.now.folders.now)) self.now.plan.now profile.now) }
     {
         say_unchecked(self.plan.quiet, profile, out)?;
-        self.check_each(Some(profile), visits, out)
+        self.check_each(Some(profile), visits, out, err)
     }
 }
 

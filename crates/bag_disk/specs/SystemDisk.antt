@@ -31,7 +31,7 @@ system_state openings opened failures = record {
 -- what the system's disk means
 abbrev pub state_of_system : {R F D : Type 0} → SystemDisk R F D → DiskState
 state_of_system disk =
-    system_state disk.openings (is_some disk.opened) (failures_counted disk.failures)
+    system_state disk.openings (is_some disk.opened) (failures_counted disk.refusals.failures)
 
 -- whether a file is being written is known, and not which
 abbrev pub written_state : Bool → Option (List ℕ)

@@ -1,5 +1,5 @@
 //! The system's calls below a base folder.
-ghost use Rattle.std.specs.Prelude.{◌≡◌, ◌++◌, ◌∷◌, [], IfOk, IsErrOf, OnErr, OnOk};
+ghost use Rattle.std.specs.Prelude.{◌≡◌, ◌++◌, ◌∷◌, [], IfOk, IsErrOf, Ok, OnErr, OnOk};
 ghost use Rattle.std.specs.Fs.{IsDir, IsFile, file_type, metadata_len};
 ghost use Rattle.bag_disk.specs.Location.{location_below};
 ghost use Rattle.bag_disk.specs.declared.disk.DiskFault.TheVariants.{NotFound};
@@ -8,7 +8,7 @@ ghost use Rattle.bag_disk.specs.declared.disk.Entry.TheVariants.{File, Folder, O
 use crate::disk::{DiskFault, Entry};
 use crate::location::{is_location, location_below};
 use crate::ownership::{Access, PRIVATE, RemovedFiles, give_owner, take_after};
-use crate::system_fault::answer_of;
+use crate::system_fault::{SystemFault, answer_at};
 use bag_text::Text;
 use bag_tree::Heard;
 use std::alloc::{AllocError, Global};
@@ -38,6 +38,13 @@ pub(crate) struct BaseFolder {
 #[derive(Drop)]
 pub(crate) struct Synced {
     heard: Heard,
+}
+
+/// What the system opened, and where.
+#[derive(Drop)]
+pub(crate) struct Located<T> {
+    pub(crate) opened: T,
+    pub(crate) location: Text,
 }
 
 impl Synced {
@@ -71,9 +78,9 @@ impl BaseFolder {
     }
 
     /// What stands at a path, where no link at its end is followed.
-    pub(crate) fn entry<R: Files>(&self, rt: &R, path: &str) -> Result<Entry, DiskFault> {
+    pub(crate) fn entry<R: Files>(&self, rt: &R, path: &str) -> Result<Entry, SystemFault> {
         let location = self.location(path)?;
-        entry_at(rt, location.as_str())
+        self.entry_in(rt, location.as_str())
     }
 
     /// The same. The path is often that of what was named last, which knows its location.
@@ -82,10 +89,10 @@ impl BaseFolder {
         rt: &R,
         named: &DirEntry<R, Global>,
         path: &str,
-    ) -> Result<Entry, DiskFault> {
+    ) -> Result<Entry, SystemFault> {
         let location = named.path().as_str();
         if is_location(location, self.path.as_str(), path) {
-            return entry_at(rt, location);
+            return self.entry_in(rt, location);
         }
         self.entry(rt, path)
     }
@@ -95,25 +102,31 @@ impl BaseFolder {
         &self,
         rt: &R,
         folder: &str,
-    ) -> Result<ReadDir<R, Global>, DiskFault> {
+    ) -> Result<Located<ReadDir<R, Global>>, SystemFault> {
         let location = self.location(folder)?;
-        answer_of(fs::read_dir(rt, location.as_str()))
+        let opened = self.answer(&location, fs::read_dir(rt, location.as_str()))?;
+        Ok(Located { opened, location })
     }
 
     /// Opens the file or the folder at a path for reading.
-    pub(crate) fn open<R: Files>(&self, rt: &R, path: &str) -> Result<R::File, DiskFault> {
+    pub(crate) fn open<R: Files>(
+        &self,
+        rt: &R,
+        path: &str,
+    ) -> Result<Located<R::File>, SystemFault> {
         let location = self.location(path)?;
-        answer_of(fs::open(rt, location.as_str()))
+        let opened = self.answer(&location, fs::open(rt, location.as_str()))?;
+        Ok(Located { opened, location })
     }
 
     /// Makes a folder at a path, with the base folder's owner, group and mode as far as the system
     /// lets it: no byte depends on them.
-    pub(crate) fn make_folder<R: Files>(&self, rt: &R, path: &str) -> Result<(), DiskFault>
+    pub(crate) fn make_folder<R: Files>(&self, rt: &R, path: &str) -> Result<(), SystemFault>
     where
         R::File: AsFd,
     {
         let location = self.location(path)?;
-        answer_of(fs::create_dir(rt, location.as_str()))?;
+        self.answer(&location, fs::create_dir(rt, location.as_str()))?;
         if let Ok(folder) = open_folder(rt, location.as_str()) {
             if let Ok(base) = fs::metadata(rt, self.path.as_str()) {
                 give_owner(&folder, &base);
@@ -124,10 +137,10 @@ impl BaseFolder {
     }
 
     /// Moves what stands at one path to another.
-    pub(crate) fn rename<R: Files>(&self, rt: &R, from: &str, to: &str) -> Result<(), DiskFault> {
+    pub(crate) fn rename<R: Files>(&self, rt: &R, from: &str, to: &str) -> Result<(), SystemFault> {
         let from = self.location(from)?;
         let to = self.location(to)?;
-        answer_of(fs::rename(rt, from.as_str(), to.as_str()))
+        self.answer(&to, fs::rename(rt, from.as_str(), to.as_str()))
     }
 
     /// Removes the file at a path, and notes what it was.
@@ -136,11 +149,11 @@ impl BaseFolder {
         rt: &R,
         path: &str,
         removed: &mut RemovedFiles,
-    ) -> Result<(), DiskFault> {
+    ) -> Result<(), SystemFault> {
         let location = self.location(path)?;
-        let metadata = answer_of(fs::symlink_metadata(rt, location.as_str()))?;
+        let metadata = self.answer(&location, fs::symlink_metadata(rt, location.as_str()))?;
         removed.note(path, Access::of(&metadata))?;
-        answer_of(fs::remove_file(rt, location.as_str()))
+        self.answer(&location, fs::remove_file(rt, location.as_str()))
     }
 
     /// Makes a file at a path, open for writing. It replaces none.
@@ -148,7 +161,11 @@ impl BaseFolder {
     /// One whose name begins with a dot is on its way to another name, by `replace`: nobody but
     /// this process's user may open it until then. Any other has the base folder's owner and group,
     /// as far as the system lets it.
-    pub(crate) fn create<R: Files>(&self, rt: &R, path: &str) -> Result<R::File, DiskFault>
+    pub(crate) fn create<R: Files>(
+        &self,
+        rt: &R,
+        path: &str,
+    ) -> Result<Located<R::File>, SystemFault>
     where
         R::File: AsFd,
     {
@@ -157,21 +174,26 @@ impl BaseFolder {
         }
         let file = self.create_with(rt, path, USUAL)?;
         if let Ok(base) = fs::metadata(rt, self.path.as_str()) {
-            give_owner(&file, &base);
+            give_owner(&file.opened, &base);
         }
         Ok(file)
     }
 
     /// Makes a file at a path, open for writing, with a mode. It replaces none.
-    fn create_with<R: Files>(&self, rt: &R, path: &str, mode: u32) -> Result<R::File, DiskFault> {
+    fn create_with<R: Files>(
+        &self,
+        rt: &R,
+        path: &str,
+        mode: u32,
+    ) -> Result<Located<R::File>, SystemFault> {
         let location = self.location(path)?;
-        answer_of(
-            OpenOptions::new()
-                .write(true)
-                .create_new(true)
-                .mode(mode)
-                .open(rt, location.as_str()),
-        )
+        let created = OpenOptions::new()
+            .write(true)
+            .create_new(true)
+            .mode(mode)
+            .open(rt, location.as_str());
+        let opened = self.answer(&location, created)?;
+        Ok(Located { opened, location })
     }
 
     /// Gives the file at one path another, in place of any file that has it. Before that it takes
@@ -184,14 +206,14 @@ impl BaseFolder {
         from: &str,
         to: &str,
         removed: &RemovedFiles,
-    ) -> Result<(), DiskFault>
+    ) -> Result<(), SystemFault>
     where
         R::File: AsFd,
     {
         if let Some(model) = self.model(rt, to, removed)? {
             let location = self.location(from)?;
-            let begun = answer_of(open_file(rt, location.as_str()))?;
-            answer_of(take_after(&begun, model))?;
+            let begun = self.answer(&location, open_file(rt, location.as_str()))?;
+            self.answer(&location, take_after(&begun, model))?;
         }
         self.rename(rt, from, to)
     }
@@ -202,7 +224,7 @@ impl BaseFolder {
         rt: &R,
         path: &str,
         removed: &RemovedFiles,
-    ) -> Result<Option<Access>, DiskFault> {
+    ) -> Result<Option<Access>, SystemFault> {
         if let Some(access) = self.access(rt, path)? {
             return Ok(Some(access));
         }
@@ -213,13 +235,13 @@ impl BaseFolder {
     }
 
     /// Who may open the file at a path, where one stands there.
-    fn access<R: Files>(&self, rt: &R, path: &str) -> Result<Option<Access>, DiskFault> {
+    fn access<R: Files>(&self, rt: &R, path: &str) -> Result<Option<Access>, SystemFault> {
         let location = self.location(path)?;
         match fs::symlink_metadata(rt, location.as_str()) {
             Ok(metadata) if metadata.is_file() => Ok(Some(Access::of(&metadata))),
             Ok(_) => Ok(None),
             Err(error) if error.kind() == ErrorKind::NotFound => Ok(None),
-            Err(error) => Err(DiskFault::of(&error)),
+            Err(error) => Err(SystemFault::at(self.alloc, location.as_str(), error)),
         }
     }
 
@@ -229,15 +251,28 @@ impl BaseFolder {
         rt: &R,
         folder: &str,
         synced: &mut Synced,
-    ) -> Result<(), DiskFault>
+    ) -> Result<(), SystemFault>
         ensures noted { OnOk result
             (synced.new.heard.bytes ≡ synced.old.heard.bytes ++ folder.now ++ 0 ∷ []) }
         ensures refused { OnErr result (synced.new.heard.bytes ≡ synced.old.heard.bytes) }
     {
-        let opened = self.open(rt, folder)?;
-        answer_of(opened.sync_all())?;
+        let Located { opened, location } = self.open(rt, folder)?;
+        self.answer(&location, opened.sync_all())?;
         synced.note(folder);
         Ok(())
+    }
+
+    /// What stands where this is for the system.
+    fn entry_in<R: Files>(&self, rt: &R, location: &str) -> Result<Entry, SystemFault> {
+        let metadata = answer_at(self.alloc, location, fs::symlink_metadata(rt, location))?;
+        Ok(entry_of(&metadata))
+    }
+
+    /// What a call of the system answered at a location, its error as a fault.
+    fn answer<T>(&self, location: &Text, answer: io::Result<T>) -> Result<T, SystemFault>
+        ensures { IfOk result (λ given. answer ≡ Ok given) }
+    {
+        answer_at(self.alloc, location.as_str(), answer)
     }
 
     /// Where a path stands. Below an empty base folder nothing does.
@@ -281,12 +316,6 @@ fn open_seen<R: Files>(rt: &R, location: &str, seen: &Metadata) -> io::Result<R:
     } else {
         Err(io::Error::from(ErrorKind::NotFound))
     }
-}
-
-/// What stands where this is for the system.
-fn entry_at<R: Files>(rt: &R, location: &str) -> Result<Entry, DiskFault> {
-    let metadata = answer_of(fs::symlink_metadata(rt, location))?;
-    Ok(entry_of(&metadata))
 }
 
 /// What stands where metadata is of, which follows no link.

@@ -34,6 +34,7 @@ mod refusal;
 mod replace_disk;
 mod system_disk;
 mod system_fault;
+mod trouble;
 mod writable_disk;
 
 pub use disk::{Disk, DiskFault, Entry};
@@ -44,4 +45,5 @@ pub use opening::{check_is_folder, open_at};
 pub use refusal::{Refusal, Subject};
 pub use replace_disk::ReplaceDisk;
 pub use system_disk::SystemDisk;
+pub use trouble::Trouble;
 pub use writable_disk::WritableDisk;

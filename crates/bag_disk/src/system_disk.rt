@@ -1,5 +1,5 @@
 //! The system's disk.
-ghost use Rattle.std.specs.Prelude.{◌≡◌, ◌<◌, ◌++◌, ◌∷◌, [], IfOk, IsTrue, None, Ok, OnErr, OnOk};
+ghost use Rattle.std.specs.Prelude.{◌≡◌, ◌<◌, ◌≤◌, ◌++◌, ◌∷◌, [], IfOk, IsTrue, None, Ok, OnErr, OnOk};
 ghost use Rattle.std.specs.Prelude.{is_some, false, length};
 ghost use Rattle.std.specs.Fs.{dir_entry_name};
 ghost use Rattle.bag_disk.specs.SystemDisk.{base_of, state_of_system, synced_by, system_state};
@@ -7,18 +7,18 @@ ghost use Rattle.bag_disk.specs.SystemDisk.{written_state};
 ghost use Rattle.bag_disk.specs.DiskNodes.{OnlyLooks, OnlySyncs, empty_disk};
 ghost use Rattle.bag_disk.specs.Refusal.{CountsAs, at_known};
 
-use crate::base_folder::{BaseFolder, Synced};
+use crate::base_folder::{BaseFolder, Located, Synced};
 use crate::disk::{Disk, DiskFault, Entry};
-use crate::failures::Failures;
 use crate::ownership::RemovedFiles;
 use crate::refusal::Subject;
 use crate::replace_disk::ReplaceDisk;
-use crate::system_fault::answer_of;
+use crate::system_fault::{SystemFault, answer_at};
+use crate::trouble::{Refusals, Trouble};
 use crate::writable_disk::WritableDisk;
 use bag_text::{Items, Text};
 use std::alloc::{AllocError, Global};
 use std::fs::{DirEntry, OpenFile, ReadDir};
-use std::io::{Read, Write};
+use std::io::{self, ErrorKind, Read, Write};
 use std::os::fd::AsFd;
 use std::rt::Files;
 
@@ -30,13 +30,13 @@ pub struct SystemDisk<R: Files> {
     alloc: Global,
     base: BaseFolder,
     openings: Items<Text>,
-    opened: Option<R::File>,
-    written: Option<R::File>,
+    opened: Option<Located<R::File>>,
+    written: Option<Located<R::File>>,
     synced: Synced,
-    entered: Option<ReadDir<R, Global>>,
+    entered: Option<Located<ReadDir<R, Global>>>,
     /// What was named last.
     named: Option<DirEntry<R, Global>>,
-    failures: Failures,
+    refusals: Refusals,
     removed: RemovedFiles,
 }
 
@@ -48,7 +48,7 @@ fn name_of<R: Files>(alloc: Global, entry: &DirEntry<R, Global>) -> Result<Text,
 }
 
 /// What a write of bytes answered: one that took none of some is refused.
-fn written_of(answer: Result<usize, DiskFault>, bytes: &[u8]) -> Result<usize, DiskFault>
+fn written_of(answer: io::Result<usize>, bytes: &[u8]) -> io::Result<usize>
     ensures same { IfOk result (λ count. answer ≡ Ok count) }
     ensures some { IfOk result (λ count. 0 < length bytes.now → 0 < count) }
 {
@@ -56,7 +56,7 @@ fn written_of(answer: Result<usize, DiskFault>, bytes: &[u8]) -> Result<usize, D
     if has_written(count, bytes) {
         Ok(count)
     } else {
-        Err(DiskFault::Device)
+        Err(io::Error::from(ErrorKind::WriteZero))
     }
 }
 
@@ -67,16 +67,42 @@ fn has_written(count: usize, bytes: &[u8]) -> bool
     count > 0 || bytes.is_empty()
 }
 
+impl<F: Read> Located<F> {
+    /// Reads the next bytes.
+    fn read(&mut self, alloc: Global, buffer: &mut [u8]) -> Result<usize, SystemFault>
+        ensures { IfOk result (λ count. count ≤ length buffer.old) }
+    {
+        let count = self.opened.read(buffer);
+        answer_at(alloc, self.location.as_str(), count)
+    }
+}
+
+impl<F: Write> Located<F> {
+    /// Writes first bytes of these: where there are some, one at least.
+    fn write(&mut self, alloc: Global, bytes: &[u8]) -> Result<usize, SystemFault>
+        ensures within { IfOk result (λ count. count ≤ length bytes.now) }
+        ensures some { IfOk result (λ count. 0 < length bytes.now → 0 < count) }
+    {
+        let count = written_of(self.opened.write(bytes), bytes);
+        answer_at(alloc, self.location.as_str(), count)
+    }
+}
+
 impl<R: Files> SystemDisk<R> {
     /// Closes the file that is being read and the one that is being written.
     fn close_all(&mut self)
         ensures openings { self.new.openings ≡ self.old.openings }
         ensures opened { self.new.opened ≡ None }
         ensures written { self.new.written ≡ None }
-        ensures failures { self.new.failures ≡ self.old.failures }
+        ensures refusals { self.new.refusals ≡ self.old.refusals }
     {
         self.opened = None;
         self.written = None;
+    }
+
+    /// Why the system refused last, as far as that is known.
+    pub fn trouble(&self) -> Option<&Trouble> {
+        self.refusals.last()
     }
 
     /// Notes that a file was opened.
@@ -84,7 +110,7 @@ impl<R: Files> SystemDisk<R> {
         ensures noted { OnOk result (self.new.openings ≡ self.old.openings ++ path.now ∷ []) }
         ensures refused { OnErr result (self.new.openings ≡ self.old.openings) }
         ensures same { self.new.opened ≡ self.old.opened }
-        ensures failures { self.new.failures ≡ self.old.failures }
+        ensures refusals { self.new.refusals ≡ self.old.refusals }
     {
         self.openings.push(Text::from_str(self.alloc, path)?)
     }
@@ -95,7 +121,7 @@ impl<R: Files + AllocGlobal + Clone + Drop> Disk for SystemDisk<R> {
 
     fn entry_at(&mut self, path: &str) -> Result<Entry, DiskFault> {
         let found = self.base.entry(&self.rt, path);
-        self.failures.counted(Subject::Path, found)
+        self.refusals.counted(Subject::Path, found)
     }
 
     fn named_entry(&mut self, path: &str) -> Result<Entry, DiskFault> {
@@ -103,36 +129,39 @@ impl<R: Files + AllocGlobal + Clone + Drop> Disk for SystemDisk<R> {
             Some(named) => self.base.entry_beside(&self.rt, named, path),
             None => self.base.entry(&self.rt, path),
         };
-        self.failures.counted(Subject::Known, found)
+        self.refusals.counted(Subject::Known, found)
     }
 
     fn enter(&mut self, folder: &str) -> Result<(), DiskFault> {
         let entries = self.base.entries(&self.rt, folder);
-        self.entered = Some(self.failures.counted(Subject::Known, entries)?);
+        self.entered = Some(self.refusals.counted(Subject::Known, entries)?);
         Ok(())
     }
 
     fn next_name(&mut self) -> Result<Option<Text>, DiskFault> {
         let Some(entered) = &mut self.entered else {
-            return self.failures.counted(Subject::Name, Err(DiskFault::Device));
+            return self
+                .refusals
+                .counted(Subject::Name, Err(DiskFault::Device.into()));
         };
-        match entered.next() {
+        match entered.opened.next() {
             None => Ok(None),
             Some(Ok(entry)) => {
                 let name = name_of(self.alloc, &entry);
                 self.named = Some(entry);
-                self.failures.name(name?)
+                self.refusals.failures.name(name?)
             }
-            Some(Err(error)) => self
-                .failures
-                .counted(Subject::Name, Err(DiskFault::of(&error))),
+            Some(Err(error)) => {
+                let fault = SystemFault::at(self.alloc, entered.location.as_str(), error);
+                self.refusals.counted(Subject::Name, Err(fault))
+            }
         }
     }
 
     fn open(&mut self, path: &str) -> Result<(), DiskFault> {
         self.opened = None;
         let file = self.base.open(&self.rt, path);
-        let file = self.failures.counted(Subject::Path, file)?;
+        let file = self.refusals.counted(Subject::Path, file)?;
         self.note(path)?;
         self.opened = Some(file);
         Ok(())
@@ -149,11 +178,11 @@ impl<R: Files + AllocGlobal + Clone + Drop> Disk for SystemDisk<R> {
     fn read(&mut self, buffer: &mut [u8]) -> Result<usize, DiskFault> {
         let Some(file) = &mut self.opened else {
             return self
-                .failures
-                .counted(Subject::Known, Err(DiskFault::Device));
+                .refusals
+                .counted(Subject::Known, Err(DiskFault::Device.into()));
         };
-        let count = answer_of(file.read(buffer));
-        self.failures.counted(Subject::Known, count)
+        let count = file.read(self.alloc, buffer);
+        self.refusals.counted(Subject::Known, count)
     }
 
     ghost is_disk = { λ _. empty_disk };
@@ -167,21 +196,21 @@ where
 
     fn make_folder(&mut self, path: &str) -> Result<(), DiskFault> {
         let made = self.base.make_folder(&self.rt, path);
-        self.failures.counted(Subject::Making, made)?;
+        self.refusals.counted(Subject::Making, made)?;
         self.close_all();
         Ok(())
     }
 
     fn rename(&mut self, from: &str, to: &str) -> Result<(), DiskFault> {
         let renamed = self.base.rename(&self.rt, from, to);
-        self.failures.counted(Subject::Known, renamed)?;
+        self.refusals.counted(Subject::Known, renamed)?;
         self.close_all();
         Ok(())
     }
 
     fn create(&mut self, path: &str) -> Result<(), DiskFault> {
         let file = self.base.create(&self.rt, path);
-        let file = self.failures.counted(Subject::Making, file)?;
+        let file = self.refusals.counted(Subject::Making, file)?;
         self.opened = None;
         self.written = Some(file);
         Ok(())
@@ -190,11 +219,11 @@ where
     fn write(&mut self, bytes: &[u8]) -> Result<usize, DiskFault> {
         let Some(file) = &mut self.written else {
             return self
-                .failures
-                .counted(Subject::Known, Err(DiskFault::Device));
+                .refusals
+                .counted(Subject::Known, Err(DiskFault::Device.into()));
         };
-        let count = written_of(answer_of(file.write(bytes)), bytes);
-        let count = self.failures.counted(Subject::Known, count)?;
+        let count = file.write(self.alloc, bytes);
+        let count = self.refusals.counted(Subject::Known, count)?;
         self.opened = None;
         Ok(count)
     }
@@ -202,11 +231,12 @@ where
     fn sync(&mut self) -> Result<(), DiskFault> {
         let Some(file) = &self.written else {
             return self
-                .failures
-                .counted(Subject::Known, Err(DiskFault::Device));
+                .refusals
+                .counted(Subject::Known, Err(DiskFault::Device.into()));
         };
-        let synced = answer_of(file.sync_all());
-        self.failures.counted(Subject::Known, synced)?;
+        let synced = file.opened.sync_all();
+        let synced = answer_at(self.alloc, file.location.as_str(), synced);
+        self.refusals.counted(Subject::Known, synced)?;
         self.close_all();
         Ok(())
     }
@@ -223,7 +253,7 @@ where
             at_known result (state_of_system self.old) (state_of_system self.new) }
     {
         let synced = self.base.sync(&self.rt, folder, &mut self.synced);
-        self.failures.counted(Subject::Known, synced)
+        self.refusals.counted(Subject::Known, synced)
     }
 }
 
@@ -233,14 +263,14 @@ where
 {
     fn replace(&mut self, from: &str, to: &str) -> Result<(), DiskFault> {
         let replaced = self.base.replace(&self.rt, from, to, &self.removed);
-        self.failures.counted(Subject::Known, replaced)?;
+        self.refusals.counted(Subject::Known, replaced)?;
         self.close_all();
         Ok(())
     }
 
     fn remove(&mut self, path: &str) -> Result<(), DiskFault> {
         let removed = self.base.remove(&self.rt, path, &mut self.removed);
-        self.failures.counted(Subject::Path, removed)?;
+        self.refusals.counted(Subject::Path, removed)?;
         self.close_all();
         Ok(())
     }
@@ -263,7 +293,7 @@ impl<R: Files + AllocGlobal + Clone + Drop> SystemDisk<R> {
             synced: Synced::none(),
             entered: None,
             named: None,
-            failures: Failures::none(),
+            refusals: Refusals::none(),
             removed: RemovedFiles::none(alloc),
         })
     }
