@@ -22,8 +22,9 @@ ERRORS = ("EIO", "EACCES", "ENOSPC", "EINTR", "ENOMEM")
 SECONDS = 60
 LEFT_ALONE = ("execve", "exit", "exit_group")
 CAUSES = "device|special|name|not-found|changed|too-many|exists|memory"
-NOT_RENEWED = re.compile(rf"d not renewed: (?:(read|put|remove) (\S+) (?:{CAUSES})|out of memory)\n")
+NOT_RENEWED = re.compile(rf"d not renewed: (?:(read|put|remove) (\S+) ({CAUSES})|out of memory)\n")
 COMPLAINT = re.compile(r"bagit-renew: (out of memory|output refused)\n")
+WHY = re.compile(r"bagit-renew: d(?:/\S+)?: (?:not there|not a folder|permission denied|.+ \(os error \d+\))\n")
 INFO, PRIVATE = b"bag-info.txt", 0o100600
 PLAIN = {b"data/first.txt": b"one", b"data/empty": b"", b"data/large": b"x" * 200_000}
 PAYLOAD = {**PLAIN, b"data/letters/50%.txt": b"two"}
@@ -176,9 +177,10 @@ class Judge:
     def check_refusal(self, files, ended):
         line = NOT_RENEWED.fullmatch(ended.said)
         if not line:
-            demand(COMPLAINT.fullmatch(ended.complaint), f"status 3, and {ended.said!r}, {ended.complaint!r}")
+            demand(COMPLAINT.fullmatch(WHY.sub("", ended.complaint)), f"status 3, and {ended.said!r}, {ended.complaint!r}")
             return
-        demand(not ended.complaint, ended.complaint)
+        is_why = WHY.fullmatch(ended.complaint) if line[3] == "device" else not ended.complaint
+        demand(is_why, f"it said {ended.said!r}, and {ended.complaint!r}")
         if line[1] == "put":
             demand(line[2].encode() in self.wanted.put, f"it said {ended.said!r}")
         elif line[1] == "remove":

@@ -6,8 +6,9 @@ ghost use Rattle.bag_renew_cli.specs.Renewals.{AnswersDeed, AreDoneOn, IsDone};
 
 use crate::printing::print_manifest;
 use crate::renewing::{plan_and_report, renew_and_report};
+use crate::said::PROGRAM;
 use crate::{BagAction, RenewPlan};
-use bag_cli::{Disks, Folders, Halt, Visits};
+use bag_cli::{Disks, Folders, Halt, Visits, say_trouble};
 use bag_tree::{Out, Refused, ReplaceTree};
 use std::alloc::Global;
 
@@ -41,7 +42,8 @@ impl<D: Disks> Renewals<'_, D> {
         Ok(greatest)
     }
 
-    /// Does it with the bag in a folder. Gives the status where that was reported.
+    /// Does it with the bag in a folder. Gives the status where that was reported, and says on
+    /// `err` why the system refused.
     fn do_one<O: Out, E: Out>(
         &self,
         directory: &str,
@@ -56,6 +58,7 @@ impl<D: Disks> Renewals<'_, D> {
     {
         let mut tree = self.folders.enter(self.alloc, directory, visits)?;
         let told = self.do_with(&mut tree, directory, out, err);
+        say_trouble(self.alloc, PROGRAM, self.folders.trouble(&tree), err);
         self.folders.leave(tree, visits);
         Ok(told?)
     }
