@@ -745,7 +745,7 @@ END
     named=$(block docs/FAULTS.md 'Paths that are too long' 1 | sed 's/DIR/long/g' | bash -e | wc -l)
     bagit --quiet long
     status=0
-    bagit --validate long >printed || status=$?
+    bagit --validate long >printed 2>errors || status=$?
     [[ "$named $status" == "$((last - 69)) $(((last - 69) * 3))" ]] ||
         give_up "docs/FAULTS.md: $named paths are named, where the check says: $(<printed)"
 done
