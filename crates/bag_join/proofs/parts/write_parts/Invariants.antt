@@ -1,0 +1,8 @@
+use Rattle.std.proofs.Common.{length}
+use Rattle.bag_join.specs.Join.{JoinsFirst}
+use Rattle.bag_join.proofs.parts.write_parts.Given as goal
+
+abbrev pub invariant-parts : goal.invariant-parts
+invariant-parts g l =
+    JoinsFirst l.plan.name l.plan.listed (length l.plan.places.items) (g.R.Reports.state l.initial.input.reports)
+    (g.R.Reports.state l.input.reports) l.last (g.W.Out.state l.initial.out) (g.W.Out.state l.out) l.index l.total

@@ -1,0 +1,33 @@
+-- Lines of faults that are written in order, in several reports one after the other.
+use Rattle.std.specs.Prelude.{ℕ, ◌≡◌, List, [], ◌∷◌, Option, None, Some, ⊤, length}
+use Rattle.std.specs.Io.KnownBytes.{Appends}
+use Rattle.std.specs.List.{concat}
+use Rattle.std.specs.declared.cmp.Ordering.TheVariants.{Less}
+use Rattle.bag_tree.specs.Out.{OutState}
+use Rattle.bag_facts.specs.FaultOrder.{fault_cmp}
+use Rattle.bag_facts.specs.LineOf.{IsFault}
+use Rattle.bag_facts.specs.declared.fault.Fault.{Fault}
+use Rattle.bag_walk.specs.Ending.{written}
+
+-- a fault stands after the last one, if there is one
+abbrev pub IsAfter : Option Fault → Fault → Type 0
+IsAfter None f = ⊤
+IsAfter (Some g) f = fault_cmp g f ≡ Less
+
+-- each of these is a fault, and stands after the one before it, the first after the last one
+abbrev pub AreAfter : Option Fault → List Fault → Type 0
+AreAfter last [] = ⊤
+AreAfter last (f ∷ rest) = IsFault f × IsAfter last f × AreAfter (Some f) rest
+
+-- the last of these, or the last one before them where there are none
+abbrev pub last_of : Option Fault → List Fault → Option Fault
+last_of last [] = last
+last_of last (f ∷ rest) = last_of (Some f) rest
+
+-- these n faults stand in order after the last one, and their lines were written
+pub record WritesFaults (last new_last : Option Fault) (before after : OutState) (n : ℕ)
+    (faults : List Fault) : Type 0 where
+  pub in_order : AreAfter last faults
+  pub last_is : new_last ≡ last_of last faults
+  pub count : n ≡ length faults
+  pub wrote : Appends before.taken after.taken (concat (written faults))

@@ -1,0 +1,6 @@
+pub mod DoneLine
+pub mod Faults
+pub mod Input
+pub mod Join
+pub mod Laws
+pub mod Reports

@@ -1,0 +1,75 @@
+//! The lines of faults at the front of a report.
+ghost use Rattle.std.specs.Prelude.{◌≡◌, ◌↔◌, ◌++◌, IfOk, IfSome, IsTrue, List, OnOk};
+ghost use Rattle.std.specs.List.{concat};
+ghost use Rattle.std.specs.Option.{option_copied};
+ghost use Rattle.bag_facts.specs.LineOf.{IsLineOf};
+ghost use Rattle.bag_facts.specs.declared.fault.Fault.{Fault as FaultValue};
+ghost use Rattle.bag_join.specs.Reports.{ReadsOn};
+ghost use Rattle.bag_join.specs.Faults.{IsAfter, WritesFaults};
+ghost use Rattle.bag_walk.specs.Ending.{written};
+
+use crate::input::{Input, LINE_FEED};
+use crate::refusal::Cause;
+use crate::reports::Reports;
+use bag_facts::{CursorFault, Fault};
+use bag_tree::{Out, put_all};
+use std::alloc::{AllocError, Global};
+use std::str;
+
+/// Hands the lines of the open report to the output, as long as they are lines of faults, each
+/// after the one before it, and counts them. The line that is none is left, with its end.
+pub(crate) fn write_faults<R: Reports, W: Out>(
+    alloc: Global,
+    input: &mut Input<R>,
+    line: &mut Vec<u8>,
+    last: &mut Option<Fault>,
+    out: &mut W,
+) -> Result<u64, Cause>
+    ensures reads { OnOk result
+        (ReadsOn (R.state input.old.reports) (R.state input.new.reports)) }
+    ensures wrote { IfOk result (λ n. (faults : List FaultValue)
+        × WritesFaults last.old last.new (W.state out.old) (W.state out.new) n faults
+        × (input.new.passed.bytes
+        ≡ input.old.passed.bytes ++ (concat (written faults) ++ line.new.items))) }
+{
+    'lines: for count in 0..u64::MAX {
+        if !input.next_line(line)? {
+            return Err(Cause::CutOff);
+        }
+        let found = fault_in(alloc, line.as_slice())?;
+        line.push(LINE_FEED).map_err(AllocError::from)?;
+        let Some(fault) = found else {
+            return Ok(count);
+        };
+        if !is_after(last.as_ref(), &fault) {
+            return Err(Cause::OutOfOrder);
+        }
+        put_all(out, line.as_slice())?;
+        *last = Some(fault);
+    }
+    Err(Cause::NotAReport)
+}
+
+/// The fault whose line this is, without its end, if it is one.
+fn fault_in(alloc: Global, line: &[u8]) -> Result<Option<Fault>, AllocError>
+    ensures { IfOk result (λ found. IfSome found (IsLineOf line.now)) }
+{
+    let Ok(text) = str::from_utf8(line) else {
+        return Ok(None);
+    };
+    match Fault::from_line(alloc, text) {
+        Ok(fault) => Ok(Some(fault)),
+        Err(CursorFault::NotALine) => Ok(None),
+        Err(CursorFault::Memory) => Err(AllocError),
+    }
+}
+
+/// Whether a fault stands after the last one, if there is one.
+fn is_after(last: Option<&Fault>, fault: &Fault) -> bool
+    ensures { IsTrue result ↔ IsAfter (option_copied last.entry) fault.now }
+{
+    match last {
+        None => true,
+        Some(last) => last < fault,
+    }
+}

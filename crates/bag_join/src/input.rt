@@ -1,0 +1,180 @@
+//! Reports, read line by line.
+ghost use Rattle.std.specs.Prelude.{◌≡◌, ◌<◌, ◌++◌, ◌∷◌, [], IfOk, List, MatchBool, MatchOption};
+ghost use Rattle.std.specs.Prelude.{OnOk, vec_len, ℕ};
+ghost use Rattle.bag_join.specs.Input.{IsAhead, IsPassed, ended_line};
+ghost use Rattle.bag_join.specs.Reports.{Opens, ReadsOn};
+
+use crate::refusal::Cause;
+use crate::reports::{Reports, Unreadable};
+use bag_tree::Heard;
+use std::alloc::{AllocError, Global};
+
+/// What ends a line.
+pub(crate) const LINE_FEED: u8 = b'\n';
+
+/// How many bytes are read at once.
+const PIECE_BYTES: usize = 65_536;
+
+/// Reports, of which the open one is read through a buffer. What has passed of it is noted for
+/// clauses alone.
+#[derive(Drop)]
+pub(crate) struct Input<R: Reports> {
+    pub(crate) reports: R,
+    buffer: Vec<u8>,
+    at: usize,
+    end: usize,
+    pub(crate) passed: Heard,
+    ghost ahead: { IsAhead (R.state reports).given passed.bytes buffer.items at end },
+}
+
+impl<R: Reports> Input<R> {
+    /// Reports, of which none is read yet. They come back where memory runs out.
+    pub(crate) fn new(alloc: Global, reports: R) -> Result<Input<R>, R>
+        ensures { IfOk result (λ input. input.reports ≡ reports) }
+    {
+        let mut buffer = Vec::new(alloc);
+        match buffer.resize(PIECE_BYTES, 0) {
+            Ok(()) => Ok(Input::over(reports, buffer)),
+            Err(AllocError) => Err(reports),
+        }
+    }
+
+    /// Reports that have given these bytes, and a buffer of which nothing is used.
+    fn over(reports: R, buffer: Vec<u8>) -> Input<R>
+        ghost given: { List ℕ }
+        requires some { 0 < vec_len buffer }
+        requires all_passed { (R.state reports).given ≡ given }
+        ensures { result.reports ≡ reports }
+    {
+        Input {
+            reports,
+            buffer,
+            at: 0,
+            end: 0,
+            passed: Heard::new(),
+        }
+    }
+
+    /// The reports, as they were left.
+    pub(crate) fn into_reports(self) -> R
+        ensures { result ≡ self.reports }
+    {
+        let Input {
+            reports,
+            buffer: _,
+            at: _,
+            end: _,
+            passed: _,
+        } = self;
+        reports
+    }
+
+    /// How many reports there are.
+    pub(crate) fn count(&self) -> u64 {
+        self.reports.count()
+    }
+
+    /// Opens a report from its beginning.
+    pub(crate) fn open(&mut self, number: u64) -> Result<(), Unreadable>
+        ensures opened { OnOk result
+            (Opens (R.state self.old.reports) (R.state self.new.reports) number) }
+        ensures passed { OnOk result (self.new.passed.bytes ≡ []) }
+    {
+        if self.reports.count() <= number {
+            return Err(Unreadable);
+        }
+        self.reports.open(number)?;
+        self.at = 0;
+        self.end = 0;
+        self.passed = Heard::new();
+        Ok(())
+    }
+
+    /// Fills the buffer, of which all has passed, and says whether the report had more.
+    fn refill(&mut self) -> Result<bool, Unreadable>
+        requires { self.old.at ≡ self.old.end }
+        ensures reads { ReadsOn (R.state self.old.reports) (R.state self.new.reports) }
+        ensures passed { self.new.passed.bytes ≡ self.old.passed.bytes }
+        ensures more { IfOk result (λ more. MatchBool more (self.new.at < self.new.end)
+            (IsPassed (R.state self.new.reports) self.old.passed.bytes)) }
+    {
+        let count = self.reports.read(self.buffer.as_mut_slice())?;
+        self.at = 0;
+        self.end = count;
+        Ok(count != 0)
+    }
+
+    /// Whether the open report has more.
+    fn has_more(&mut self) -> Result<bool, Unreadable>
+        ensures reads { ReadsOn (R.state self.old.reports) (R.state self.new.reports) }
+        ensures passed { self.new.passed.bytes ≡ self.old.passed.bytes }
+        ensures more { IfOk result (λ more. MatchBool more (self.new.at < self.new.end)
+            (IsPassed (R.state self.new.reports) self.old.passed.bytes)) }
+    {
+        if self.at == self.end {
+            self.refill()
+        } else {
+            Ok(true)
+        }
+    }
+
+    /// The byte that is next in the buffer.
+    fn pass(&mut self) -> u8
+        requires { self.old.at < self.old.end }
+        ensures reports { self.new.reports ≡ self.old.reports }
+        ensures passed { self.new.passed.bytes ≡ self.old.passed.bytes ++ result ∷ [] }
+    {
+        let byte = self.buffer[self.at];
+        self.at += 1;
+        self.passed.note(&[byte]);
+        byte
+    }
+
+    /// The next byte of the open report, or none at its end.
+    fn next_byte(&mut self) -> Result<Option<u8>, Unreadable>
+        ensures reads { ReadsOn (R.state self.old.reports) (R.state self.new.reports) }
+        ensures next { IfOk result (λ next. MatchOption next
+            ((self.new.passed.bytes ≡ self.old.passed.bytes)
+            × IsPassed (R.state self.new.reports) self.old.passed.bytes)
+            (λ byte. self.new.passed.bytes ≡ self.old.passed.bytes ++ byte ∷ [])) }
+    {
+        if !self.has_more()? {
+            return Ok(None);
+        }
+        Ok(Some(self.pass()))
+    }
+
+    /// Puts the next line, without its end, in place of what the buffer held, or what stands after
+    /// the last line; and says whether it has an end.
+    pub(crate) fn next_line(&mut self, line: &mut Vec<u8>) -> Result<bool, Cause>
+        ensures reads { OnOk result
+            (ReadsOn (R.state self.old.reports) (R.state self.new.reports)) }
+        ensures line { IfOk result (λ has_end. self.new.passed.bytes
+            ≡ self.old.passed.bytes ++ ended_line line.new.items has_end) }
+    {
+        line.clear();
+        'bytes: for _ in 0..u64::MAX {
+            let Some(byte) = self.next_byte()? else {
+                return Ok(false);
+            };
+            if byte == LINE_FEED {
+                return Ok(true);
+            }
+            line.push(byte).map_err(AllocError::from)?;
+        }
+        Err(Cause::NotAReport)
+    }
+
+    /// Sees that the open report has come to its end.
+    pub(crate) fn expect_end(&mut self) -> Result<(), Cause>
+        ensures reads { OnOk result
+            (ReadsOn (R.state self.old.reports) (R.state self.new.reports)) }
+        ensures ended { OnOk result
+            (IsPassed (R.state self.new.reports) self.old.passed.bytes) }
+    {
+        match self.next_byte()? {
+            None => Ok(()),
+            Some(_) => Err(Cause::OtherCount),
+        }
+    }
+}

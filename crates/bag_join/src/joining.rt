@@ -1,0 +1,151 @@
+//! Reports of all parts, joined.
+ghost use Rattle.std.specs.Prelude.{◌≡◌, IfErr, IfOk, None, OnOk, Option, vec_len};
+ghost use Rattle.std.specs.Io.KnownBytes.{Appends};
+ghost use Rattle.bag_facts.specs.declared.fault.Fault.{Fault as FaultValue};
+ghost use Rattle.bag_walk.specs.Ending.{ended};
+ghost use Rattle.bag_join.specs.Join.{IsJoined, IsSeenFirst, JoinsFirst, full_closing};
+ghost use Rattle.bag_join.specs.Reports.{all_given};
+ghost use Rattle.bag_tree.specs.Pieces.{Writes};
+
+use crate::input::Input;
+use crate::nowhere::Nowhere;
+use crate::parts::write_parts;
+use crate::plan::{Plan, plan_of};
+use crate::refusal::{Cause, Refusal};
+use crate::reports::Reports;
+use bag_facts::put_line;
+use bag_text::said;
+use bag_tree::{Out, Refused};
+use bag_walk::Outcome;
+use itoa::Buffer;
+use std::alloc::Global;
+
+/// Joins the reports of all parts of a check into the report of one check, and hands it to the
+/// output.
+///
+/// They are the whole reports of all parts, in any order, each once, of one bag and of the same
+/// files, and their faults are in order; else it says which one isn't, and why, and hands nothing
+/// to the output. If a report is changed between the last two times that it is read, some faults
+/// may be handed to the output, but no closing line.
+pub fn join<R: Reports, W: Out>(
+    alloc: Global,
+    reports: R,
+    out: &mut W,
+) -> (R, Result<Outcome, Refusal>)
+    ensures joined { IfOk result.1 (IsJoined (all_given (R.state result.0))
+        (W.state out.old) (W.state out.new)) }
+    ensures untouched { IfErr result.1 (λ refusal. IsSeenFirst refusal.cause
+        → W.state out.new ≡ W.state out.old) }
+{
+    match Input::new(alloc, reports) {
+        Ok(mut input) => {
+            let joined = join_input(alloc, &mut input, out);
+            (input.into_reports(), joined)
+        }
+        Err(reports) => {
+            let refusal = Refusal {
+                number: 0,
+                cause: Cause::Memory,
+            };
+            (reports, Err(refusal))
+        }
+    }
+}
+
+fn join_input<R: Reports, W: Out>(
+    alloc: Global,
+    input: &mut Input<R>,
+    out: &mut W,
+) -> Result<Outcome, Refusal>
+    ensures joined { IfOk result (IsJoined (all_given (R.state input.new.reports))
+        (W.state out.old) (W.state out.new)) }
+    ensures untouched { IfErr result (λ refusal. IsSeenFirst refusal.cause
+        → W.state out.new ≡ W.state out.old) }
+{
+    let plan = plan_of(alloc, input)?;
+    write_parts(alloc, input, &plan, &mut Nowhere)?;
+    let count = write_again(alloc, input, &plan, out)?;
+    let outcome = close(plan.name.as_str(), count, out)?;
+    Ok(outcome)
+}
+
+/// Hands the lines of all faults to the output, of reports that were whole before.
+fn write_again<R: Reports, W: Out>(
+    alloc: Global,
+    input: &mut Input<R>,
+    plan: &Plan,
+    out: &mut W,
+) -> Result<u64, Refusal>
+    ensures joins { IfOk result (λ n. (last : Option FaultValue)
+        × JoinsFirst plan.now.name plan.now.listed (vec_len plan.now.places)
+        (R.state input.old.reports) (R.state input.new.reports) last
+        (W.state out.old) (W.state out.new) (vec_len plan.now.places) n) }
+    ensures late { IfErr result (λ refusal. ¬ (IsSeenFirst refusal.cause)) }
+{
+    match write_parts(alloc, input, plan, out) {
+        Ok(count) => Ok(count),
+        Err(refusal) => Err(after_looking(refusal)),
+    }
+}
+
+/// Hands the closing line of one check to the output, and says how it ended.
+fn close<W: Out>(name: &str, count: u64, out: &mut W) -> Result<Outcome, Refusal>
+    ensures outcome { IfOk result (λ outcome. outcome ≡ ended None count) }
+    ensures closes { OnOk result (Appends (W.state out.old).taken (W.state out.new).taken
+        (full_closing name.now count)) }
+    ensures late { IfErr result (λ refusal. ¬ (IsSeenFirst refusal.cause)) }
+{
+    match put_closing(name, count, out) {
+        Ok(()) => Ok(outcome_of(count)),
+        Err(Refused) => Err(Refusal {
+            number: 0,
+            cause: Cause::Output,
+        }),
+    }
+}
+
+/// A refusal of reports that were whole before.
+fn after_looking(refusal: Refusal) -> Refusal
+    ensures { ¬ (IsSeenFirst result.cause) }
+{
+    let Refusal { number, cause } = refusal;
+    let cause = match cause {
+        Cause::Memory | Cause::Output | Cause::Unreadable => cause,
+        Cause::NotAReport
+        | Cause::CutOff
+        | Cause::Stopped
+        | Cause::Resumed
+        | Cause::BagUnread
+        | Cause::OtherBag
+        | Cause::OtherFiles
+        | Cause::OtherNumber
+        | Cause::Twice
+        | Cause::Missing
+        | Cause::OutOfOrder
+        | Cause::OtherCount
+        | Cause::Changed => Cause::Changed,
+    };
+    Refusal { number, cause }
+}
+
+/// How a check ends that finds so many faults.
+fn outcome_of(count: u64) -> Outcome
+    ensures { result ≡ ended None count }
+{
+    if count == 0 {
+        Outcome::Clean
+    } else {
+        Outcome::Faults(count)
+    }
+}
+
+/// Hands its closing line to the output.
+fn put_closing<W: Out>(name: &str, count: u64, out: &mut W) -> Result<(), Refused>
+    ensures { Writes (W.state out.old) (W.state out.new) (full_closing name.now count) result }
+{
+    if count == 0 {
+        return put_line(name, &[said::VALID, "\n"], out);
+    }
+    let mut digits = Buffer::new();
+    put_line(name, &[said::HAS_FAULTS, digits.format(count), "\n"], out)
+}

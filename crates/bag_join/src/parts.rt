@@ -1,0 +1,90 @@
+//! Reports of parts, written one after the other.
+ghost use Rattle.std.specs.Prelude.{◌≡◌, ◌+◌, IfOk, Option, vec_len, ℕ};
+ghost use Rattle.bag_facts.specs.declared.fault.Fault.{Fault as FaultValue};
+ghost use Rattle.bag_join.specs.Join.{JoinsFirst, JoinsPart};
+
+use crate::done_line::is_done_line;
+use crate::fault_lines::write_faults;
+use crate::input::Input;
+use crate::plan::Plan;
+use crate::refusal::{Cause, Refusal};
+use crate::reports::Reports;
+use bag_facts::{Fault, Part};
+use bag_tree::Out;
+use std::alloc::Global;
+
+/// Hands the lines of all faults to the output, part by part, and counts them. Each report has to
+/// be whole, and end as the plan says.
+pub(crate) fn write_parts<R: Reports, W: Out>(
+    alloc: Global,
+    input: &mut Input<R>,
+    plan: &Plan,
+    out: &mut W,
+) -> Result<u64, Refusal>
+    ensures { IfOk result (λ n. (last : Option FaultValue)
+        × JoinsFirst plan.now.name plan.now.listed (vec_len plan.now.places)
+        (R.state input.old.reports) (R.state input.new.reports) last
+        (W.state out.old) (W.state out.new) (vec_len plan.now.places) n) }
+{
+    let mut last = None;
+    let mut total: u64 = 0;
+    'parts: for (index, place) in plan.places.iter().enumerate() {
+        let number = index as u64;
+        let Some(report) = *place else {
+            return Err(Refusal {
+                number,
+                cause: Cause::Missing,
+            });
+        };
+        match write_next(alloc, input, plan, number, report, &mut last, total, out) {
+            Ok(count) => total = count,
+            Err(cause) => return Err(Refusal {
+                number: report,
+                cause,
+            }),
+        }
+    }
+    Ok(total)
+}
+
+/// Those of the part with this number, whose report this is, and adds to their count.
+fn write_next<R: Reports, W: Out>(
+    alloc: Global,
+    input: &mut Input<R>,
+    plan: &Plan,
+    number: u64,
+    report: u64,
+    last: &mut Option<Fault>,
+    total: u64,
+    out: &mut W,
+) -> Result<u64, Cause>
+    ensures { IfOk result (λ sum. (n : ℕ) × (sum ≡ total + n)
+        × JoinsPart plan.now.name plan.now.listed
+        (record { number = number; of = vec_len plan.now.places })
+        (R.state input.old.reports) (R.state input.new.reports) last.old last.new
+        (W.state out.old) (W.state out.new) n) }
+{
+    input.open(report)?;
+    let mut line = Vec::new(alloc);
+    let count = write_faults(alloc, input, &mut line, last, out)?;
+    let Some(part) = Part::new(number, plan.places.len() as u64) else {
+        return Err(Cause::Missing);
+    };
+    let name = plan.name.as_str();
+    if !is_done_line(alloc, name, part, plan.listed, count, line.as_slice())? {
+        return Err(Cause::OtherCount);
+    }
+    input.expect_end()?;
+    let sum = plus(total, count)?;
+    Ok(sum)
+}
+
+/// The sum of two counts, which no reports that fit on a disk exceed.
+fn plus(total: u64, count: u64) -> Result<u64, Cause>
+    ensures { IfOk result (λ sum. sum ≡ total + count) }
+{
+    match total.checked_add(count) {
+        Some(sum) => Ok(sum),
+        None => Err(Cause::OtherCount),
+    }
+}
