@@ -162,8 +162,14 @@ completes 'photographs plans profile.json' bagit-keep report p
 completes '--files' bagit-keep report --fi
 completes '' bagit-keep report --files 6
 completes '' bagit-keep report -- --fi
-completes 'renew report retire round' bagit-keep r
+completes 'renew repack report restore retire round' bagit-keep r
 completes 'photographs plans' bagit-keep info p
+completes 'photographs plans' bagit-keep make --labels photographs p
+completes 'photographs plans profile.json' bagit-keep make --labels p
+completes '' bagit-keep make --label p
+completes 'photographs plans profile.json' bagit-keep restore photographs --from = p
+completes 'photographs plans' bagit-keep repack photographs add p
+completes 'photographs plans profile.json' bagit-keep edit photographs p
 completes '--version' bagit-keep --v
 completes '' bagit-keep p
 completes '' bagit-keep other p

@@ -15,6 +15,13 @@ table       the table of a round, also beside an earlier one
 bagit       bags by the names of bagit-python
 errors      what it raises, and the details of faults
 elements    the elements of bag-info.txt that it reads and writes
+make        `bagit-keep make`: folders are made bags
+edit        `bagit-keep edit`: a tag file is changed
+repack      `bagit-keep repack`: a payload is changed, by a new bag
+restore     `bagit-keep restore`: files come back from copies
+beside      the folder beside a bag in which they work
+mending     tag files that are changed, and manifests with them
+trees       files and folders that are made beside others
 runs        what `bagit` and `bagit-renew` answer of one bag
 tags        tag files, read to be shown
 info        `bagit-keep info`: what the tag files of a bag say

@@ -13,7 +13,6 @@ What is read of tag files here is read to be shown.
 import codecs
 import os
 import re
-import stat
 from contextlib import contextmanager
 from datetime import date
 from typing import (
@@ -55,6 +54,7 @@ from .errors import (
 from .messages import explained, printable
 from .program import Asked
 from .runs import BagReport, Tell, alone, check, make, renew
+from .trees import opened
 
 __all__ = [
     "Bag",
@@ -110,10 +110,7 @@ def reading(path: str) -> Iterator[None]:
 
 def content_of(path: str) -> bytes:
     """The bytes of a file. A pipe isn't waited for, nor a link followed."""
-    flags = os.O_RDONLY | os.O_NOFOLLOW | os.O_NONBLOCK
-    with open(os.open(path, flags), "rb") as file:
-        if not stat.S_ISREG(os.fstat(file.fileno()).st_mode):
-            raise OSError(0, "it isn't a file", path)
+    with opened(path) as file:
         return file.read()
 
 

@@ -11,7 +11,11 @@ from . import __version__
 from .messages import Refused, explained, say
 
 COMMANDS = {
+    "edit": ("edit", "change a tag file of a bag"),
     "info": ("info", "write what the tag files of a bag say"),
+    "make": ("make", "make folders bags, after a look at all of them"),
+    "repack": ("repack", "add, remove or rename payload files of a bag"),
+    "restore": ("restore", "restore files of a bag from copies of it"),
     "report": ("report", "write reports of bagit as data, or a summary"),
     "round": ("go_round", "check many bags, and write the table of a round"),
     "init": ("keeping", "make a register of bags"),

@@ -167,11 +167,13 @@ class Program:
     """The program at a path, and those of its processes that are at work.
 
     Several threads may run it at once. It is to be stopped in the end; in a
-    `with` statement it is.
+    `with` statement it is. Its processes hold an open file, too, such as a
+    lock.
     """
 
-    def __init__(self, path: Path) -> None:
+    def __init__(self, path: Path, held: Optional[int] = None) -> None:
         self.path = path
+        self._held = () if held is None else (held,)
         self._lock = threading.Lock()
         self._running: Set["subprocess.Popen[bytes]"] = set()
         self._is_stopped = False
@@ -275,6 +277,7 @@ class Program:
                 cwd=folder,
                 env={**os.environ, MARK: self._mark},
                 start_new_session=True,
+                pass_fds=self._held,
             )
             self._running.add(process)
             return process

@@ -91,14 +91,19 @@ def told(
 
 
 def answered(
-    found: Optional[str], path: str, words: Sequence[str], ending: str
+    found: Optional[str],
+    path: str,
+    words: Sequence[str],
+    ending: str,
+    lock: Optional[int],
 ) -> None:
     """Runs a program that changes a folder. It has done so if it ends with 0,
-    and its output is the folder's name and this ending; else a BagError."""
+    and its output is the folder's name and this ending; else a BagError. It
+    holds a lock too, while it runs."""
     if found is None:
         raise BagError("there is no program bagit, or no bagit-renew")
     name, folder = named(path)
-    with Program(found) as program, tempfile.TemporaryFile() as out:
+    with Program(found, lock) as program, tempfile.TemporaryFile() as out:
         ended = program.run([*words, "--", name], out, folder)
         out.seek(0)
         text = out.read(MOST_SHOWN).decode("ascii", "backslashreplace")
@@ -115,14 +120,18 @@ def refusal(ended: Ended, text: str) -> str:
     return ended.described()
 
 
-def make(path: str, words: Sequence[str]) -> None:
+def make(
+    path: str, words: Sequence[str], lock: Optional[int] = None
+) -> None:
     """Makes the folder at a path a bag."""
-    answered(find(), path, words, "made")
+    answered(find(), path, words, "made", lock)
 
 
-def renew(path: str, words: Sequence[str]) -> None:
+def renew(
+    path: str, words: Sequence[str], lock: Optional[int] = None
+) -> None:
     """Renews the bag at a path."""
-    answered(find_renew(), path, words, "renewed")
+    answered(find_renew(), path, words, "renewed", lock)
 
 
 def find_renew() -> Optional[str]:
@@ -137,13 +146,15 @@ def find_renew() -> Optional[str]:
 
 
 @contextmanager
-def alone(path: str) -> Iterator[None]:
-    """Refuses a second one that would write elements of the bag at a path at
-    the same time, where the system has locks."""
+def alone(path: str) -> Iterator[int]:
+    """Refuses a second one that would write to the bag at a path at the same
+    time, where the system has locks. This is the lock, an open folder."""
     folder = os.open(path, os.O_RDONLY | os.O_DIRECTORY)
     try:
         lock(folder)
-        yield
+        if not os.path.samestat(os.fstat(folder), os.stat(path)):
+            raise BagError("another process has replaced this bag")
+        yield folder
     finally:
         os.close(folder)
 

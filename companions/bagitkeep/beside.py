@@ -1,0 +1,218 @@
+"""The folder BAG.new beside a bag, in which is made what is to come into it.
+
+Who is killed leaves that folder, and the same command knows by it how far it
+came. Nothing takes the place of what is in a bag before `bagit` has checked
+it there in full; and what was there is kept, as BAG.kept.XXXXXX.
+"""
+import json
+import os
+import secrets
+import shutil
+import sys
+from contextlib import contextmanager, suppress
+from os.path import dirname, isdir, join, lexists
+from typing import Any, Callable, Dict, Iterator, Sequence
+
+from .bagit import content_of, reading
+from .errors import BagError
+from .lines import encoded
+from .messages import Refused, say
+from .program import Asked
+from .rounds import sync_folder, write_synced
+from .runs import BagReport, alone, check
+
+RECORD = "bagit-keep.json"
+DRAFT = "bagit-keep.json.part"
+WORK = "bag"
+TEXT = "text"
+
+
+def shown(path: str) -> str:
+    """A path for people, with nothing that a terminal obeys."""
+    return encoded(os.fsencode(path))
+
+
+def sync(path: str) -> None:
+    sync_folder(os.fsencode(path))
+
+
+def kept_of(bag: str) -> str:
+    """A name beside a bag for what is kept of it, which nothing has."""
+    return f"{bag}.kept.{secrets.token_hex(3)}"
+
+
+class Faulty(Exception):
+    """A bag hasn't passed a full check; the report of this."""
+
+    def __init__(self, report: BagReport) -> None:
+        super().__init__(report.result)
+        self.report = report
+
+
+def checked(bag: str) -> BagReport:
+    """The report of a full check of a bag without faults; else it is raised
+    as Faulty."""
+    report = check(bag, Asked())
+    if report.status != 0:
+        raise Faulty(report)
+    return report
+
+
+class Beside:
+    """The folder beside a bag, of one command. What it was asked, and how far
+    it is, is noted there."""
+
+    def __init__(self, bag: str, command: str) -> None:
+        self.bag, self.command = bag, command
+        self.path = f"{bag}.new"
+        self.work = join(self.path, WORK)
+        self.text = join(self.path, TEXT)
+
+    def left(self) -> Dict[str, Any]:
+        """What a killed command has noted, if one has."""
+        try:
+            names = set(os.listdir(self.path))
+        except FileNotFoundError:
+            return {}
+        if names and not names & {RECORD, DRAFT}:
+            raise BagError(
+                f"{shown(self.path)} is there, and isn't left of bagit-keep"
+            )
+        if RECORD not in names:
+            return {}
+        path = join(self.path, RECORD)
+        with reading(path):
+            record: Dict[str, Any] = json.loads(content_of(path))
+        if record["command"] != self.command:
+            raise BagError(
+                f"{shown(self.path)} is left of {record['command']}: give"
+                " that command again"
+            )
+        return record
+
+    def note(self, **record: Any) -> None:
+        """Notes what is to be known after a kill. It is on the disk then."""
+        draft = join(self.path, DRAFT)
+        os.makedirs(self.path, exist_ok=True)
+        with suppress(FileNotFoundError):
+            os.unlink(draft)
+        content = json.dumps({"command": self.command, **record})
+        write_synced(os.fsencode(draft), content.encode())
+        os.rename(draft, join(self.path, RECORD))
+        sync(self.path)
+        sync(dirname(self.path))
+
+    def clear(self) -> None:
+        """Removes the folder, and what was noted last."""
+        for name in WORK, TEXT:
+            path = join(self.path, name)
+            if lexists(path):
+                shutil.rmtree(path, onerror=by_force)
+        for name in DRAFT, RECORD:
+            with suppress(FileNotFoundError):
+                os.unlink(join(self.path, name))
+        with suppress(FileNotFoundError):
+            os.rmdir(self.path)
+            sync(dirname(self.path))
+
+    def is_done(self, words: Sequence[str]) -> bool:
+        """Whether a command with these words, which was killed at its end,
+        has put the new bag in the place of the old; the last of it is done."""
+        record = self.left()
+        if "kept" not in record or lexists(self.work) and lexists(self.bag):
+            return False
+        if lexists(self.work):
+            os.rename(self.work, self.bag)
+            sync(dirname(self.bag))
+        self.clear()
+        say(f"the old bag is {shown(record['kept'])}")
+        return bool(record["words"] == list(words))
+
+    def replace(
+        self, words: Sequence[str], build: Callable[[str], None]
+    ) -> BagReport:
+        """Puts what is built in the place of the bag, if a full check of it
+        ends with 0. This is its report."""
+        self.clear()
+        self.note(words=list(words))
+        try:
+            os.mkdir(self.work)
+            build(self.work)
+            report = checked(self.work)
+            with alone(self.work):
+                self.put(words)
+        finally:
+            if lexists(self.bag):
+                self.clear()
+        return report
+
+    def put(self, words: Sequence[str]) -> None:
+        """Gives the old bag and the new one their names."""
+        kept, mode = kept_of(self.bag), os.stat(self.work).st_mode & 0o7777
+        self.note(words=list(words), kept=kept)
+        os.chmod(self.work, mode | 0o700)  # else it isn't renamed
+        os.rename(self.bag, kept)
+        sync(dirname(self.bag))
+        os.rename(self.work, self.bag)
+        os.chmod(self.bag, mode)
+        sync(dirname(self.bag))
+        self.clear()
+        say(f"the old bag is {shown(kept)}")
+
+
+def by_force(function: Callable[[str], Any], path: str, error: Any) -> None:
+    """Removes what is in a folder that has been made read-only."""
+    os.chmod(dirname(path), 0o700)
+    function(path)
+
+
+@contextmanager
+def refusing(bag: str) -> Iterator[None]:
+    """Ends the command by 3 where what it was asked can't be done."""
+    try:
+        with reading(bag):
+            yield
+    except BagError as error:
+        raise Refused(str(error), 3) from error
+
+
+def path_in_bag(word: str) -> str:
+    """A path in a bag, as manifests have it."""
+    path = word.rstrip("/")
+    if {"", ".", ".."} & set(path.split("/")):
+        raise Refused(f"{shown(word)} isn't a path in a bag")
+    return path
+
+
+def folder_of(word: str) -> str:
+    """The whole path of a bag, or of one that is just being replaced."""
+    if sys.getfilesystemencoding() != "utf-8":
+        raise Refused("names in bags are UTF-8: set LC_ALL=C.UTF-8", 3)
+    bag = os.path.realpath(word)
+    if not word or not isdir(bag) and not isdir(Beside(bag, "").work):
+        raise Refused(f"{shown(word)} isn't a folder")
+    return bag
+
+
+def replaced(
+    bag: str, command: str, words: Sequence[str], build: Callable[[str], None]
+) -> int:
+    """Replaces a bag by what is built in a folder. The status is that of the
+    last check, whose report is written."""
+    place = Beside(bag, command)
+    if os.path.ismount(bag):
+        raise BagError(f"{shown(bag)} is where a disk is mounted")
+    with alone(bag if lexists(bag) else place.work):
+        try:
+            if place.is_done(words):
+                return show(check(bag, Asked()))
+            return show(place.replace(words, build))
+        except Faulty as faulty:
+            return show(faulty.report)
+
+
+def show(report: BagReport) -> int:
+    """Writes a report as `bagit` did, and says its status."""
+    lines = [*map(str, report.faults), report.result]
+    sys.stdout.write("".join(f"{line}\n" for line in lines))
+    return report.status

@@ -1,0 +1,284 @@
+"""Pure parts of what changes bags: manifests, paths, copies, elements."""
+import hashlib
+import io
+import os
+import stat
+import tarfile
+import tempfile
+import unittest
+from typing import List, Optional
+from unittest.mock import patch
+
+from bagitkeep.beside import Beside, folder_of, path_in_bag
+from bagitkeep.errors import BagError
+from bagitkeep.make import algorithms_in, elements_given
+from bagitkeep.mending import Entry, changed, line_of, mended
+from bagitkeep.messages import Refused
+from bagitkeep.repack import OXUM, change_of, is_at
+from bagitkeep.restore import Copy
+from bagitkeep.trees import copied, dress, link_tree, opened
+
+A = "0cc175b9c0f1b6a831c399e269772661"
+"""The MD5 of `a` (RFC 1321, A.5)."""
+EMPTY = "d41d8cd98f00b204e9800998ecf8427e"
+"""The MD5 of nothing (RFC 1321, A.5)."""
+
+
+class InAFolder(unittest.TestCase):
+    def setUp(self) -> None:
+        folder = tempfile.TemporaryDirectory()
+        self.addCleanup(folder.cleanup)
+        self.folder = folder.name
+
+    def at(self, path: str, content: Optional[bytes] = None) -> str:
+        whole = os.path.join(self.folder, path)
+        if content is not None:
+            os.makedirs(os.path.dirname(whole), exist_ok=True)
+            with open(whole, "wb") as file:
+                file.write(content)
+        return whole
+
+
+class Manifests(unittest.TestCase):
+    def changed(self, text: str, old: bool = False, **becomes: str) -> str:
+        """A manifest where the digest of a path, without `data/`, becomes
+        another, or its line goes."""
+
+        def change(path: str, digest: str) -> Optional[Entry]:
+            new = becomes.get(path[5:], digest)
+            return (path, new) if new else None
+
+        return changed(text.encode(), old, change).decode()
+
+    def test_other_bytes_stay(self) -> None:
+        for line in (
+            f"{A} *./data/%25x\r\n",
+            f"{A.upper()}\tdata/y",
+            f"\ufeff{A}  data/z\r{EMPTY}  data/x\n\n",
+            "no line\n",
+            "",
+        ):
+            self.assertEqual(self.changed(line), line)
+
+    def test_a_digest_is_changed_in_its_line(self) -> None:
+        text = f"\ufeff{A} *./data/x\r\n{A}  data/y\n"
+        self.assertEqual(
+            self.changed(text, x=EMPTY),
+            f"\ufeff{EMPTY} *./data/x\r\n{A}  data/y\n",
+        )
+
+    def test_a_line_goes(self) -> None:
+        text = f"\ufeff{A}  data/x\n{A}  data/y"
+        self.assertEqual(self.changed(text, x=""), f"\ufeff{A}  data/y")
+
+    def test_a_path_is_spelled_by_the_version(self) -> None:
+        def change(path: str, digest: str) -> Entry:
+            return "data/50%\n", digest
+
+        text = f"{A}  data/x\r\n".encode()
+        for old, name in (False, b"50%25%0A"), (True, b"50%%0A"):
+            wanted = A.encode() + b"  data/" + name + b"\r\n"
+            self.assertEqual(changed(text, old, change), wanted)
+
+    def test_lines_are_added(self) -> None:
+        added = [("data/%", A), ("data/b", EMPTY)]
+        for text in f"{A}  data/x", f"{A}  data/x\n":
+            self.assertEqual(
+                changed(text.encode(), False, lambda *it: it, added).decode(),
+                f"{A}  data/x\n{A}  data/%25\n{EMPTY}  data/b\n",
+            )
+
+    def test_what_no_line_can_name(self) -> None:
+        for path, old in ("*x", False), (" x", False), ("data/%0A", True):
+            with self.assertRaises(BagError):
+                line_of(path, A, old)
+        self.assertEqual(line_of("data/%0A", A, False), f"{A}  data/%250A\n")
+
+
+class TagManifests(InAFolder):
+    def test_only_right_digests_are_renewed(self) -> None:
+        self.at("bagit.txt", b"BagIt-Version: 1.0\n")
+        self.at("x", b"a")
+        bag = self.folder
+        for line, wanted in (
+            (f"{A}  x\n", f"{EMPTY}  x\n"),
+            (f"{EMPTY}  x\n", f"{EMPTY}  x\n"),
+            (f"{'0' * 32}  x\n", f"{'0' * 32}  x\n"),
+            ("", f"{EMPTY}  x\n"),
+        ):
+            self.at("tagmanifest-md5.txt", line.encode())
+            changes = mended(bag, {"x": b""})
+            left = changes.get("tagmanifest-md5.txt", line.encode())
+            self.assertEqual(left, wanted.encode())
+
+    def test_a_line_goes_with_its_file(self) -> None:
+        self.at("bagit.txt", b"BagIt-Version: 0.97\n")
+        self.at("x", b"a")
+        other = f"{A}  y\n".encode()
+        for digest, left in (A, b""), (EMPTY, f"{EMPTY}  x\n".encode()):
+            content = f"{digest}  x\n".encode() + other
+            self.at("tagmanifest-md5.txt", content)
+            changes = mended(self.folder, {"x": None})
+            self.assertIsNone(changes["x"])
+            new = changes.get("tagmanifest-md5.txt", content)
+            self.assertEqual(new, left + other)
+
+
+class Paths(unittest.TestCase):
+    def test_none_leads_out(self) -> None:
+        for word in "", "/", "/x", "..", "x/..", "./x", "x//y", "../x/":
+            with self.assertRaises(Refused):
+                path_in_bag(word)
+        self.assertEqual(path_in_bag("data/-x\n/"), "data/-x\n")
+
+    def test_names_are_utf_8(self) -> None:
+        with patch("sys.getfilesystemencoding", return_value="iso8859-1"):
+            with self.assertRaisesRegex(Refused, "UTF-8"):
+                folder_of("/")
+        self.assertEqual(folder_of("/"), "/")
+
+    def test_below(self) -> None:
+        self.assertTrue(is_at("data/a/b", "data/a"))
+        self.assertTrue(is_at("data/a", "data/a"))
+        self.assertFalse(is_at("data/ab", "data/a"))
+
+    def test_what_becomes_of_paths(self) -> None:
+        remove = change_of(["remove", "data/a", "data/b/"], None).place_of
+        rename = change_of(["rename", "data/a", "data/c/d"], None).place_of
+        for path, left, renamed in (
+            ("data/a", None, "data/c/d"),
+            ("data/a/x", None, "data/c/d/x"),
+            ("data/b/x", None, "data/b/x"),
+            ("data/ab", "data/ab", "data/ab"),
+        ):
+            self.assertEqual((remove(path), rename(path)), (left, renamed))
+
+    def test_what_is_refused(self) -> None:
+        words: List[List[str]] = [
+            [],
+            ["remove"],
+            ["remove", "a"],
+            ["remove", "data"],
+            ["remove", "../x"],
+            ["rename", "data/a"],
+            ["rename", "data/a", "/data/b"],
+            ["add"],
+            ["add", "/nowhere"],
+            ["other", "data/a"],
+        ]
+        for each in words:
+            with self.assertRaises(Refused):
+                change_of(each, None)
+        with self.assertRaises(Refused):
+            change_of(["remove", "data/a"], "data/b")
+
+    def test_oxum(self) -> None:
+        text = b"A: b\r\nPAYLOAD-Oxum : 1.2 \r\nX: 1.2\nPayload-Oxumx: 1.2\n"
+        self.assertEqual(
+            OXUM.sub(rb"\g<1>30.4", text), text.replace(b"1.2 \r", b"30.4", 1)
+        )
+
+
+class Elements(InAFolder):
+    def test_those_of_a_file_come_first(self) -> None:
+        file = self.at("labels.json", b'{"List": ["a", 2], "A": "x=y"}')
+        self.assertEqual(
+            elements_given(file, ["List=a", "B=c=d"]),
+            [("List", "a"), ("List", "2"), ("A", "x=y"), ("B", "c=d")],
+        )
+
+    def test_what_is_refused(self) -> None:
+        for word in "A", "=x", "Payload-Oxum=1.1", "A: x=b", "A=x\n":
+            with self.assertRaises((Refused, BagError)):
+                elements_given("", [word])
+        for content in b"[]", b"{", b'{"A": {}}', b"\xff":
+            file = self.at("labels.json", content)
+            with self.assertRaises((Refused, BagError)):
+                elements_given(file, [])
+
+    def test_algorithms(self) -> None:
+        self.assertEqual(algorithms_in("md5,sha512,md5"), ["md5", "sha512"])
+        for text in "", "md5,", "MD5", "sha3":
+            with self.assertRaises(BagError):
+                algorithms_in(text)
+
+
+class Files(InAFolder):
+    def test_a_copy_and_its_digests(self) -> None:
+        new = self.at("new")
+        self.assertEqual(copied(io.BytesIO(b"a"), new, ["md5"]), {"md5": A})
+        with opened(new) as stream:
+            self.assertEqual(stream.read(), b"a")
+        with self.assertRaises(FileExistsError):
+            copied(io.BytesIO(b""), new)
+
+    def test_only_files_are_opened(self) -> None:
+        os.mkfifo(self.at("pipe"))
+        os.symlink("pipe", self.at("link"))
+        for path in "pipe", "link", ".":
+            with self.assertRaises(OSError):
+                opened(self.at(path))
+
+    def test_dress(self) -> None:
+        old, new = self.at("old", b""), self.at("new", b"")
+        os.chmod(old, 0o640)
+        dress(new, old)
+        self.assertEqual(stat.S_IMODE(os.stat(new).st_mode), 0o640)
+
+    def test_a_tree_of_links(self) -> None:
+        file = self.at("d/in/x", b"a")
+        os.makedirs(self.at("d/empty"))
+        os.chmod(self.at("d/in"), 0o700)
+        os.mkdir(self.at("to"))
+        places = {"in": "in", "in/x": "y/%/x", "empty": "empty"}
+        link_tree(self.at("d"), self.at("to"), places.get)
+        self.assertTrue(os.path.samefile(file, self.at("to/y/%/x")))
+        self.assertEqual(set(os.listdir(self.at("to"))), {"empty", "in", "y"})
+        self.assertEqual(os.stat(self.at("to/in")).st_mode & 0o777, 0o700)
+        with self.assertRaises(BagError):
+            link_tree(self.at("d"), self.at("to"), places.get)
+        os.symlink("x", self.at("d/in/link"))
+        with self.assertRaises(BagError):
+            link_tree(self.at("d"), self.at("to"), lambda it: f"z/{it}")
+
+    def test_copies(self) -> None:
+        self.at("bag/data/x", b"a")
+        with tarfile.open(self.at("bag.tar"), "w") as tar:
+            tar.add(self.at("bag"), "./bag")
+            os.unlink(self.at("bag/data/x"))
+            self.at("bag/data/x", b"")
+            tar.add(self.at("bag/data/x"), "other/data/x")
+        for name in "bag", "bag.tar":
+            copy, to = Copy(self.at(name)), self.at("to")
+            self.addCleanup(copy.close)
+            self.assertFalse(copy.has("data/y", {"md5": A}, to))
+            self.assertFalse(copy.has("data/x", {"md5": "0" * 32}, to))
+            self.assertFalse(os.path.exists(to))
+            self.assertTrue(copy.has("data/x", {"md5": EMPTY}, to))
+            os.unlink(to)
+            both = {"md5": A, "sha1": hashlib.sha1(b"a").hexdigest()}
+            is_in_tar = name == "bag.tar"
+            self.assertEqual(copy.has("data/x", both, to), is_in_tar)
+            if is_in_tar:
+                os.unlink(to)
+        with self.assertRaises(tarfile.TarError):
+            Copy(self.at("bag/data/x"))
+
+
+class Notes(InAFolder):
+    def test_what_is_noted_is_found(self) -> None:
+        place = Beside(self.at("bag"), "edit")
+        self.assertEqual(place.left(), {})
+        place.note(words=["x"])
+        place.note(words=["y"], kept="z")
+        wanted = {"command": "edit", "words": ["y"], "kept": "z"}
+        self.assertEqual(place.left(), wanted)
+        with self.assertRaises(BagError):
+            Beside(self.at("bag"), "make").left()
+        place.clear()
+        self.assertEqual(os.listdir(self.folder), [])
+
+    def test_another_folder_is_left_alone(self) -> None:
+        self.at("bag.new/mine", b"")
+        with self.assertRaises(BagError):
+            Beside(self.at("bag"), "edit").left()
