@@ -36,7 +36,7 @@ ADAPTORS += ["bag_cli/src/system_file.rt", "bag_disk/src/ownership.rt", "bag_dis
 MODULES = re.compile(rf"`(\w+)`'s ({NAMES})")
 ANSWERS = {  # what a reader looks for: the page, and what stands there
     "how to undo a making that failed": ("docs/NOT_MADE.md", r"^# If making a bag failed.*^      rmdir \.bagit-new$"),
-    "how to change a bag": ("docs/NOT_MADE.md", r"^### Changing a bag$.*^```sh$"),
+    "how to change a bag": ("docs/NOT_MADE.md", r"^### Changing a bag$.*^    bagit-keep repack "),
     "how to add an algorithm to a bag": ("docs/RENEWING.md", r"^# Renewing a bag$.*^    bagit-renew --add sha512 deposit\b"),
     "what to do after a renewal was cut off": ("docs/RENEWING.md", r"^## After a cut$.*\*\*give the same command again\*\*"),
     "how to receive a bag": ("docs/RECEIVING.md", r"^## Archive files$.*^    .*bagit --validate"),

@@ -219,7 +219,6 @@ script() { # PAGE FILE
     [[ -s $2 ]] || give_up "docs/$1: it has no script"
     chmod +x "$2"
 }
-script NOT_MADE.md renew
 script RECEIVING.md fetch
 
 # `sync` waits for all that a machine writes, which a test needn't.
@@ -254,7 +253,7 @@ tells_damage() { # WHAT DAMAGE BLOCK
     followed=$((followed + 1))
 }
 
-# A bag of MD5, with a name that must not run, a tag file of its own and elements that no option has; and what is added.
+# A bag with a name that must not run, a tag file of its own and elements that no option has; and what is added.
 odd=$'-b/it\'s $(touch pwned) 100%\n"x" '
 new_bag() {
     rm -rf photographs* letters scans whole
@@ -263,54 +262,53 @@ new_bag() {
     cp -a photographs whole
     echo letter >'letters/a letter'
     echo scan >scans/2025/s
-    bagit --quiet --md5 photographs
-    bagit --quiet --sha1 letters
+    bagit --quiet photographs letters
     printf 'X-Own: 1\r\n x\r\nX-Own: 2\r\n%s' "$(<photographs/bag-info.txt)" >elements
     mv elements photographs/bag-info.txt
     mkdir photographs/own
     echo note >'photographs/own/100%'
-    sed -i /bag-info/d photographs/tagmanifest-md5.txt
-    (cd photographs && md5sum bag-info.txt own/* | sed s/%/%25/ >>tagmanifest-md5.txt)
+    sed -i /bag-info/d photographs/tagmanifest-*.txt
+    for sum in sha256 sha512; do
+        (cd photographs && "${sum}sum" bag-info.txt own/* | sed s/%/%25/ >>"tagmanifest-$sum.txt")
+    done
     bagit --validate photographs >printed || wrong 'the bag that is to be changed is not valid'
 }
 mapfile -t changes < <(block docs/NOT_MADE.md 'Changing a bag' 1)
 ((${#changes[@]} == 4)) || give_up "docs/NOT_MADE.md: ${#changes[@]} ways to change a bag"
 
-# Changes the bag; it is valid then, with its elements and tag files and the payload that it should have.
+# Changes the bag; it is valid then, with its elements and tag files and the payload that it should have, and the old one is kept.
 is_changed_by() { # CHANGE
     local page="docs/NOT_MADE.md: '$1'" others
     bash <<<"$1" >printed 2>&1 || wrong "$page fails"
-    bagit --validate --quiet photographs photographs.old >printed || wrong "$page leaves no valid bag"
+    bagit --validate --quiet photographs photographs.kept.* >printed || wrong "$page leaves no valid bag"
     diff -r whole photographs/data || give_up "$page makes another payload"
     grep -v ^Payload-Oxum photographs/bag-info.txt >elements
-    [[ $(<elements) == $'X-Own: 1\n x\nX-Own: 2' ]] || give_up "$page loses elements"
-    grep -q ' own/100%25$' photographs/tagmanifest-md5.txt || give_up "$page loses a tag file"
-    others=$(find . -name pwned -o -name photographs.new)
+    [[ $(<elements) == $'X-Own: 1\r\n x\r\nX-Own: 2\r' ]] || give_up "$page loses elements"
+    grep -q 'own/100%' photographs/tagmanifest-sha256.txt || give_up "$page loses a tag file"
+    others=$(find . -name pwned -o -name '*.new')
     [[ ! $others ]] || give_up "$page leaves $others"
-    rm -r photographs.old
+    rm -r photographs.kept.*
     followed=$((followed + 1))
 }
 new_bag
-is_changed_by "${changes[0]}"
 cp -a scans/. whole/
-is_changed_by "${changes[1]}"
+is_changed_by "${changes[0]}"
 mkdir whole/2024/letters
 cp -a letters/data/. whole/2024/letters/
+is_changed_by "${changes[1]}"
+rm -r whole/drafts whole/b/c.txt
 is_changed_by "${changes[2]}"
-rm -r whole/drafts whole/b
+mv whole/2023 whole/2022
 is_changed_by "${changes[3]}"
-manifests=$(cd photographs && echo manifest-*.txt)
-[[ $manifests == 'manifest-md5.txt manifest-sha1.txt manifest-sha256.txt manifest-sha512.txt' ]] ||
-    give_up "docs/NOT_MADE.md: a changed bag has $manifests"
 
 # No path leads out of the bag.
 new_bag
 bagit --quiet scans
 mkdir held
 cp -a photographs letters scans held/
-for path in 'remove ../letters' 'remove ../photographs/data/2024/a' 'remove 2024/..' 'add letters ../scans/data' \
-    'add letters 2024/../../scans/data/'; do
-    fails docs/NOT_MADE.md ./renew photographs $path
+for path in 'remove ../letters' 'remove ../photographs/data/2024/a' 'remove data/2024/..' 'add letters --to ../scans/data' \
+    'add letters --to data/2024/../../../scans/data/' 'rename data/2024 ../scans/data/2024' "rename data/2024 $work/scans/data/x"; do
+    fails docs/NOT_MADE.md bagit-keep repack photographs $path
     for name in photographs letters scans; do
         diff -r "$name" "held/$name" || give_up "docs/NOT_MADE.md: $path changes $name"
     done
@@ -324,70 +322,71 @@ stops() { # CHANGE MESSAGE N before|after COMMAND
     local page="docs/NOT_MADE.md: '$1', with '${*:5}' $4 call $3"
     between bagit "$3" "$4" "${*:5}"
     tells_damage "$page" damage "$1"
-    [[ -d photographs && ! -e photographs.old ]] || wrong "$page goes on"
+    [[ -d photographs && ! $(compgen -G 'photographs.kept.*') ]] || wrong "$page goes on"
     grep -qE "$2" printed || wrong "$page does not say $2"
 }
 damaged=data/2023/a.txt
 for change in "${changes[@]}"; do
     call=1
-    [[ $change != bagit* ]] || call=2
-    new_bag
-    stops "$change" "^701 payload-sum-differs $damaged md5 " $call before flip photographs/$damaged
-    new_bag
-    stops "$change" "changed or lost: md5 .* $damaged" $call after flip photographs/$damaged
+    [[ $change != *make* ]] || call=3
+    for moment in before after; do
+        new_bag
+        stops "$change" "^701 payload-sum-differs .*a.txt sha256 " $call $moment flip photographs/$damaged
+    done
 done
 while read -r call moment damage; do
     read -r message
     new_bag
-    stops "${changes[3]}" "$message" "$call" "$moment" "$damage"
+    stops "${changes[2]}" "$message" "$call" "$moment" "$damage"
 done <<'END'
 1 after rm photographs/data/2024/a
-changed or lost: md5 .* data/2024/a
+^601 payload-file-missing data/2024/a sha256
 1 after echo more >photographs/data/more
-^> data/more
+^603 payload-file-not-listed data/more sha512
 1 after flip photographs/bag-info.txt
-changed or lost: md5 .* bag-info.txt
+^702 tag-sum-differs bag-info.txt sha256
 1 after flip photographs/own/100%
-changed or lost: md5 .* own/100%25
-1 after flip photographs/manifest-md5.txt
-changed or lost
-2 after flip photographs/data/2023/a.txt
-^701 payload-sum-differs data/2023/a.txt md5
-2 after flip photographs.new/manifest-md5.txt
-changed or lost: md5
+^702 tag-sum-differs own/100%25 sha512
+1 after flip photographs/manifest-sha256.txt
+^702 tag-sum-differs manifest-sha256.txt sha256
+2 before flip photographs.new/bag/manifest-sha256.txt
+^702 tag-sum-differs manifest-sha256.txt sha256
 2 before kill -9 $PPID $$
 Killed
 END
-rm -r photographs.new whole/drafts whole/b
-is_changed_by "${changes[3]}"
+rm -r whole/drafts whole/b/c.txt
+is_changed_by "${changes[2]}"
 new_bag
-stops "${changes[2]}" 'changed or lost: sha1 .* data/2024/letters/a letter' 1 after 'flip "letters/data/a letter"'
+stops "${changes[1]}" '^701 payload-sum-differs data/2024/letters/a%20letter sha512 ' 2 after 'flip "letters/data/a letter"'
 
-# What other tools write, by version 0.97, is compared too.
+# What other tools write, by version 0.97, is compared too, and stays as they spell it.
 for spelling in 's/  / */' 's/$/\r/' 's/^[0-9a-f]*/\U&/; s/  / \t.\//' '1s/^/\xef\xbb\xbf/'; do
     for damage in '' "flip photographs/$damaged"; do
         new_bag
         sed -i s/1.0/0.97/ photographs/bagit.txt
-        sed -i "s/%25/%/; $spelling" photographs/*manifest-md5.txt
-        sed -i '/bagit.txt/d; /manifest-/d' photographs/tagmanifest-md5.txt
+        sed -i "s/%25/%/; $spelling" photographs/*manifest-sha*.txt
+        sed -i '/bagit.txt/d; /manifest-/d' photographs/tagmanifest-sha*.txt
         if [[ $damage ]]; then
-            stops "${changes[0]}" "changed or lost: md5 .* $damaged" 1 after "$damage"
+            stops "${changes[2]}" "^701 payload-sum-differs $damaged sha256 " 1 after "$damage"
         else
-            is_changed_by "${changes[0]}"
+            grep -v -e '/drafts/' -e '/b/c' photographs/manifest-sha256.txt >lines
+            rm -r whole/drafts whole/b/c.txt
+            is_changed_by "${changes[2]}"
+            cmp <(sed '1s/^\xef\xbb\xbf//' lines) <(sed '1s/^\xef\xbb\xbf//' photographs/manifest-sha256.txt)
         fi
     done
 done
 
 # One bag becomes two; what is in both, or in none, is named.
 split=$(block docs/NOT_MADE.md 'Changing a bag' 2)
-for damage in true 'rm photographs/data/2023/a' 'rm drafts/data/drafts/d'; do
+for damage in true 'photographs data/2023/a' 'drafts data/drafts/d'; do
     rm -rf photographs* drafts*
     mkdir -p photographs/{2023,2024,drafts}
     for name in 2023/a 2023/b 2024/a drafts/d drafts/e; do echo "$name" >"photographs/$name"; done
     bagit --quiet --sha256 photographs
-    gone=${damage#rm }
-    [[ $damage == true ]] || gone="rm -r ${gone%%/*}.old; ./renew ${gone%%/*} remove ${gone#*/data/}"
-    tells_damage 'docs/NOT_MADE.md: a bag that is split' "$damage" "${split/$'\n'/$'\n'"$gone"$'\n'}"
+    gone=true
+    [[ $damage == true ]] || gone="bagit-keep repack ${damage/ / remove } 2>&1 | sed -n 's/.*the old bag is //p' | xargs rm -r"
+    tells_damage 'docs/NOT_MADE.md: a bag that is split' "$damage" "${split/$'\nsort'/$'\n'"$gone"$'\nsort'}"
 done
 
 # A bag elsewhere is one of the folder; what copying flips or loses, and a name that is there, is found.
@@ -798,7 +797,7 @@ echo x | tee -a lost/-t >>lost/bag-info.txt
 cp -a lost before
 restores 'is valid' copy
 diff -r lost copy
-kept=$(cd lost.kept.*/old && find . -type f -exec cmp {} ../../before/{} \; -printf .)
+kept=$(cd lost.kept.* && find . -type f -exec cmp {} ../before/{} \; -printf .)
 [[ $kept == ....... ]] || give_up "docs/FAULTS.md: of 7 files that were replaced ${#kept} are kept"
 restores 'is valid' copy
 rm -r before
@@ -809,9 +808,8 @@ rm lost/data/gone
 cp -a lost before
 restores 'has faults: 2' copy
 diff <(diff -rq before lost) - <<<'Only in lost/data: gone' || give_up 'docs/FAULTS.md: a better file is replaced'
-restores 'has faults: 2' lost
 ln -sf /proc/version copy/data/better
-for names in 'lost copy' 'lost nowhere' 'nowhere copy'; do
+for names in 'lost copy' 'lost nowhere' 'nowhere copy' 'lost lost'; do
     fails docs/FAULTS.md follow docs/FAULTS.md 'Restoring files from another copy' 1 DIR "${names% *}" COPY "${names#* }"
 done
 diff <(diff -rq before lost) - <<<'Only in lost/data: gone' || give_up 'docs/FAULTS.md: a bag is restored from nowhere'
@@ -843,46 +841,54 @@ new_mended() {
     done
     [[ $(bagit --validate mended) == 'mended is valid' ]] || give_up "a bag with the tag file $note isn't valid"
 }
-mends() { # FILE CHANGE ANSWER: how the page's last check begins each line after a command has changed the file
-    {
-        block docs/FAULTS.md 'Changing a tag file' 1 | sed 's/^cd DIR$/cd mended/; s/^file=bag-info.txt /file=$1 /'
-        echo "$2; echo changed"
-        block docs/FAULTS.md 'Changing a tag file' 2
-    } >way
-    bash way "$1" >printed 2>complaints || true
-    [[ $(sed '1,/^changed$/d' printed | cut -d ' ' -f 1-3) == "$3" ]] ||
-        { cat printed; give_up "docs/FAULTS.md: after '$2' of $1 the last check says something else"; }
+mends() { # FILE CHANGE ANSWER: by the page's first command, whose editor makes the change; or by that which removes
+    local way number=1
+    [[ $2 != remove ]] || number=3
+    way=$(block docs/FAULTS.md 'Changing a tag file' 1 | sed -n "${number}p; s/notes.txt/\"\$FILE\"/; s/DIR/mended/" | head -n 1)
+    way=${way/DIR/mended} way=${way/bag-info.txt fetch.txt/\"\$FILE\"} way=${way/notes.txt/\"\$FILE\"}
+    printf '#!/bin/bash\nfile=$1\n%s\n' "$2" >editor
+    chmod +x editor
+    cp -a mended untouched
+    FILE=$1 EDITOR=$work/editor VISUAL='' bash <<<"$way" >printed 2>complaints || true
+    [[ $(tail -n 1 printed) == "$work/mended.new/bag $3" ]] ||
+        { cat printed complaints; give_up "docs/FAULTS.md: after '$2' of $1 the last check says something else"; }
+    [[ $3 == 'is valid' ]] || diff -r untouched mended || give_up "docs/FAULTS.md: '$2' of $1 changes a bag with faults"
+    rm -r untouched
     followed=$((followed + 1))
 }
-adds='echo Bag-Software-Agent: us >>"$file"' removes='rm -- "$file" && gone=yes'
+adds='echo Bag-Software-Agent: us >>"$file"'
 new_mended
-mends bag-info.txt "$adds" '. is valid'
+mends bag-info.txt "$adds" 'is valid'
 grep -v '^Bag-Software-Agent: us$' mended/bag-info.txt | cmp - mended.kept.*/bag-info.txt
-for change in "$adds" "$removes"; do
+for change in "$adds" remove; do
     new_mended
-    mends "$note" "$change" '. is valid'
+    mends "$note" "$change" 'is valid'
 done
 [[ ! -e mended/$note && $(sort mended/tagmanifest-*.txt | wc -l) == 8 ]] ||
     give_up "docs/FAULTS.md: a tag file isn't removed from the tag manifests alone"
 new_mended
-mends manifest-md5.txt "$removes" '. is valid'
+mends manifest-md5.txt remove 'is valid'
+new_mended
+{ cat mended/bag-info.txt && echo Bag-Software-Agent: us; } >new.txt
+sed -n 2p <(block docs/FAULTS.md 'Changing a tag file' 1) | sed s/DIR/mended/ | bash >printed 2>&1 || wrong 'docs/FAULTS.md: no file is taken'
+cmp new.txt mended/bag-info.txt
+rm new.txt
 
 # What was damaged or removed before stays a fault, and so does a damaged byte of another file.
-twice() { printf '%s\n' "$1" "$1" '. has faults:'; }
+damages() { # DAMAGE FAULT
+    new_mended
+    (cd mended && eval "$1")
+    mends bag-info.txt "$adds" 'has faults: 2'
+    [[ $(cut -d ' ' -f 1-3 printed | sort | uniq -c) == *" 2 $2"* ]] || wrong "docs/FAULTS.md: after $1 it does not say $2"
+}
+damages 'sed -i s/Oxum/Oxun/ bag-info.txt' '702 tag-sum-differs bag-info.txt'
+damages "sed -i '1s/[a-f]/\U&/' manifest-md5.txt" '702 tag-sum-differs manifest-md5.txt'
+damages 'sed -i s/a/e/ data/a' '701 payload-sum-differs data/a'
+damages 'rm bag-info.txt' '702 tag-sum-differs bag-info.txt'
 new_mended
-sed -i s/Oxum/Oxun/ mended/bag-info.txt
-mends bag-info.txt "$adds" "$(twice '702 tag-sum-differs bag-info.txt')"
-new_mended
-sed -i '1s/[a-f]/\U&/' mended/manifest-md5.txt
-mends bag-info.txt "$adds" "$(twice '702 tag-sum-differs manifest-md5.txt')"
-new_mended
-sed -i s/a/e/ mended/data/a
-mends bag-info.txt "$adds" "$(twice '701 payload-sum-differs data/a')"
-new_mended
-rm mended/bag-info.txt
-mends bag-info.txt "$adds" "$(twice '702 tag-sum-differs bag-info.txt')"
-new_mended
-mends bag-info.txt 'rm "$file"' "$(printf '501 manifest-line tagmanifest-%s.txt\n' md5 sha512; echo '. has faults:')"
+printf '#!/bin/bash\nrm "$1"\n' >editor
+fails docs/FAULTS.md env EDITOR="$work/editor" bagit-keep edit mended bag-info.txt
+bagit --validate --quiet mended
 runs_nothing docs/FAULTS.md
 
 # FAULTS: tag files in Latin-1 or UTF-16 are converted beside the bag, which stays as it is.
@@ -990,12 +996,12 @@ finds() { # CODE-AND-PATH: the only fault
     fails docs/PROFILES.md asks
     [[ $(wc -l <printed) == 2 && $(<printed) == "$1"* ]] || give_up "docs/PROFILES.md: not $1 but $(<printed)"
 }
-mends bag-info.txt 'printf "BagIt-Profile-Identifier: x\nBag-Software-Agent: us and them\n" >>"$file"' '. is valid'
+mends bag-info.txt 'printf "BagIt-Profile-Identifier: x\nBag-Software-Agent: us and them\n" >>"$file"' 'is valid'
 [[ $(asks) == 'mended is valid' ]] || give_up 'docs/PROFILES.md: an element that was added is not found'
 echo >mended/x
 finds '810 tag-file-not-allowed x '
 rm mended/x
-mends bag-info.txt 'sed -i "s/us and/us\n and/" "$file"' '. is valid'
+mends bag-info.txt 'sed -i "s/us and/us\n and/" "$file"' 'is valid'
 finds '804 value-not-allowed bag-info.txt '
 
 # LIBRARY: the crates that its commands copy are all that these need of this repository (they are linked here, as what is made of them
