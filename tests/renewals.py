@@ -21,7 +21,7 @@ LABELS = ("Contact-Name", "contact-name", "External-Identifier", "External-ident
 VALUES = ("", "Ann", "A 2026/17", "=", "a: b", "50 %", "Zürich", "on two\nlines", "on\nthree\nlines", "\non the second")
 BAD = (("", "x"), ("a:b", "x"), ("a ", "x"), ("Payload-Oxum", "1.1"), ("payload-oxum", ""), ("x", "\rb"), ("x", "a\n\nb"))
 IN_THE_WAY = (BEGUN.decode(), f"{BEGUN.decode()}/a", "bag-info.txt/a", "tagmanifest-sha224.txt/a")
-MODES = (0o644, 0o644, 0o600, 0o640, 0o444)
+MODES = (0o644, 0o644, 0o600, 0o640, 0o664)
 COUNTED = ("bags", "renewed", "of 0.97 that stay so", "of 0.97 to 1.0", "without reading the payload", "manifests printed")
 REASONS = ("fault", "fetch.txt", "can't be named", "would be in no manifest")
 COUNTS = dict.fromkeys((*COUNTED, "refused", *REASONS), 0)
