@@ -162,7 +162,7 @@ completes 'photographs plans profile.json' bagit-keep report p
 completes '--files' bagit-keep report --fi
 completes '' bagit-keep report --files 6
 completes '' bagit-keep report -- --fi
-completes 'renew repack report restore retire round' bagit-keep r
+completes 'receive renew repack report restore retire round' bagit-keep r
 completes 'photographs plans' bagit-keep info p
 completes 'photographs plans' bagit-keep make --labels photographs p
 completes 'photographs plans profile.json' bagit-keep make --labels p
@@ -180,6 +180,9 @@ completes 'photographs plans' bagit-keep round round p
 completes 'photographs plans profile.json' bagit-keep round round --list = p
 completes 'photographs plans' bagit-keep round --since p
 completes '' bagit-keep round --jobs p
+completes 'photographs plans profile.json' bagit-keep receive p
+completes 'photographs plans profile.json' bagit-keep send p
+completes 'photographs plans' bagit-keep fetch p
 
 # What fish completes: the arguments in the first column.
 if type -P fish >/dev/null; then

@@ -25,6 +25,14 @@ trees       files and folders that are made beside others
 runs        what `bagit` and `bagit-renew` answer of one bag
 tags        tag files, read to be shown
 info        `bagit-keep info`: what the tag files of a bag say
+receive     `bagit-keep receive`: a deposit becomes a bag of a store
+members     the files that come: listed, judged by paths, and unpacked
+archives    what a .tar or a .zip has
+serialization  what a profile says of archive files
+receipts    what came, what was found, what became of it
+fetch       `bagit-keep fetch`: the files that fetch.txt names
+send        `bagit-keep send`: a bag, packed as a .tar that is checked
+places      folders in which something is made, and names given once
 commands    which commands there are, and how any of them ends
 messages    what they say to people, and how they read their words
 """

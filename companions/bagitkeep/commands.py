@@ -11,11 +11,14 @@ from . import __version__
 from .messages import Refused, explained, say
 
 COMMANDS = {
-    "edit": ("edit", "change a tag file of a bag"),
-    "info": ("info", "write what the tag files of a bag say"),
     "make": ("make", "make folders bags, after a look at all of them"),
+    "receive": ("receive", "take a bag that came into a store of bags"),
+    "fetch": ("fetch", "fetch the files that fetch.txt of a bag names"),
+    "send": ("send", "pack a bag as a .tar that is checked"),
+    "edit": ("edit", "change a tag file of a bag"),
     "repack": ("repack", "add, remove or rename payload files of a bag"),
     "restore": ("restore", "restore files of a bag from copies of it"),
+    "info": ("info", "write what the tag files of a bag say"),
     "report": ("report", "write reports of bagit as data, or a summary"),
     "round": ("go_round", "check many bags, and write the table of a round"),
     "init": ("keeping", "make a register of bags"),

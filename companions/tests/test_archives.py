@@ -1,0 +1,192 @@
+"""What of an archive file is taken, and what is refused by its name."""
+import io
+import tarfile
+import tempfile
+import unittest
+import zipfile
+from pathlib import Path
+from typing import Dict, List
+
+from bagitkeep.archives import (
+    END_MARK,
+    Stream,
+    bare,
+    form_of,
+    opened,
+    tar_content,
+    zip_name,
+)
+from bagitkeep.members import (
+    MANY,
+    Content,
+    Limits,
+    Member,
+    Unfit,
+    digests_of,
+    refuse_path,
+    refuse_twice,
+    unpack,
+)
+
+
+def tar_of(*members: tarfile.TarInfo) -> bytes:
+    out = io.BytesIO()
+    with tarfile.open(fileobj=out, mode="w") as tar:
+        for it in members:
+            tar.addfile(it, io.BytesIO(bytes(it.size)))
+    return out.getvalue()
+
+
+def listed(content: bytes) -> List[Member]:
+    stream = opened("tar", io.BytesIO(content), len(content))
+    return tar_content(stream, None, Limits(MANY, MANY)).members
+
+
+def files(*paths: str) -> List[Member]:
+    return [Member(it.rstrip("/"), it.endswith("/")) for it in paths]
+
+
+class Paths(unittest.TestCase):
+    def test_they_lead_into_the_folder(self) -> None:
+        for path in "a", "a/b", "a b", "..a", "a\\b", "é":
+            refuse_path(path)
+        long = "/".join(["d"] * 300)
+        bad = "", "/a", "a//b", "a/", "./a", "a/../b", "..", "\0", "\udce9"
+        for path in *bad, long, "n" * 5000:
+            with self.assertRaises(Unfit):
+                refuse_path(path)
+
+    def test_one_dot_in_front_and_a_slash_at_the_end(self) -> None:
+        self.assertEqual(bare("./a/", True), "a")
+        self.assertEqual(bare("./", True), "")
+        self.assertEqual(bare(".", True), "")
+        self.assertEqual(bare("././a", False), "./a")
+        self.assertEqual(bare("a/", False), "a/")
+        self.assertEqual(bare("a//", True), "a/")
+
+    def test_each_is_there_once(self) -> None:
+        refuse_twice(files("a", "b/", "b/c", "b/", "c/d", "c/"))
+        for paths in (
+            ("a", "a"),
+            ("a", "a/"),
+            ("a/", "a"),
+            ("a", "a/b"),
+            ("a/b", "a"),
+            ("a", "A"),
+            ("a/b", "A/c"),
+            ("stra\xdfe", "STRASSE"),
+            ("\xe9", "e\u0301"),
+        ):
+            with self.assertRaises(Unfit):
+                refuse_twice(files(*paths))
+        refuse_twice(files("a", "A", "\xe9", "e\u0301"), is_archive=False)
+        with self.assertRaises(Unfit):
+            refuse_twice(files("a", "a"), is_archive=False)
+
+
+class Tars(unittest.TestCase):
+    def setUp(self) -> None:
+        self.info = tarfile.TarInfo("bag/a")
+        self.info.size = 700
+
+    def test_members(self) -> None:
+        (found,) = listed(tar_of(self.info))
+        self.assertEqual((found.path, found.size), ("bag/a", 700))
+
+    def test_the_end_is_two_blocks_of_zeros(self) -> None:
+        whole = tar_of(self.info)[: 512 + 1024 + END_MARK]
+        self.assertEqual(len(listed(whole)), 1)
+        self.assertEqual(len(listed(whole + bytes(3))), 1)
+        for content in whole[:-1], whole[:-512], whole[:1536], whole[:1535]:
+            with self.assertRaises((Unfit, tarfile.TarError)):
+                listed(content)
+        with self.assertRaises(Unfit):
+            listed(whole + b"\1")
+
+    def test_types(self) -> None:
+        for kind in b"1", b"2", b"3", b"4", b"6", b"7", b"S", b"V", b"D":
+            other = tarfile.TarInfo("bag/b")
+            other.type = kind
+            with self.assertRaises((Unfit, tarfile.TarError)):
+                listed(tar_of(self.info, other))
+
+    def test_limits(self) -> None:
+        content = tar_of(self.info, tarfile.TarInfo("bag/b"))
+        for limits in Limits(1, 700), Limits(2, 699):
+            stream = opened("tar", io.BytesIO(content), len(content))
+            with self.assertRaises(Unfit):
+                tar_content(stream, None, limits)
+        stream = opened("tar", io.BytesIO(content), len(content))
+        left = Limits(2, 700)
+        tar_content(stream, None, left)
+        self.assertEqual((left.files, left.bytes), (0, 0))
+
+    def test_a_stream_has_no_more_than_it_may(self) -> None:
+        stream = Stream(io.BytesIO(bytes(9)), 8, "too much")
+        self.assertEqual(len(stream.read(8)), 8)
+        for reads in lambda: stream.read(1), lambda: stream.seek(9):
+            with self.assertRaisesRegex(Unfit, "too much"):
+                reads()
+        with self.assertRaises(Unfit):
+            stream.read(1 << 30)
+
+
+class Zips(unittest.TestCase):
+    def name(self, raw: bytes, names: str = "", flags: int = 0) -> str:
+        marked = flags & 0x800
+        info = zipfile.ZipInfo(raw.decode("utf-8" if marked else "cp437"))
+        info.flag_bits = flags
+        return zip_name(info, names or None)
+
+    def test_names(self) -> None:
+        self.assertEqual(self.name("\xfc".encode()), "\xfc")
+        self.assertEqual(self.name("\xfc".encode(), flags=0x800), "\xfc")
+        self.assertEqual(self.name("\xfc".encode(), "cp850", 0x800), "\xfc")
+        self.assertEqual(self.name(b"\x81", "cp850"), "\xfc")
+        self.assertEqual(self.name(b"a\\b", "cp850"), "a/b")
+        self.assertEqual(self.name(b"a\\b"), "a\\b")
+        with self.assertRaisesRegex(Unfit, "--names"):
+            self.name(b"\x81")
+
+
+class Others(unittest.TestCase):
+    def test_forms(self) -> None:
+        for content, form in (
+            (b"PK\3\4..", "zip"),
+            (b"PK\5\6..", "zip"),
+            (b"\x1f\x8b", "tar.gz"),
+            (b"BZh9", "tar.bz2"),
+            (b"\xfd7zXZ\0", "tar.xz"),
+            (b"\x28\xb5\x2f\xfd", "tar.zst"),
+            (b"bag/", "tar"),
+            (b"", "tar"),
+        ):
+            self.assertEqual(form_of(io.BytesIO(content)), form)
+
+    def test_digests(self) -> None:
+        found = digests_of(io.BytesIO(b"abc"), ["md5", "sha1"])
+        self.assertEqual(
+            found,
+            {  # RFC 1321, A.5; FIPS 180-1, Appendix A
+                "md5": "900150983cd24fb0d6963f7d28e17f72",
+                "sha1": "a9993e364706816aba3e25717850c26c9cd0d89d",
+            },
+        )
+
+    def test_what_is_unpacked_is_what_was_listed(self) -> None:
+        members = [Member("d/a", False, 3), Member("e", True)]
+
+        def unpacked(pieces: List[bytes]) -> Dict[str, bytes]:
+            with tempfile.TemporaryDirectory() as folder:
+                unpack(Content(members, lambda _: iter(pieces)), folder)
+                files = [it for it in Path(folder).rglob("*") if it.is_file()]
+                return {it.name: it.read_bytes() for it in files}
+
+        self.assertEqual(unpacked([b"ab", b"c"]), {"a": b"abc"})
+        for pieces in [], [b"ab"], [b"abcd"], [b"abc", b"d"]:
+            with self.assertRaises(Unfit):
+                unpacked(pieces)
+
+
+if __name__ == "__main__":
+    unittest.main()

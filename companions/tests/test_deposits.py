@@ -1,0 +1,172 @@
+"""What is asked of a deposit, of its receipt and of hosts, and the names that
+nothing else gets."""
+import argparse
+import json
+import os
+import tempfile
+import unittest
+from pathlib import Path
+from typing import Any, Dict, List, Optional, Tuple
+
+from bagitkeep.fetch import host_of, refuse_hosts
+from bagitkeep.lines import WORDS
+from bagitkeep.members import Content, Member, Unfit
+from bagitkeep.messages import Refused
+from bagitkeep.places import place, place_by_look, work_at, work_path
+from bagitkeep.receipts import meanings, page_of, refused_by_windows, text_of
+from bagitkeep.receive import Case, arrange, digest_of, read_words
+from bagitkeep.serialization import why_not_so
+
+
+def arranged(*paths: str, name: Optional[str] = None) -> Tuple[str, str]:
+    asked = argparse.Namespace(name=name)
+    with tempfile.TemporaryFile() as file:
+        case = Case(asked, "/x", "/s", None, "1", "", file)
+        members = [Member(it.rstrip("/"), it.endswith("/")) for it in paths]
+        return arrange(case, Content(members, lambda _: iter(())))
+
+
+class Folders(unittest.TestCase):
+    def test_one_at_the_top(self) -> None:
+        self.assertEqual(arranged("b/", "b/a"), ("b", "b"))
+        self.assertEqual(arranged("b/a"), ("b", "b"))
+        self.assertEqual(arranged("b/a", name="c"), ("c", "b"))
+        found = arranged("b/a", "__MACOSX/b/._a", ".DS_Store")
+        self.assertEqual(found, ("b", "b"))
+
+    def test_none_or_several(self) -> None:
+        for paths in ("a", "b/c"), ("a/b", "c/d"), ("a",), ("__MACOSX/a",):
+            with self.assertRaisesRegex(Unfit, "--as"):
+                arranged(*paths)
+            self.assertEqual(arranged(*paths, name="n"), ("n", ""))
+
+
+class Words(unittest.TestCase):
+    def test_digests_of_senders(self) -> None:
+        digest = "9" * 64
+        self.assertEqual(digest_of(f"sha256:{digest}"), ("sha256", digest))
+        found = digest_of(f"SHA-256:{'AB' * 32}")
+        self.assertEqual(found, ("sha256", "ab" * 32))
+        for word in digest, "sha256:9", f"sha512:{digest}", f"x:{digest}", "":
+            with self.assertRaises(argparse.ArgumentTypeError):
+                digest_of(word)
+
+    def test_what_goes_together(self) -> None:
+        words = "d", "s", "--fetch", "--allow", "a", "--allow", "b"
+        self.assertEqual(read_words(words).allow, ["a", "b"])
+        alone, hidden = ["d", "s", "--allow", "a"], ["d", "s", "--as", "."]
+        for wrong in ["d"], alone, hidden:
+            with self.assertRaises(Refused):
+                read_words(wrong)
+
+
+class Profiles(unittest.TestCase):
+    def test_archive_files(self) -> None:
+        zips: Dict[str, Any] = {"Accept-Serialization": ["application/zip"]}
+        both = {"Accept-Serialization": ["application/x-tar", "zip"]}
+        self.assertIsNone(why_not_so({}, "tar"))
+        self.assertIsNone(why_not_so({"Serialization": "required"}, "tar"))
+        self.assertIsNone(why_not_so(zips, "zip"))
+        self.assertIsNone(why_not_so(both, "tar"))
+        for profile in {"Serialization": "forbidden"}, zips:
+            self.assertIsNotNone(why_not_so(profile, "tar"))
+        self.assertIsNotNone(why_not_so(both, "tar.gz"))
+
+
+class Hosts(unittest.TestCase):
+    def test_of_urls(self) -> None:
+        for url, host in (
+            ("http://a.example/x", "a.example"),
+            ("HTTPS://A.example", "a.example"),
+            ("http://a:80/{1,2}[a]?q#f", "a"),
+            ("http://[::1]:8/", "[::1]"),
+        ):
+            self.assertEqual(host_of(url), host)
+        for url in (
+            "file:///etc/passwd",
+            "ftp://a/",
+            "http://b@a/",
+            "http://a\\@b/",
+            "http://a b/",
+            "http://a:x/",
+            "http:///x",
+            "http://a/\u00e9",
+            "a/b",
+            "-o x",
+            "http://a/\nb",
+        ):
+            self.assertIsNone(host_of(url), url)
+
+    def test_others_are_refused(self) -> None:
+        refuse_hosts(["http://a/x", "https://b/"], {"a", "b"})
+        with self.assertRaisesRegex(Refused, "hosts: b, c"):
+            refuse_hosts(["http://c/", "http://b/", "http://a/"], {"a"})
+
+
+class Receipts(unittest.TestCase):
+    def test_names_in_windows(self) -> None:
+        for path in "a/CON", "nul.txt", "a:b", "x?", "a\\b", "a.", "a ", "\t":
+            self.assertTrue(refused_by_windows(path), path)
+        for path in "con/a", "console", "a b", ".a", "com0", "é":
+            self.assertFalse(refused_by_windows(path), path)
+
+    def test_remarks(self) -> None:
+        self.assertEqual(text_of(("x", [])), "x")
+        paths: List[str] = ["a b", "c", "d", "e"]
+        self.assertEqual(text_of(("x", paths)), "x: 4 (a%20b, c, d, ..)")
+
+    def test_each_code_is_explained(self) -> None:
+        found = meanings()
+        if found:  # the page isn't beside each copy of the package
+            self.assertEqual(set(found), set(WORDS))
+            self.assertTrue(all(all(it) for it in found.values()))
+
+    def test_a_page_obeys_no_name(self) -> None:
+        receipt = {"number": "1", "decision": "refused", "x": ["<b>\x1b", {}]}
+        page = page_of(json.loads(json.dumps(receipt)))
+        self.assertIn("&lt;b&gt;\\x1b", page)
+        self.assertNotIn("<b>", page)
+
+
+class Places(unittest.TestCase):
+    def setUp(self) -> None:
+        folder = tempfile.TemporaryDirectory()
+        self.addCleanup(folder.cleanup)
+        self.folder = Path(folder.name)
+
+    def test_nothing_is_replaced(self) -> None:
+        for gives in place, place_by_look:
+            for kind in Path.mkdir, Path.touch:
+                old, new = self.folder / "old", self.folder / "new"
+                kind(old)
+                gives(str(old), str(new))
+                self.assertFalse(old.exists())
+                kind(old)
+                with self.assertRaises(FileExistsError):
+                    gives(str(old), str(new))
+                self.assertTrue(old.exists())
+                for path in old, new:
+                    path.rmdir() if path.is_dir() else path.unlink()
+
+    def test_one_works_at_a_time(self) -> None:
+        path = work_path(str(self.folder), "sending", "a")
+        self.assertEqual(path, work_path(str(self.folder), "sending", "a"))
+        self.assertNotEqual(path, work_path(str(self.folder), "sending", "b"))
+        os.mkdir(path)
+        Path(path, "left").touch()
+        with work_at(path) as work:
+            self.assertEqual(os.listdir(path), ["left"])
+            work.clear()
+            self.assertEqual(os.listdir(path), [])
+            with self.assertRaisesRegex(Refused, "another process"):
+                with work_at(path):
+                    pass
+            Path(work.at("new")).touch()
+        self.assertFalse(os.path.exists(path))
+        with work_at(path) as work:
+            work.keep = True
+        self.assertTrue(os.path.exists(path))
+
+
+if __name__ == "__main__":
+    unittest.main()
