@@ -39,7 +39,7 @@ ANSWERS = {  # what a reader looks for: the page, and what stands there
     "how to change a bag": ("docs/NOT_MADE.md", r"^### Changing a bag$.*^    bagit-keep repack "),
     "how to add an algorithm to a bag": ("docs/RENEWING.md", r"^# Renewing a bag$.*^    bagit-renew --add sha512 deposit\b"),
     "what to do after a renewal was cut off": ("docs/RENEWING.md", r"^## After a cut$.*\*\*give the same command again\*\*"),
-    "how to receive a bag": ("docs/RECEIVING.md", r"^## Archive files$.*^    .*bagit --validate"),
+    "how to receive a bag": ("docs/RECEIVING.md", r"^## Archive files$\s+^    bagit-keep receive "),
     "how to check with a profile, by the program": ("README.md", r"^    \$ bagit --validate .*--profile profile\.json letters$"),
     "which keys of a profile are checked": ("docs/PROFILES.md", r"^    bagit --validate --profile .*^## The keys$"),
     "how to check with a profile, from a program": ("docs/LIBRARY.md", r"^## A check$.*\bProfile::read\(.*\bSome\(&profile\)"),

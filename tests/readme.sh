@@ -219,7 +219,6 @@ script() { # PAGE FILE
     [[ -s $2 ]] || give_up "docs/$1: it has no script"
     chmod +x "$2"
 }
-script RECEIVING.md fetch
 
 # `sync` waits for all that a machine writes, which a test needn't.
 ln -s "$(type -P true)" bin/sync
@@ -438,7 +437,7 @@ unzips=$(grep -o 'unzip -qn [^`]*' "$root/docs/RECEIVING.md")
 receives() { # KIND WHAT-IS-WRONG
     local way
     rm -rf unpacked
-    way=$(block docs/RECEIVING.md 'Archive files' 1)
+    way=$(block docs/RECEIVING.md 'By hand' 1)
     [[ $1 == tar ]] || way=mkdir\ unpacked${way#*mkdir unpacked}
     [[ $1 == tar ]] || way=${way/tar --no-same-owner -xf deposit.tar -C unpacked/$unzips}
     [[ $way == *"deposit.$1"* ]] || give_up "docs/RECEIVING.md: no way to unpack a .$1: $way"
@@ -492,12 +491,30 @@ for damage in true 'sed -i "s/as it is/as it wa/" deposit.tar'; do
     new_deposit
     rm -f deposit.tar
     between tar 1 after "$damage"
-    tells_damage 'docs/RECEIVING.md: a bag that is sent' "$damage" "$(block docs/RECEIVING.md 'Archive files' 2)"
+    tells_damage 'docs/RECEIVING.md: a bag that is sent' "$damage" "$(block docs/RECEIVING.md 'By hand' 2)"
 done
 new_deposit
 echo 'as it was received' >deposit.tar
-tells_damage 'docs/RECEIVING.md: a bag that is sent' 'a file is there' "$(block docs/RECEIVING.md 'Archive files' 2)"
+tells_damage 'docs/RECEIVING.md: a bag that is sent' 'a file is there' "$(block docs/RECEIVING.md 'By hand' 2)"
 [[ $(<deposit.tar) == 'as it was received' ]] || give_up 'docs/RECEIVING.md: packing replaces a file'
+
+# RECEIVING: the commands take a bag in, once, and pack one, without replacing a file.
+new_deposit
+for kind in tar zip; do
+    mkdir -p srv/bags
+    pack "$kind" deposit
+    receive=(follow docs/RECEIVING.md 'Archive files' 1 deposit.zip "deposit.$kind" /srv/bags "$work/srv/bags")
+    "${receive[@]}" >printed 2>&1 || wrong "docs/RECEIVING.md: a .$kind isn't received"
+    diff -r deposit srv/bags/deposit || give_up "docs/RECEIVING.md: another bag is received of a .$kind"
+    fails docs/RECEIVING.md "${receive[@]}"
+    rm -r srv
+done
+rm deposit.tar
+send=(follow docs/RECEIVING.md 'Archive files' 2)
+"${send[@]}" >printed 2>&1 || wrong 'docs/RECEIVING.md: a bag is not sent'
+[[ $(tail -n 1 printed) == "$(sha256sum "$PWD/deposit.tar")" ]] || wrong 'docs/RECEIVING.md: another digest is said'
+fails docs/RECEIVING.md "${send[@]}"
+followed=$((followed + 6))
 
 # RECEIVING: files are fetched to the paths that fetch.txt spells, and nothing of it is run or written elsewhere.
 new_holey() { # fetch.txt, with @ in place of the server
@@ -508,11 +525,11 @@ new_holey() { # fetch.txt, with @ in place of the server
     printf "${1//@/http://127.0.0.1:$port}" >holey/fetch.txt
 }
 fetches() { # true, or WHAT-IS-WRONG
-    tells_damage 'docs/RECEIVING.md: fetching' "$1" 'timeout 30 ./fetch holey'
+    tells_damage 'docs/RECEIVING.md: fetching' "$1" "timeout 30 $fetch"
     [[ ! $(find . -name pwned -o -name evil) ]] || give_up "docs/RECEIVING.md: $1 in fetch.txt does harm"
 }
 follow_fetching() {
-    local port hosts good='@/{1,2}[a] - data/x/%%250A$(touch pwned) {1,2}\r\n\n@/b\t1 \t./data/line%%0aend '
+    local port hosts fetch good='@/{1,2}[a] - data/x/%%250A$(touch pwned) {1,2}\r\n\n@/b\t1 \t./data/line%%0aend '
     mkdir served
     printf a >'served/{1,2}[a]'
     printf b >served/b
@@ -525,6 +542,8 @@ server.serve_forever()' >port 2>>requests &
     until [[ -s port ]]; do sleep 0.1; done
     port=$(<port)
     hosts=$(grep -o 'cut [^`]*fetch.txt[^`]*' "$root/docs/RECEIVING.md")
+    fetch=$(block docs/RECEIVING.md 'Files that `fetch.txt` names' 1)
+    fetch=${fetch/www.example.org/127.0.0.1} fetch=${fetch/deposit/holey}
     new_holey "$good"
     bash <<<"${hosts/deposit/holey}" | grep -qx "127.0.0.1:$port" || give_up "docs/RECEIVING.md: $hosts lacks it"
     fetches true
