@@ -213,13 +213,6 @@ pictured bagit.txt 'not made: step 5 exists' 4
 pictured bag-info.txt 'not made: step 6 exists' '5, 6, \.\.'
 pictured '' made made
 
-# The script of a page, as a file that runs.
-script() { # PAGE FILE
-    awk '/^```/ { inside = /^```sh$/; next } inside' "$root/docs/$1" >"$2"
-    [[ -s $2 ]] || give_up "docs/$1: it has no script"
-    chmod +x "$2"
-}
-
 # `sync` waits for all that a machine writes, which a test needn't.
 ln -s "$(type -P true)" bin/sync
 
