@@ -15,9 +15,10 @@
 //! once: the digests that manifests give are compared, and the new ones computed, over the same
 //! bytes; and the elements that stay are read of these bytes.
 //!
-//! Of a bag in which a fault is found nothing is made. The renewed bag of an honest tree has no fault,
-//! and the payload of the old one. The changes that make it put or remove one tag file after the
-//! other, each can be made after those before it, and none touches the payload.
+//! Of a bag in which a fault is found nothing is made. A fault of the renewed bag of an honest tree is
+//! damage of the payload that wasn't read and that the old bag had. The changes that make it put or
+//! remove one tag file after the other, each can be made after those before it, and none touches the
+//! payload.
 #![tactic(auto)]
 
 mod alg_choice;
