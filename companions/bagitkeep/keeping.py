@@ -300,7 +300,8 @@ class Command:
     checks: bool = False
 
     def __call__(self, words: Sequence[str]) -> int:
-        usage = f"[OPTIONS] {self.takes}"
+        asked = " --by WHO --why TEXT" if "by" in self.options else ""
+        usage = f"[OPTIONS] {self.takes}{asked}"
         parser = parser_of(self.name, usage, self.about, self.one)
         for option in self.options:
             OPTIONS[option](parser)

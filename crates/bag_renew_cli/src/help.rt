@@ -27,4 +27,4 @@ Examples:
   Add SHA-512                    bagit-renew --add sha512 deposit
   Replace MD5 by SHA-256         bagit-renew --add sha256 --drop md5 deposit
   Set an accession number        bagit-renew --set \"External-Identifier=A 2026/17\" deposit
-  Renew a copy by hard links     cp -al deposit renewed && bagit-renew --add sha512 renewed";
+  Renew a copy by hard links     cp -al deposit renewed && sync && bagit-renew --add sha512 renewed";
