@@ -95,14 +95,14 @@ def header_of(name: str, found: os.stat_result) -> tarfile.TarInfo:
 def sum_of_checked(work: Work, bag: str, asked: Asked) -> str:
     """The SHA-256 of what was packed, once it is seen to be the bag: it is
     unpacked, and checked in full."""
-    path, place = work.at("packed"), work.at("unpacked")
-    os.mkdir(place)
+    path, folder = work.at("packed"), work.at("unpacked")
+    os.mkdir(folder)
     with open(path, "rb") as file, understood():
         digest = digests_of(file, ["sha256"])["sha256"]
         stream = opened("tar", file, os.fstat(file.fileno()).st_size)
         content = tar_content(stream, None, Limits(MANY, MANY))
-        unpack(content, place)
-    unpacked = os.path.join(place, os.path.basename(bag))
+        unpack(content, folder)
+    unpacked = os.path.join(folder, os.path.basename(bag))
     settle_all(unpacked)
     report = check(unpacked, asked)
     if report.status != 0 or seal_of(unpacked) != seal_of(bag):
