@@ -43,7 +43,7 @@ diff report - <<<'deposit is valid'
 bagit-check-large --jobs 2 deposit in_parts >printed
 diff in_parts report
 bagit-check-large --help >printed
-diff <(cd "$root/packaging/lib" && ls *.py) <(ls tree/usr/lib/bagit) || give_up 'it has other modules'
+diff <(cd "$root/packaging/lib" && ls) <(ls tree/usr/lib/bagit) || give_up 'it has other modules'
 status=0
 cp tree/usr/bin/bagit-check-large alone
 ./alone deposit unwritten 2>printed || status=$?
