@@ -50,8 +50,8 @@ fn run_verb(
             let (alloc, below) = (sight.texts.alloc, sight.entry.below);
             match (lines_on_disk(alloc, below), lines_in_memory(alloc, below)) {
                 (Ok(on_disk), Ok(in_memory)) => {
-                    see_on_disk(rt, &with_lines(sight, &on_disk), verb, words, report);
-                    see_in_memory(&with_lines(sight, &in_memory), verb, words, world, report);
+                    see_on_disk(rt, &with_lines(&*sight, &on_disk), verb, words, report);
+                    see_in_memory(&with_lines(&*sight, &in_memory), verb, words, world, report);
                 }
                 _ => report.text.fail(Mistake::Memory),
             }
