@@ -263,6 +263,16 @@ def view_of(
     )
 
 
+def said_of(row: Row) -> str:
+    """What a finding says, but for digests."""
+    if row["kind"] in ("new", "altered"):
+        return ""
+    words = row["text"].split(" ")
+    if row["kind"] == "fault" and len(words) == 6:
+        return ", ".join(it for it in words[1:4] if it != "-")
+    return str(row["text"])
+
+
 def news_of(
     state: State, views: Dict[int, BagView]
 ) -> Iterator[Dict[str, str]]:
@@ -272,8 +282,8 @@ def news_of(
             "what": row["kind"],
             "bag": state.name_of(row),
             "page": view.page if view is not None else "",
-            "says": "" if row["kind"] == "new" else row["text"],
-            "since": row.get("since", ""),
+            "says": said_of(row),
+            "since": row.get("since", "")[:10],
         }
 
 
