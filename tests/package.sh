@@ -120,7 +120,7 @@ for page in $programs; do
         part='keep[(][)]|CURRENT' of_fish=use_subcommand
     fi
     "${words[@]}" --help | sed -nE 's/^ {2,}(-[a-z], )?(--[a-z0-9.-]+) ?.*/\1\2/p' | sed 's/, /\n/' | sort >in_help
-    (($(wc -l <in_help) > 2)) || give_up "${words[*]} --help has no options"
+    (($(wc -l <in_help) > 1)) || give_up "${words[*]} --help has no options"
     manual "man1/$page" | sed -n '/^\.SH OPTIONS/,/^\.SH/p' | grep -oE -- '(^|[^a-z0-9-])(--[a-z]([.]?[a-z0-9-])*|-h)\b' |
         grep -oE -- '--?[a-z0-9.-]+' | sort -u | diff in_help - || give_up "$page(1) has other options than --help"
     blocks "$part" "$bash/$name" | sed -n "s/.*compgen -W '\(.*\)' -- .*/\1/p" | tr ' ' '\n' | grep ^- | sort | diff in_help - ||
@@ -171,7 +171,7 @@ completes 'photographs plans profile.json' bagit-keep restore photographs --from
 completes 'photographs plans' bagit-keep repack photographs add p
 completes 'photographs plans profile.json' bagit-keep edit photographs p
 completes '--version' bagit-keep --v
-completes '' bagit-keep p
+completes 'page premis' bagit-keep p
 completes '' bagit-keep other p
 completes 'photographs plans profile.json' bagit-check-large --profile = p
 completes 'photographs plans profile.json' bagit-check-large photographs p
