@@ -18,7 +18,7 @@ from .checks import now, sealed
 from .go_round import absolute, jobs_of
 from .lines import encoded
 from .messages import Parser, Refused, printable, say
-from .news import settle
+from .news import remind, settle
 from .premis import premis_of
 from .register import Register, Row, alone, make
 from .rounds import Round, text_of
@@ -138,7 +138,9 @@ def take(
 
 
 def status(register: Register, read: Namespace, paths: List[bytes]) -> int:
-    """Writes the news, without looking at any bag."""
+    """Writes the news, also which bags are overdue, without a look at any."""
+    with register.changing():
+        remind(register)
     return tell(register)
 
 
