@@ -16,14 +16,15 @@ export PYTHONDONTWRITEBYTECODE=1
 enter renew
 seen=0
 
-# Runs bagit-renew, which has to end with this status, write what standard input says, and complain of nothing.
+# Runs bagit-renew, which has to end with this status, write what standard input says, and complain of nothing, or of this.
+complaint=
 renews() {
     local wanted=$1 status=0
     shift
     "$renew" "$@" >said 2>complaints || status=$?
     [[ $status == "$wanted" ]] || { cat said complaints; give_up "it ends with $status, not with $wanted: $*"; }
     diff - said || give_up "it says something else: $*"
-    [[ ! -s complaints ]] || { cat complaints; give_up "it complains: $*"; }
+    [[ $(<complaints) == "${complaint:+bagit-renew: $complaint}" ]] || { cat complaints; give_up "it complains: $*"; }
     seen=$((seen + 1))
 }
 
@@ -274,7 +275,10 @@ rm d/data/link
 echo x >"d/data/$(printf '\xe9')"
 leaves renews 3 d <<<'d not renewed: read - name'
 rm d/data/?
-for name in nowhere d/data/first.txt ''; do renews 3 "$name" < <(echo "${name:--} not renewed: read - device"); done
+for why in nowhere:\ not\ there d/data/first.txt:\ not\ a\ folder ''; do
+    name=${why%%:*}
+    complaint=$why renews 3 "$name" < <(echo "${name:--} not renewed: read - device")
+done
 valid d
 
 # Words that are refused, with nothing looked at.
@@ -322,7 +326,7 @@ status=0
 # Several bags, each with its line, in their order; of the statuses the greatest.
 cp -r d 'a bag'
 first_fault damaged
-renews 3 --add sha1 'a bag' damaged nowhere d/ < <(
+complaint='nowhere: not there' renews 3 --add sha1 'a bag' damaged nowhere d/ < <(
     printf '%s\n' 'a%20bag renewed' "damaged not renewed: fault $fault" 'nowhere not renewed: read - device' 'd/ renewed')
 renews 1 --quiet --add sha1 'a bag' damaged d <<<"damaged not renewed: fault $fault"
 renews 0 --quiet --add sha1 'a bag' d </dev/null

@@ -82,7 +82,7 @@ def entries_of(path):
     """Each entry of a case file: its line, and those below it that say what is wanted."""
     head, below = "", []
     for line in path.read_text("latin-1").split("\n"):
-        if re.match(r"(?:[|!?]|then)(?: |$)", line):
+        if re.match(r"(?:[|!?]|!disk|then)(?: |$)", line):
             below.append(line)
         elif line and not line.startswith("#"):
             yield head, below
