@@ -215,11 +215,13 @@ def night_killed():
 
 def night_of_two():
     slow = work / 'slow'
-    slow.write_text(f'#!/bin/sh\nsleep 1\nexec "{os.environ["BAGIT"]}" "$@"\n')
+    slow.write_text(f'#!/bin/sh\n: >"{work}/begun"\nwhile [ ! -e "{work}/refused" ]; do sleep 0.1; done\nexec "{os.environ["BAGIT"]}" "$@"\n')
     slow.chmod(0o755)
     first = subprocess.Popen([keep, 'audit', register, '--jobs', '20'], env={**os.environ, 'BAGIT': str(slow)}, stdout=subprocess.DEVNULL)
-    time.sleep(0.8)
+    while not (work / 'begun').exists():
+        time.sleep(0.1)
     run('audit', register, wanted=3)
+    (work / 'refused').touch()
     assert first.wait() == 0
 
 
