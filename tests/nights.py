@@ -193,6 +193,33 @@ def night_of_tasks():
     news()
 
 
+def night_without_a_program():
+    """Bags that nobody could check are news, each of them."""
+    said = run('audit', register, wanted=1, env={**os.environ, 'BAGIT': str(work / 'nowhere')})
+    assert said[0] == 'news of 20 bags: 20 not read', said
+    news()
+
+
+def night_without_room_for_a_record():
+    """A bag of which no record could be written is news."""
+    before = set(os.listdir(register / 'rounds'))
+    blocked = work / 'blocked'
+    blocked.write_text(f"""#!/bin/sh
+case "$*" in *bag-14) for r in {register}/rounds/0*; do last=$r; done
+    rm -f "$last/records/"*; rmdir "$last/records"; : >"$last/records";; esac
+exec "{os.environ['BAGIT']}" "$@"
+""")
+    blocked.chmod(0o755)
+    said = subprocess.run(
+        [keep, 'audit', register, '--jobs', '1'], env={**os.environ, 'BAGIT': str(blocked)}, capture_output=True, text=True
+    )
+    assert said.returncode in (1, 3) and not said.stdout.startswith('no news'), said
+    for name in set(os.listdir(register / 'rounds')) - before:
+        (register / 'rounds' / name / 'records').unlink(missing_ok=True)
+    subprocess.run([keep, 'audit', register], capture_output=True)
+    news()
+
+
 def night_killed():
     change(12, 'x')
     begun = time.monotonic()

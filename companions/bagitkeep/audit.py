@@ -6,13 +6,14 @@ import re
 import shutil
 import time
 from contextlib import closing, suppress
+from functools import cached_property
 from os.path import join
 from typing import Iterator, List, Optional, Sequence, Tuple
 
 from . import rounds
 from .checks import Checks, now
 from .go_round import jobs_of, set_aside, task_of
-from .messages import Parser, Refused, printable
+from .messages import Parser, Refused, explained, printable, say
 from .news import found_of, is_past, remind, settle, state_of, welcome
 from .program import Asked, Program, find
 from .progress import Progress, bytes_of
@@ -95,7 +96,7 @@ def due(bags: List[Row], asked: argparse.Namespace) -> List[Row]:
 
 
 class Timed(Checks):
-    """Checks of which none begins after a time."""
+    """Checks of which none begins after a time; `late` are those bags."""
 
     until: Optional[float] = None
 
@@ -104,6 +105,11 @@ class Timed(Checks):
             super().begin(number)
         else:
             self.done.append(number)
+            self.late.append(self.round.directories[number - 1])
+
+    @cached_property
+    def late(self) -> List[bytes]:
+        return []
 
 
 def open_round(register: Register) -> Optional[Row]:
@@ -141,8 +147,9 @@ def folder_of(register: Register, name: str) -> bytes:
 
 def check(
     a_round: Round, numbers: List[int], asked: argparse.Namespace
-) -> None:
-    """Checks the bags of these numbers of a round."""
+) -> List[bytes]:
+    """Checks the bags of these numbers of a round; gives those for which
+    there was no time."""
     bagit = find()
     program = Program(bagit) if bagit is not None else None
     sought = os.environ.get("BAGIT") or "bagit"
@@ -156,6 +163,7 @@ def check(
         checks.run(numbers, asked.jobs or len(os.sched_getaffinity(0)))
     finally:
         progress.end()
+    return checks.late
 
 
 def left_of(a_round: Round, task: Tuple[int, int]) -> List[int]:
@@ -168,11 +176,15 @@ def left_of(a_round: Round, task: Tuple[int, int]) -> List[int]:
     ]
 
 
+def tell_of(error: OSError) -> None:
+    say(explained(error))
+
+
 def bags_in(stores: List[str]) -> Iterator[bytes]:
     """The bags in some folders, but none within another one, or in a folder
     of which the name begins with a dot."""
     for store in stores:
-        for place, names, files in os.walk(path_of(store)):
+        for place, names, files in os.walk(path_of(store), onerror=tell_of):
             if b"bagit.txt" in files:
                 names.clear()
                 yield place
@@ -180,10 +192,14 @@ def bags_in(stores: List[str]) -> Iterator[bytes]:
 
 
 def take_in(
-    register: Register, row: Optional[Row], is_cut_off: bool = False
+    register: Register,
+    row: Optional[Row],
+    is_cut_off: bool,
+    late: List[bytes],
 ) -> None:
     """Notes in the register what a round has found, and ends the round; and
-    which bags are overdue."""
+    which bags are overdue. A bag that was to be read and has no result isn't
+    passed over, unless it was too late for it."""
     results: List[Tuple[bytes, Result]] = []
     there = list(bags_in(register.setting("stores")))
     if row is not None:
@@ -194,7 +210,7 @@ def take_in(
         statuses = {}
         for path, result in results:
             bag = bags.get(text_of(path))
-            if bag is not None and result.record is not None:
+            if bag is not None and path not in late:
                 take_result(register, bag, result)
                 statuses[bag["id"]] = result.status
         if row is not None:
@@ -235,6 +251,7 @@ def was_cut_off(a_round: Round, left: List[int]) -> bool:
 def audit(register: Register, asked: argparse.Namespace) -> int:
     """One audit, or one task of it, and what is new."""
     there, is_cut_off = open_round(register), False
+    late: List[bytes] = []
     is_new = there is None
     if there is None:
         bags = due(register.rows("bags"), asked)
@@ -244,11 +261,11 @@ def audit(register: Register, asked: argparse.Namespace) -> int:
         left = left_of(a_round, asked.task or (1, 1))
         is_cut_off = not is_new and was_cut_off(a_round, left)
         if left:
-            check(a_round, left, asked)
+            late = check(a_round, left, asked)
         if asked.task is not None:
             print(f"{len(left)} bags were checked for {there['name']}")
             return 0
-    take_in(register, there, is_cut_off)
+    take_in(register, there, is_cut_off, late)
     prune(register)
     register.copy()
     return tell(register, there if is_cut_off else None)

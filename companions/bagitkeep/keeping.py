@@ -13,7 +13,7 @@ from typing import Any, Callable, Dict, List, Optional
 from typing import Sequence, Tuple
 
 from . import rounds
-from .audit import FULL, bags_in, check, number_of, tell
+from .audit import FULL, bags_in, check, number_of, open_round, tell
 from .checks import now, sealed
 from .go_round import absolute, jobs_of
 from .lines import encoded
@@ -138,10 +138,20 @@ def take(
 
 
 def status(register: Register, read: Namespace, paths: List[bytes]) -> int:
-    """Writes the news, also which bags are overdue, without a look at any."""
+    """Writes the news, also which bags are overdue, and whether an audit
+    wasn't ended, without a look at any bag."""
     with register.changing():
         remind(register)
-    return tell(register)
+    return tell(register, unended(register))
+
+
+def unended(register: Register) -> Optional[Row]:
+    """The audit that was begun and not ended, unless one is at work."""
+    try:
+        with alone(register.folder):
+            return open_round(register)
+    except Refused:
+        return None
 
 
 def history(register: Register, read: Namespace, paths: List[bytes]) -> int:
@@ -208,6 +218,7 @@ def accept(register: Register, read: Namespace, paths: List[bytes]) -> int:
     if values is None:
         return result.status or 3
     with register.changing():
+        bag = register.bag_at(paths[0])
         settle(register, bag, set())
         register.alter("bags", bag, **values)
         register.note("accepted", bag["id"], **said, **values)
@@ -231,6 +242,8 @@ def moved(register: Register, read: Namespace, paths: List[bytes]) -> int:
     said, bag = who_of(read), register.bag_at(paths[0])
     if os.path.lexists(paths[0]):
         raise Refused(f"{encoded(paths[0])} is still there", 3)
+    if register.rows("bags", "path = ?", text_of(paths[1])):
+        raise Refused(f"{encoded(paths[1])} is in the register already")
     result = checked(register, paths[1:], None).row(1)
     values = good(result)
     if values is None:
@@ -239,6 +252,7 @@ def moved(register: Register, read: Namespace, paths: List[bytes]) -> int:
         say(f"{encoded(paths[1])} is another bag: its seal is another one")
         return 3
     with register.changing():
+        bag = register.bag_at(paths[0])
         settle(register, bag, set())
         register.alter("bags", bag, path=text_of(paths[1]), **values)
         register.note(

@@ -28,10 +28,13 @@ Found = Set[Tuple[str, str]]
 """A kind, and a text that says what exactly."""
 
 
-def faults_in(report: Iterable[bytes], count: int) -> Iterable[str]:
-    """The lines of the faults of a report; of very many only how many."""
+def faults_in(
+    report: Iterable[bytes], count: int, digest: Optional[str]
+) -> Iterable[str]:
+    """The lines of the faults of a report; of very many only how many, and
+    the digest of the report, so that others are other news."""
     if count > MOST_FAULTS:
-        yield f"{count} faults"
+        yield f"{count} faults, of the report with the SHA-256 {digest}"
         return
     for text in report:
         try:
@@ -47,15 +50,20 @@ def found_of(result: Result, seal: Optional[str]) -> Found:
     if result.status == 3:
         is_missing = result.result.endswith(" is not there")
         return {("missing", "")} if is_missing else {("unread", result.result)}
-    found: Found = set()
-    if result.status == 1 and result.report is not None:
+    if result.record is None or result.report is None:
+        return {("unread", "its report can't be read")}
+    record, found = result.record, set()
+    if result.status == 1:
         with open(result.report, "rb") as report:
-            lines = faults_in(report, result.faults or 0)
-            found = {("fault", line) for line in lines}
-    if result.record is None or result.record.seal is None:
+            count, digest = result.faults or 0, record.report_sha256
+            lines = list(faults_in(report, count, digest))
+        if not lines:
+            return {("unread", "its report was altered")}
+        found = {("fault", line) for line in lines}
+    if record.seal is None:
         return found | {("unread", "its tag files can't be read")}
-    if seal is not None and result.record.seal != seal:
-        found.add(("altered", result.record.seal))
+    if seal is not None and record.seal != seal:
+        found.add(("altered", record.seal))
     return found
 
 
@@ -182,6 +190,6 @@ def state_of(register: Register, cut_off: Optional[Row] = None) -> State:
     news = [row for row in found if is_news(row, today)]
     known = len(found) - len(news)
     if cut_off is not None:
-        text = f"the audit of {cut_off['begun']} was gone on with"
+        text = f"the audit of {cut_off['begun']} was cut off"
         news.insert(0, {"bag": None, "kind": "cut-off", "text": text})
     return State(news, known, bags)

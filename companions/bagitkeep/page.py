@@ -84,6 +84,7 @@ class BagView:
     events: List[Dict[str, str]] = field(default_factory=list)
     faults: List[Tuple[str, List[FaultView]]] = field(default_factory=list)
     page: str = ""
+    is_certified: bool = False
 
 
 @dataclass
@@ -260,6 +261,7 @@ def view_of(
             for it in events
         ],
         by_folder(faults, means),
+        is_certified=bool(bag["read"]) and not found,
     )
 
 
@@ -289,8 +291,8 @@ def news_of(
 
 def site_of_round(folder: bytes) -> Site:
     """The bags of a round."""
-    means, bags = meanings(), []
-    for row in rounds.load(folder).rows():
+    means, bags, a_round = meanings(), [], rounds.load(folder)
+    for row in a_round.rows():
         record = row.record
         lines: List[str] = []
         if row.report is not None and (row.faults or 0) <= MOST_FAULTS:
@@ -304,7 +306,9 @@ def site_of_round(folder: bytes) -> Site:
         if record is not None:
             view.files, view.bytes = record.files, record.size
             view.seal = record.seal
-            view.read = record.ended if row.status != 3 else None
+            is_whole = a_round.asked.depth == "full" and row.status != 3
+            view.read = record.ended if is_whole else None
+            view.is_certified = is_whole and row.status == 0
         bags.append(view)
     count = Counter(bool(bag.findings) for bag in bags)
     site = Site(f"{count[True]} of {len(bags)} bags have news", bags)

@@ -151,9 +151,10 @@ class Register:
         names = COLUMNS[table]
         row = [number, *(plain(values[name]) for name in names)]
         marks = ", ".join("?" * (len(row) + 1))
+        sets = ", ".join(f"{it} = excluded.{it}" for it in [*names, "digest"])
         self._base.execute(
-            f"INSERT OR REPLACE INTO {table} (id, {', '.join(names)}, digest)"
-            f" VALUES ({marks})",
+            f"INSERT INTO {table} (id, {', '.join(names)}, digest)"
+            f" VALUES ({marks}) ON CONFLICT (id) DO UPDATE SET {sets}",
             [*row, digest_of(table, row)],
         )
 

@@ -4,11 +4,15 @@ import tempfile
 import unittest
 from importlib.util import find_spec
 from pathlib import Path
+from unittest import mock
 
 from bagitkeep import page
 from bagitkeep.messages import Refused
+from bagitkeep.program import Asked
+from bagitkeep.rounds import Record, Row
 
 LINE = "701 payload-sum-differs data/a/<b sha256 - x:y"
+RECORD = Record(1, "/a", "/a", "x", "2026-01-01T00:00:00Z", 1, seal="0")
 HOSTILE = '<script>alert("1")</script>&\'/'
 
 
@@ -41,6 +45,15 @@ class Views(unittest.TestCase):
         for code in 101, 701, 813:
             self.assertTrue(means[code][0] and means[code][1])
             self.assertNotIn("`", means[code][0] + means[code][1])
+
+    def test_only_a_full_check_is_certified(self) -> None:
+        for depth, wanted in (("full", True), ("fast", False)):
+            row = Row(0, "/a is valid", b"/a", 0, None, RECORD)
+            a_round = mock.Mock(asked=Asked(depth), rows=lambda: [row])
+            with mock.patch.object(page.rounds, "load", lambda _: a_round):
+                bag = page.site_of_round(b"/r").bags[0]
+            self.assertEqual(wanted, bag.is_certified)
+            self.assertEqual(wanted, bag.read is not None)
 
     def test_marks_go(self) -> None:
         self.assertEqual("a b c d|e", page.plain("[a](x) `b` **c** d\\|e"))

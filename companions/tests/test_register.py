@@ -7,7 +7,7 @@ from argparse import Namespace
 from contextlib import closing
 from typing import Any, Dict, Optional
 
-from bagitkeep import audit, news, register
+from bagitkeep import audit, keeping, news, register
 from bagitkeep.messages import Refused
 from bagitkeep.premis import premis_of
 from bagitkeep.rounds import Record
@@ -25,7 +25,8 @@ def record(seal: Optional[str]) -> Record:
 
 
 def result(status: int, text: str, seal: Optional[str] = SEAL) -> Result:
-    return Result(status, text, b"/a", 0, None, record(seal))
+    report = None if status == 3 else os.fsencode(os.devnull)
+    return Result(status, text, b"/a", 0, report, record(seal))
 
 
 def bag(number: int, read: Optional[str], kept: int = 1) -> Dict[str, Any]:
@@ -88,6 +89,29 @@ class OfRegister(unittest.TestCase):
         with self.assertRaises(Refused):
             register.Register(self.folder)
 
+    def test_no_row_takes_the_place_of_another(self) -> None:
+        opened = self.open()
+        row = dict.fromkeys(register.COLUMNS["bags"])
+        with opened.changing():
+            for path in "/a", "/b":
+                opened.add("bags", **{**row, "path": path})
+        with self.assertRaises(Refused), opened.changing():
+            opened.alter("bags", opened.bag_at(b"/a"), path="/b")
+        paths = [it["path"] for it in opened.rows("bags")]
+        self.assertEqual(["/a", "/b"], paths)
+
+    def test_a_round_that_is_open_was_cut_off(self) -> None:
+        opened = self.open()
+        self.assertIsNone(keeping.unended(opened))
+        with opened.changing():
+            opened.add(
+                "rounds", name="000001", begun="x", ended=None, results=None
+            )
+        found = keeping.unended(opened)
+        assert found is not None
+        state = news.state_of(opened, found)
+        self.assertEqual("news of 0 bags: 1 cut off", state.first_line())
+
     def test_a_copy_is_a_register(self) -> None:
         opened = self.open()
         opened.copy()
@@ -120,6 +144,11 @@ class OfNews(unittest.TestCase):
                 result(0, "/a is valid", None),
                 {("unread", "its tag files can't be read")},
             ),
+            (Result(3, "not begun", b"/a"), {("unread", "not begun")}),
+            (
+                result(1, "/a has faults: 1"),
+                {("unread", "its report was altered")},
+            ),
         ):
             with self.subTest(found.result):
                 self.assertEqual(wanted, news.found_of(found, SEAL))
@@ -127,8 +156,10 @@ class OfNews(unittest.TestCase):
     def test_faults_are_named_unless_there_are_very_many(self) -> None:
         line = "601 payload-file-missing data/a md5 - -"
         text = line.encode() + b"\n"
-        self.assertEqual([line], list(news.faults_in([text, b"x"], 1)))
-        self.assertEqual(["1001 faults"], list(news.faults_in([text], 1001)))
+        self.assertEqual([line], list(news.faults_in([text, b"x"], 1, "a")))
+        one, other = (list(news.faults_in([], 1001, it)) for it in "ab")
+        self.assertIn("1001 faults", one[0])
+        self.assertNotEqual(one, other)
 
     def test_a_time_that_is_to_come_is_past(self) -> None:
         self.assertTrue(news.is_past(None, 1))
