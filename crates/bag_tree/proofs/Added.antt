@@ -1,7 +1,7 @@
 -- What is added to a trail.
-use Rattle.std.proofs.Common.{◌≡◌, ◌++◌, ◌∷◌, List, [], sym, ap, ◌∙◌, append-nil, append_assoc}
+use Rattle.std.proofs.Common.{◌≡◌, ◌++◌, ◌∷◌, List, [], sym, ◌∙◌, append-nil}
 use Rattle.bag_tree.proofs.Events.{sync_alone}
-use Rattle.bag_tree.specs.Asked.{Adds, Asking, AsksSyncs, ChangeNothing, IsSync}
+use Rattle.bag_tree.specs.Asked.{Adds, Asking, AsksSyncs, IsSync}
 use Rattle.bag_tree.specs.declared.event.DeviceEvent.{DeviceEvent}
 
 -- nothing

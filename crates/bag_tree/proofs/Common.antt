@@ -67,4 +67,5 @@ pub use Rattle.bag_tree.specs.Tree.{HasOpen, Keeps, TreeState, refusal_of}
 pub use Rattle.bag_tree.specs.FileReads.{ReadsNext, answer_of_read}
 pub use Rattle.bag_tree.specs.Whole.{HasRead}
 pub use Rattle.bag_tree.specs.declared.answer.Answer.TheVariants.{Given, Refused, Unlisted}
+pub use Rattle.bag_tree.specs.declared.given_files.GivenFiles.{GivenFiles}
 pub use Rattle.bag_tree.specs.declared.heard.Heard.{Heard}

@@ -4,6 +4,7 @@ pub mod ChangingFiles
 pub mod Common
 pub mod Events
 pub mod FileChanges
+pub mod Gave
 pub mod HashValues
 pub mod Killed
 pub mod LeftOut

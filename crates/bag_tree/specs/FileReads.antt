@@ -14,6 +14,12 @@ abbrev pub answer_of_read : ℕ → Answer
 answer_of_read zero = AtEnd
 answer_of_read (suc n) = Given
 
+-- what files gave, when reads of the last have given these bytes more
+abbrev pub gave_more : List (Path × Content) → List ℕ → List (Path × Content)
+gave_more [] bytes = []
+gave_more (file ∷ []) bytes = (file.0, file.1 ++ bytes) ∷ []
+gave_more (file ∷ (next ∷ later)) bytes = file ∷ gave_more (next ∷ later) bytes
+
 -- this file was opened, once at most, and no other
 abbrev pub OpensAtMost : TreeState → TreeState → Path → Type 0
 OpensAtMost old new path = (new.openings ≡ old.openings)

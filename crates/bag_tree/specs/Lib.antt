@@ -10,6 +10,7 @@ pub mod DigestsOf
 pub mod FileChanges
 pub mod FileReads
 pub mod FileSums
+pub mod GivenFiles
 pub mod Hasher
 pub mod Heard
 pub mod Laws

@@ -1,7 +1,7 @@
 -- What the calls of a tree answer, and what they change.
 use Rattle.std.specs.Prelude.{◌≡◌, ℕ, ◌<◌, ◌≤◌, ◌⊎◌, Bool, true, false, IsTrue, List, [], ◌∷◌, ◌++◌}
 use Rattle.std.specs.Prelude.{Option, None, Some, is_some, codes, ⊤}
-use Rattle.bag_text.specs.Bytes.{Path}
+use Rattle.bag_text.specs.Bytes.{Content, Path}
 use Rattle.bag_tree.specs.Bag.{Bag, file}
 use Rattle.bag_tree.specs.declared.tree_fault.TreeFault.{TreeFault}
 use Rattle.bag_tree.specs.declared.tree_fault.TreeFault.TheVariants.{Device, Special, Name}
@@ -10,6 +10,7 @@ use Rattle.bag_tree.specs.declared.tree_fault.TreeFault.TheVariants.{NoneOpen, M
 use Rattle.bag_tree.specs.declared.event.DeviceEvent.{DeviceEvent}
 use Rattle.bag_tree.specs.declared.answer.Answer.{Answer}
 use Rattle.bag_tree.specs.declared.answer.Answer.TheVariants.{Given, AtEnd, Unlisted, Refused}
+use Rattle.bag_tree.specs.declared.listing.Listing.{Listing}
 
 -- what a tree means
 pub record TreeState : Type 0 where
@@ -24,6 +25,10 @@ pub record TreeState : Type 0 where
   pub failures : ℕ
   -- the paths for which `open_file` answered Ok
   pub openings : List Path
+  -- what the last listing gave
+  pub listed : Option Listing
+  -- of each file that was opened, in order: its path, and the bytes that its reads gave
+  pub gave : List (Path × Content)
   -- the rest of the open file
   pub rest : Option (List ℕ)
   -- how many bytes the reads of the open file have given

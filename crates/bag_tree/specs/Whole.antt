@@ -1,7 +1,7 @@
 -- When a whole file is refused.
-use Rattle.std.specs.Prelude.{◌≡◌, IsTrue, None, Some, Option, List, ℕ, ◌++◌}
+use Rattle.std.specs.Prelude.{◌≡◌, IsTrue, Some, Option, List, ℕ, ◌++◌}
 use Rattle.bag_text.specs.Bytes.{Content}
-use Rattle.bag_tree.specs.Bag.{file, HasFile}
+use Rattle.bag_tree.specs.Bag.{HasFile}
 use Rattle.bag_tree.specs.Tree.{TreeState, MayRefuseOpening, IsOtherSize, CameFromFile}
 use Rattle.bag_tree.specs.FileReads.{IsEntryOf}
 use Rattle.bag_tree.specs.declared.listing.FileEntry.{FileEntry}

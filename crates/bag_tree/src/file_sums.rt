@@ -12,8 +12,9 @@ use bag_text::AlgSet;
 
 /// The digests of a listed file by all algorithms of a set, in one pass (RFC 8493, 2.4).
 ///
-/// The file is opened once at most, and no other; it is read through the buffer. More or fewer
-/// bytes than it was listed with are `Changed`. No memory is taken but by the tree itself.
+/// The file is opened once at most, and no other; it is read through the buffer. The digests are of
+/// the bytes that the reads gave. More or fewer bytes than it was listed with are `Changed`. No
+/// memory is taken but by the tree itself.
 pub fn digest_file<T: Tree>(
     tree: &mut T,
     entry: &FileEntry,
@@ -26,7 +27,9 @@ pub fn digest_file<T: Tree>(
     ensures opens { OpensAtMost (T.state tree.old) (T.state tree.new) entry.now.path }
     ensures opened { OnOk result
         ((T.state tree.new).openings ≡ (T.state tree.old).openings ++ entry.now.path ∷ []) }
-    ensures sums { IfOk result (AreSumsOfFile (T.state tree.old) entry.now algs) }
+    ensures sums { IfOk result
+        (AreSumsOfFile (T.state tree.old) (T.state tree.new) entry.now algs) }
+    ensures listed { (T.state tree.new).listed ≡ (T.state tree.old).listed }
     ensures refused { IfErr result
         (MayRefuseWhole (T.state tree.old) (T.state tree.new) entry.now) }
     ensures refused_at { OnErr result

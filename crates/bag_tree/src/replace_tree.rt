@@ -1,7 +1,7 @@
 //! A tree whose tag files can be written anew.
 ghost use Rattle.std.specs.Prelude.{◌≢◌, IsTrue};
 ghost use Rattle.bag_text.specs.Path.{is_base_name};
-ghost use Rattle.bag_tree.specs.ReplaceCalls.{Removes, Replaces};
+ghost use Rattle.bag_tree.specs.ReplaceCalls.{LooksForFolder, Removes, Replaces};
 
 use crate::{Tree, TreeFault};
 
@@ -16,6 +16,12 @@ use crate::{Tree, TreeFault};
 /// Where its device notes what it does, each call says what it asked of that, in order; a refused
 /// call asked the first of that, and then perhaps for a sync that was refused.
 pub trait ReplaceTree: Tree {
+    /// Whether a folder of this name stands in the base folder, also an empty one, which no listing
+    /// shows. There no file can be put. It looks only, and the file that is open stays open.
+    fn has_folder(&mut self, name: &str) -> Result<bool, TreeFault>
+        requires { IsTrue (is_base_name name.now) }
+        ensures { LooksForFolder name.now (Self.state self.old) (Self.state self.new) result };
+
     /// Puts a file of these bytes into the base folder, in place of any other of its name.
     fn replace(&mut self, beside: &str, name: &str, bytes: &[u8]) -> Result<(), TreeFault>
         requires beside { IsTrue (is_base_name beside.now) }

@@ -1,11 +1,11 @@
 //! A tree of files that holds a bag.
-ghost use Rattle.std.specs.Prelude.{◌≡◌, ◌<◌, ◌≤◌, ◌∷◌, ◌++◌, [], None, IsTrue, IfOk, IfErr, OnOk};
-ghost use Rattle.std.specs.Prelude.{OnErr, MatchResult, length, ◌+◌};
+ghost use Rattle.std.specs.Prelude.{◌≡◌, ◌<◌, ◌≤◌, ◌∷◌, ◌++◌, [], None, Some, IsTrue, IfOk, IfErr};
+ghost use Rattle.std.specs.Prelude.{OnOk, OnErr, MatchResult, length, take, ◌+◌};
 ghost use Rattle.bag_text.specs.Path.{is_path};
 ghost use Rattle.bag_tree.specs.Bag.{IsBag, file};
 ghost use Rattle.bag_tree.specs.Listing.{IsOrdered, IsListingOf};
 ghost use Rattle.bag_tree.specs.Tree.{TreeState, Keeps, HasOpen, MayRefuseListing};
-ghost use Rattle.bag_tree.specs.FileReads.{IsOpen, ReadsNext, answer_of_read};
+ghost use Rattle.bag_tree.specs.FileReads.{IsOpen, ReadsNext, answer_of_read, gave_more};
 ghost use Rattle.bag_tree.specs.Tree.{MayRefuseOpening, MayRefuseRead};
 ghost use Rattle.bag_tree.specs.declared.answer.Answer.TheVariants.{Given, Refused, Unlisted};
 
@@ -16,12 +16,13 @@ use crate::{Listing, TreeFault};
 /// Its calls leave the bag as it is, and a call during which the device failed isn't answered Ok.
 /// What an honest tree answers is what its bag holds; of another tree it is known which refusals it
 /// answers, when a file is open, that a listing's paths are paths in order, and that only paths are
-/// opened.
+/// opened. Of any tree it is known what it gave: the last listing, and the bytes of each file that
+/// was opened.
 pub trait Tree {
     /// What the tree means: its bag, whether anything else stands there, whether it is honest, how
-    /// many files and folders it has, how often its device has failed, which files were opened, the
-    /// rest of the open file and how much of it was read, what the last call answered, and what its
-    /// device did, where it notes that.
+    /// many files and folders it has, how often its device has failed, which files were opened, what
+    /// the last listing and the reads of each file gave, the rest of the open file and how much of
+    /// it was read, what the last call answered, and what its device did, where it notes that.
     ghost state: { Self → TreeState };
 
     /// Lists all files with their sizes.
@@ -41,6 +42,10 @@ pub trait Tree {
             (IsTrue (state self.old).honest → IsTrue (state self.old).plain) }
         ensures last { MatchResult result (λ _. (state self.new).last ≡ Given) (λ fault.
             (state self.new).last ≡ Unlisted fault) }
+        ensures listed { MatchResult result
+            (λ listing. (state self.new).listed ≡ Some listing)
+            (λ _. (state self.new).listed ≡ (state self.old).listed) }
+        ensures gave { (state self.new).gave ≡ (state self.old).gave }
         ensures honest { IfOk result (λ listing.
             IsTrue (state self.old).honest → IsListingOf (state self.old).bag listing) }
         ensures refused { IfErr result (MayRefuseListing (state self.old) (state self.new)) };
@@ -57,6 +62,10 @@ pub trait Tree {
         ensures given { OnOk result ((state self.new).given ≡ 0) }
         ensures last { MatchResult result (λ _. (state self.new).last ≡ Given) (λ fault.
             (state self.new).last ≡ Refused fault) }
+        ensures listed { (state self.new).listed ≡ (state self.old).listed }
+        ensures gave { MatchResult result
+            (λ _. (state self.new).gave ≡ (state self.old).gave ++ (path.now, []) ∷ [])
+            (λ _. (state self.new).gave ≡ (state self.old).gave) }
         ensures honest { OnOk result
             (IsTrue (state self.old).honest
             → IsOpen (file (state self.old).bag path.now) (state self.new).rest) }
@@ -79,6 +88,10 @@ pub trait Tree {
         ensures given { IfOk result (λ n. (state self.new).given ≡ (state self.old).given + n) }
         ensures last { MatchResult result (λ n. (state self.new).last ≡ answer_of_read n) (λ fault.
             (state self.new).last ≡ Refused fault) }
+        ensures listed { (state self.new).listed ≡ (state self.old).listed }
+        ensures gave { MatchResult result
+            (λ n. (state self.new).gave ≡ gave_more (state self.old).gave (take n buffer.new))
+            (λ _. (state self.new).gave ≡ (state self.old).gave) }
         ensures honest { IfOk result (λ n.
             IsTrue (state self.old).honest
             → ReadsNext (state self.old).rest (state self.new).rest n buffer.new) }

@@ -30,6 +30,10 @@ pub fn read_whole<T: Tree>(
     ensures opened { OnOk result
         ((T.state tree.new).openings ≡ (T.state tree.old).openings ++ entry.now.path ∷ []) }
     ensures size { IfOk result (λ bytes. vec_len bytes ≡ entry.now.size) }
+    ensures listed { (T.state tree.new).listed ≡ (T.state tree.old).listed }
+    ensures gave { IfOk result (λ bytes.
+        (T.state tree.new).gave
+        ≡ (T.state tree.old).gave ++ (entry.now.path, bytes.items) ∷ []) }
     ensures whole { IfOk result (λ bytes.
         IsTrue (T.state tree.old).honest
         → file (T.state tree.old).bag entry.now.path ≡ Some bytes.items) }
@@ -75,6 +79,10 @@ fn read_pieces<T: Tree>(
     ensures opened { OnOk result
         ((T.state tree.new).openings ≡ (T.state tree.old).openings ++ entry.now.path ∷ []) }
     ensures size { IfOk result (λ bytes. vec_len bytes ≡ entry.now.size) }
+    ensures listed { (T.state tree.new).listed ≡ (T.state tree.old).listed }
+    ensures gave { IfOk result (λ bytes.
+        (T.state tree.new).gave
+        ≡ (T.state tree.old).gave ++ (entry.now.path, bytes.items) ∷ []) }
     ensures whole { IfOk result (λ bytes.
         IsTrue (T.state tree.old).honest
         → file (T.state tree.old).bag entry.now.path ≡ Some bytes.items) }

@@ -1,5 +1,6 @@
 use Rattle.bag_tree.proofs.Common.{rules, inl, inr, ap, is_some, ◌∙◌, ◌++◌, take, refl, arith, common_steps}
 use Rattle.bag_tree.proofs.Calm.{nothing_read}
+use Rattle.bag_tree.proofs.Gave.{gave_all, gave_on}
 use Rattle.bag_tree.proofs.Reading.{still, on_error, read_all, read_more, given_some, longer_than, ended_after}
 use Rattle.bag_tree.proofs.file_sums.digest_file.Goals as goal
 
@@ -12,10 +13,12 @@ loop-count-preserved g c =
       opened = c.read.ensures.openings ∙ before.opened;
       file_open = c.in_ok-count.ensures.file_open.1;
       given = omega (arith, c.in_ok-count.ensures.given, before.given, c.if-left-count.false);
+      listed = c.read.ensures.listed ∙ before.listed;
       taken = record {
         front = before.taken.front ++ take c.in_ok-count.count c.read.new.buffer;
         size = grind (arith, common_steps);
         taken = c.update.ensures _ before.taken.front before.taken.taken;
+        gave = c.in_ok-count.ensures.gave ∙ gave_on _ _ _ _ _ before.taken.gave;
         honest =
             λ h. read_more _ _ _ _ _ _ (before.taken.honest h) (c.in_ok-count.ensures.honest (still before.keeps h));
       };
@@ -29,6 +32,7 @@ returns-then-left-eq0-clause-sums g c =
       bytes = before.taken.taken.bytes;
       size = omega (arith, before.taken.size, c.if-left-eq0.true);
       sums_of = c.finish.ensures _ before.taken.front before.taken.taken;
+      gave = rw c.if-count-eq0.true at c.in_ok-count.ensures.gave ∙ gave_all _ _ _ _ before.taken.gave;
       honest =
           λ h. read_all _ _ _ _ _ (before.taken.honest h)
           (rw c.if-count-eq0.true at (c.in_ok-count.ensures.honest (still before.keeps h)));

@@ -11,7 +11,8 @@ invariant-loop-count g l =
       opened : (state l.tree).openings ≡ (state l.fn.tree).openings ++ l.entry.path ∷ [];
       file_open : HasOpen (state l.tree);
       given : (state l.tree).given + l.left ≡ l.entry.size;
-      taken : HasTakenSome (state l.fn.tree) (state l.tree).rest l.entry l.fn.algs l.digests l.left;
+      listed : (state l.tree).listed ≡ (state l.fn.tree).listed;
+      taken : HasTakenSome (state l.fn.tree) (state l.tree) l.entry l.fn.algs l.digests l.left;
     }
 
 abbrev pub decreases-loop-count : goal.decreases-loop-count

@@ -1,5 +1,6 @@
 use Rattle.bag_tree.proofs.Common.{rules, inl, inr, ap, is_some, ◌∙◌, arith, common_steps}
 use Rattle.bag_tree.proofs.Calm.{nothing_read}
+use Rattle.bag_tree.proofs.Gave.{gave_all, gave_on}
 use Rattle.bag_tree.proofs.Reading.{still, any_error, on_error, read_all, read_more, given_some, longer_than}
 use Rattle.bag_tree.proofs.Reading.{ended_after}
 use Rattle.bag_tree.proofs.whole.read_pieces.Goals as goal
@@ -12,11 +13,19 @@ loop-bytes-preserved g c = record {
   file_open = c.in_ok-count.ensures.file_open.1;
   given = grind (arith, common_steps);
   within = grind (arith, common_steps);
+  listed = c.read.ensures.listed ∙ c.loop-bytes.invariant.listed;
+  gave = rw c.in_ok-extend_from_slice.ensures.items
+      (c.in_ok-count.ensures.gave ∙ gave_on _ _ _ _ _ c.loop-bytes.invariant.gave);
   honest = λ h.
       rw c.in_ok-extend_from_slice.ensures.items
       (read_more _ _ _ _ _ _ (c.loop-bytes.invariant.honest h)
       (c.in_ok-count.ensures.honest (still c.loop-bytes.invariant.keeps h)));
 }
+
+pub returns-then-len-entry-clause-gave : goal.returns-then-len-entry-clause-gave
+returns-then-len-entry-clause-gave g c =
+    rw c.if-count-eq0.true at c.in_ok-count.ensures.gave
+    ∙ gave_all _ _ _ _ c.loop-bytes.invariant.gave
 
 pub returns-then-len-entry-clause-whole : goal.returns-then-len-entry-clause-whole
 returns-then-len-entry-clause-whole g c h =

@@ -11,6 +11,8 @@ invariant-loop-bytes g l =
       file_open : HasOpen (state l.tree);
       given : (state l.tree).given ≡ vec_len l.bytes;
       within : vec_len l.bytes ≤ l.entry.size;
+      listed : (state l.tree).listed ≡ (state l.fn.tree).listed;
+      gave : (state l.tree).gave ≡ (state l.fn.tree).gave ++ (l.entry.path, l.bytes.items) ∷ [];
       honest : IsTrue (state l.fn.tree).honest
           → HasRead (file (state l.fn.tree).bag l.entry.path) l.bytes.items (state l.tree).rest;
     }

@@ -1,0 +1,4 @@
+use Rattle.bag_tree.proofs.given_files.GivenFiles.after_listing.Given as goal
+
+abbrev pub ghost-of : goal.ghost-of
+ghost-of g a = g.given
