@@ -7,6 +7,7 @@ use Rattle.bag_memory.proofs.Common.{rename_folder, create, is_taken, lacks_fold
 use Rattle.bag_memory.proofs.Common.{with_renamed, insert, empty, entries}
 use Rattle.std.specs.FinMap as map
 use Rattle.std.specs.FinSet as set
+use Rattle.bag_tree.specs.GivenFiles.{WhatIsGiven}
 use Rattle.bag_tree.specs.declared.answer.Answer.{Answer}
 use Rattle.bag_tree.specs.declared.answer.Answer.TheVariants.{Given}
 use Rattle.bag_memory.proofs.InMemory.{folder_stays, same_bag}
@@ -62,11 +63,11 @@ count_renamed from to bag has = grind (arith, files_moved, folders_renamed)
 
 -- a tree in memory was changed
 pub memory_changed : (step : Bag → Bag) (more : ℕ) (old : Bag) (files : List (List ℕ × List ℕ))
-    (folders openings : List (List ℕ)) (rest : Option (List ℕ)) (given : ℕ) (last : Answer)
+    (folders openings : List (List ℕ)) (what : WhatIsGiven) (rest : Option (List ℕ)) (given : ℕ) (last : Answer)
     → file_map files ≡ (step old).files → folder_set folders ≡ (step old).folders → count (step old) ≤ count old + more
-    → AppliesStep step more (memory_state_after old openings rest given last)
-    (memory_state_after (bag_of_files files folders) openings None given Given)
-memory_changed step more old files folders openings rest given last one other few = grind (arith, same_bag)
+    → AppliesStep step more (memory_state_after old openings what rest given last)
+    (memory_state_after (bag_of_files files folders) openings what None given Given)
+memory_changed step more old files folders openings what rest given last one other few = grind (arith, same_bag)
 
 pub not_lacking : (b : Bool) → not b ≡ false → b ≡ true
 not_lacking b e = grind arith

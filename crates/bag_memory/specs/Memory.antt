@@ -1,11 +1,12 @@
 -- The bag of a tree in memory.
-use Rattle.std.specs.Prelude.{ℕ, ◌+◌, Bool, true, false, List, [], length, Option, nat_lt}
+use Rattle.std.specs.Prelude.{ℕ, ◌+◌, Bool, true, false, List, [], length, Option, None, nat_lt}
 use Rattle.std.specs.Prelude.{if◌then◌else◌}
 use Rattle.std.specs.FinMap as fin
 use Rattle.std.specs.FinSet as set
 use Rattle.bag_text.specs.Text.{text_cmp}
 use Rattle.bag_text.specs.Path.{components, first_component}
 use Rattle.bag_tree.specs.Bag.{Bag}
+use Rattle.bag_tree.specs.GivenFiles.{WhatIsGiven}
 use Rattle.bag_tree.specs.Tree.{TreeState}
 use Rattle.bag_tree.specs.declared.answer.Answer.{Answer}
 use Rattle.bag_tree.specs.declared.answer.Answer.TheVariants.{Given}
@@ -33,16 +34,19 @@ abbrev pub with_folder : Bag → List ℕ → Bag
 with_folder bag name = record { files = bag.files; folders = set.insert bag.folders name }
 
 -- A tree in memory is honest and never fails, and has the files and the folders of its bag and
--- nothing else. Its reads of the open file have given `given` bytes, and its last call answered
--- `last`. It has no device.
-abbrev pub memory_state_after : Bag → List (List ℕ) → Option (List ℕ) → ℕ → Answer → TreeState
-memory_state_after bag openings rest given last = record {
+-- nothing else. It gave `what`, its reads of the open file have given `given` bytes, and its last
+-- call answered `last`. It has no device.
+abbrev pub memory_state_after : Bag → List (List ℕ) → WhatIsGiven → Option (List ℕ) → ℕ → Answer
+    → TreeState
+memory_state_after bag openings what rest given last = record {
   bag = bag;
   plain = true;
   honest = true;
   entries = fin.len bag.files + set.len bag.folders;
   failures = 0;
   openings = openings;
+  listed = what.listed;
+  gave = what.gave;
   rest = rest;
   given = given;
   last = last;
@@ -50,7 +54,7 @@ memory_state_after bag openings rest given last = record {
   noted = false;
 }
 
--- a tree in memory where nothing was read of the open file, and the last call gave what was asked
--- for
+-- a tree in memory that gave nothing yet, and whose last call gave what was asked for
 abbrev pub memory_state : Bag → List (List ℕ) → Option (List ℕ) → TreeState
-memory_state bag openings rest = memory_state_after bag openings rest 0 Given
+memory_state bag openings rest =
+    memory_state_after bag openings (record { listed = None; gave = [] }) rest 0 Given

@@ -9,11 +9,13 @@ use Rattle.std.specs.FinSet as set
 use Rattle.bag_text.specs.Text.{text_cmp}
 use Rattle.bag_text.specs.Path.{is_path, is_base_name, under}
 use Rattle.bag_tree.specs.Bag.{Bag, file, has_file, has_folder}
+use Rattle.bag_tree.specs.GivenFiles.{WhatIsGiven}
 use Rattle.bag_tree.specs.Tree.{TreeState}
+use Rattle.bag_tree.specs.declared.answer.Answer.TheVariants.{Given}
 use Rattle.bag_tree.specs.declared.listing.FileEntry.{FileEntry}
 use Rattle.bag_tree.specs.declared.tree_fault.TreeFault.{TreeFault}
 use Rattle.bag_tree.specs.declared.tree_fault.TreeFault.TheVariants.{NotFound, Memory}
-use Rattle.bag_memory.specs.Memory.{with_file, with_folder, memory_state_after, memory_state}
+use Rattle.bag_memory.specs.Memory.{with_file, with_folder, memory_state_after}
 
 -- numbers below 256
 abbrev pub are_bytes : List ℕ → Bool
@@ -67,11 +69,17 @@ file_map files = fin.from_entries files
 abbrev pub bag_of_files : List (List ℕ × List ℕ) → List (List ℕ) → Bag
 bag_of_files files names = record { files = file_map files; folders = folder_set names }
 
+-- what a tree gave
+abbrev pub given_by : TreeState → WhatIsGiven
+given_by state = record { listed = state.listed; gave = state.gave }
+
 -- the state with a folder of the base folder more: all else stays
 abbrev pub state_with_folder : TreeState → List ℕ → TreeState
 state_with_folder state name =
-    memory_state_after (with_folder state.bag name) state.openings state.rest state.given state.last
+    memory_state_after (with_folder state.bag name) state.openings (given_by state) state.rest
+    state.given state.last
 
 -- the state with a file put in place of what was at the path: then no file is open
 abbrev pub state_with_file : TreeState → List ℕ → List ℕ → TreeState
-state_with_file state path bytes = memory_state (with_file state.bag path bytes) state.openings None
+state_with_file state path bytes =
+    memory_state_after (with_file state.bag path bytes) state.openings (given_by state) None 0 Given

@@ -12,6 +12,6 @@ memory_bag tree = bag_of_files tree.files.entries tree.folders.keys
 -- what a tree in memory means
 abbrev pub state_of_memory : MemoryTree → TreeState
 state_of_memory tree =
-    memory_state_after (memory_bag tree) tree.openings
+    memory_state_after (memory_bag tree) tree.openings tree.gave.what
     (unread_rest (memory_bag tree) tree.open tree.at)
     tree.at tree.last

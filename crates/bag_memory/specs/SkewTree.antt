@@ -14,6 +14,10 @@ memory_of tree = state_of_memory tree.tree
 abbrev pub listing_of : SkewTree → Option Listing
 listing_of tree = tree.listing
 
+-- what its last `list` gave
+abbrev pub last_listing_of : SkewTree → Option Listing
+last_listing_of tree = tree.gave.what.listed
+
 -- what the last call answered without asking the tree in memory
 abbrev pub own_of : SkewTree → Option Answer
 own_of tree = tree.own

@@ -20,5 +20,7 @@ read-tells g c = record {
   last = grind arith;
   honest = grind arith;
   same = grind arith;
+  listed = grind arith;
+  gave = grind arith;
   refused = grind arith;
 }

@@ -15,7 +15,7 @@ invariant_of-self c = record {
 pub returns-in-Ok-clause-creates : goal.returns-in-Ok-clause-creates
 returns-in-Ok-clause-creates c = record {
   changed =
-      memory_changed _ _ _ _ _ _ _ _ _ c.in-Ok.ensures.added refl (count_created c.args.name.now c.args.bytes.now _);
+      memory_changed _ _ _ _ _ _ _ _ _ _ c.in-Ok.ensures.added refl (count_created c.args.name.now c.args.bytes.now _);
   no_failure = refl;
   possible = grind arith;
   last = refl;

@@ -8,7 +8,7 @@ invariant_of-self c = grind (arith, folder_put_passes, text_name_of)
 
 pub returns-in-Ok : goal.returns-in-Ok
 returns-in-Ok c = record {
-  changed = memory_changed _ _ _ _ _ _ _ _ _ refl c.in-Ok.ensures.added (count_made c.args.name.now _);
+  changed = memory_changed _ _ _ _ _ _ _ _ _ _ refl c.in-Ok.ensures.added (count_made c.args.name.now _);
   no_failure = refl;
   possible = grind arith;
   last = refl;

@@ -17,7 +17,7 @@ invariant_of-self c = record {
 pub returns-in-Ok : goal.returns-in-Ok
 returns-in-Ok c = record {
   changed =
-      memory_changed _ _ _ _ _ _ _ _ _ c.in-Ok.ensures.files c.in-Ok.ensures.folders
+      memory_changed _ _ _ _ _ _ _ _ _ _ c.in-Ok.ensures.files c.in-Ok.ensures.folders
       (count_moved c.args.top.now c.args.folder.now _);
   no_failure = refl;
   possible = grind arith;

@@ -16,7 +16,7 @@ invariant_of-self c = record {
 pub returns-in-Ok : goal.returns-in-Ok
 returns-in-Ok c = record {
   changed =
-      memory_changed _ _ _ _ _ _ _ _ _ c.in-Ok.ensures.files c.in-Ok.ensures.folders
+      memory_changed _ _ _ _ _ _ _ _ _ _ c.in-Ok.ensures.files c.in-Ok.ensures.folders
       (count_renamed c.args.from.now c.args.to.now _ (not_lacking _ c.in-Ok.ensures.there));
   no_failure = refl;
   possible = grind arith;
