@@ -10,8 +10,10 @@ use Rattle.bag_tree.specs.Bag.{Bag}
 use Rattle.bag_tree.specs.Tree.{TreeState}
 use Rattle.bag_tree.specs.declared.answer.Answer.{Answer}
 use Rattle.bag_tree.specs.declared.event.DeviceEvent.{DeviceEvent}
+use Rattle.bag_tree.specs.declared.listing.Listing.{Listing}
 use Rattle.bag_tree.specs.contracts.answer.Answer as answer
 use Rattle.bag_tree.specs.contracts.event.DeviceEvent as device_event
+use Rattle.bag_tree.specs.contracts.listing.Listing as listing
 use Rattle.bag_cli.specs.Visits.{Event, Entered, NotGiven, Left, Read}
 use Rattle.bag_cli.specs.declared.read_fault.ReadFault.{ReadFault}
 use Rattle.bag_cli.specs.contracts.read_fault.ReadFault as read_fault
@@ -25,6 +27,13 @@ coded_bag =
     (coded× (map.code coded_text coded_text) (set.code coded_text))
     (λ bag. (bag.files, bag.folders)) (λ parts. record { files = parts.0; folders = parts.1 })
     (λ _. refl)
+
+abbrev Gave : Type 0
+Gave = Option Listing × List (List ℕ × List ℕ)
+
+abbrev coded_gave : Coded Gave
+coded_gave =
+    coded× (coded_option listing.the_row.coded) (coded_list (coded× coded_text coded_text))
 
 abbrev Reads : Type 0
 Reads = List (List ℕ) × (Option (List ℕ) × (ℕ × Answer))
@@ -47,22 +56,27 @@ abbrev coded_kept : Coded Kept
 coded_kept = coded× coded_bag (coded× coded_bool (coded× coded_bool (coded× coded_ℕ coded_ℕ)))
 
 abbrev Parts : Type 0
-Parts = Kept × (Reads × Noted)
+Parts = Kept × (Gave × (Reads × Noted))
 
 abbrev parts_of : TreeState → Parts
 parts_of state = (
   (state.bag, (state.plain, (state.honest, (state.entries, state.failures)))),
-  ((state.openings, (state.rest, (state.given, state.last))), (state.trail, state.noted)),
+  (
+    (state.listed, state.gave),
+    ((state.openings, (state.rest, (state.given, state.last))), (state.trail, state.noted)),
+  ),
 )
 
 abbrev state_of : Parts → TreeState
-state_of (kept, (reads, noted)) = record {
+state_of (kept, (gave, (reads, noted))) = record {
   bag = kept.0;
   plain = kept.1.0;
   honest = kept.1.1.0;
   entries = kept.1.1.1.0;
   failures = kept.1.1.1.1;
   openings = reads.0;
+  listed = gave.0;
+  gave = gave.1;
   rest = reads.1.0;
   given = reads.1.1.0;
   last = reads.1.1.1;
@@ -72,7 +86,8 @@ state_of (kept, (reads, noted)) = record {
 
 abbrev coded_state : Coded TreeState
 coded_state =
-    code_by Parts (coded× coded_kept (coded× coded_reads coded_noted)) parts_of state_of (λ _. refl)
+    code_by Parts (coded× coded_kept (coded× coded_gave (coded× coded_reads coded_noted))) parts_of
+    state_of (λ _. refl)
 
 abbrev Kinds : Type 0
 Kinds = List ℕ ⊎ (List ℕ ⊎ (TreeState ⊎ (List ℕ × Result (List ℕ) ReadFault)))
