@@ -14,6 +14,7 @@ use Rattle.bag_tree.specs.declared.tree_fault.TreeFault.{TreeFault}
 use Rattle.bag_disk.specs.Refusal.{IsCounted, IsDueInStep}
 use Rattle.bag_store.specs.Answered.{answer_to, own_after}
 use Rattle.bag_store.specs.Asking.{AsksOfDisk, SeesTakenLast}
+use Rattle.bag_store.specs.FileTree.{Replies}
 use Rattle.bag_store.specs.FileTreeCalls.{AnswersTakenLast}
 use Rattle.bag_disk.specs.declared.refusal.Refusal.TheVariants as refused
 use Rattle.bag_tree.specs.declared.tree_fault.TreeFault.TheVariants as fault
@@ -26,16 +27,16 @@ on_ok_both (Err e) p q f = tt
 abbrev SaysLast : Answer → Result (Unit {0}) TreeFault → Type 0
 SaysLast last result = MatchResult result (λ _. last ≡ Given) (λ fault. last ≡ Refused fault)
 
-module _ (old new : DiskState) (own own_then given given_then : ℕ) (last last_then : Answer) where
+module _ (old new : DiskState) (own own_then : ℕ) (said said_then : Replies) where
   abbrev before : TreeState
-  before = file_state_after old own given last
+  before = file_state_after old own said
 
   abbrev after : TreeState
-  after = file_state_after new own_then given_then last_then
+  after = file_state_after new own_then said_then
 
   module _ (change : Bag → Bag) (more : ℕ) (absent taken left gone : Type 0) (asks refused_asks : Asking) where
     so_answered : (done : Result (Unit {0}) Refusal) → own_then ≡ own_after done own
-        → SaysLast last_then (answer_to done) → IsCounted done old new
+        → SaysLast said_then.last (answer_to done) → IsCounted done old new
         → OnOk done (new.failures ≡ old.failures → own_then ≡ own
         → AppliesStep change more before after × IsPossible absent taken before)
         → OnErr done (old.failures + own ≤ new.failures + own_then → left)
@@ -66,7 +67,7 @@ module _ (old new : DiskState) (own own_then given given_then : ℕ) (last last_
 
     -- the answer to how it went
     pub answered : (done : Result (Unit {0}) Refusal) (result : Result (Unit {0}) TreeFault) → result ≡ answer_to done
-        → own_then ≡ own_after done own → SaysLast last_then result → IsCounted done old new
+        → own_then ≡ own_after done own → SaysLast said_then.last result → IsCounted done old new
         → OnOk done (new.failures ≡ old.failures → own_then ≡ own
         → AppliesStep change more before after × IsPossible absent taken before)
         → OnErr done (old.failures + own ≤ new.failures + own_then → left)
@@ -76,7 +77,7 @@ module _ (old new : DiskState) (own own_then given given_then : ℕ) (last last_
         → Changes change more absent taken left asks refused_asks before after result
     answered done result is same says counts made leaves none due asked =
         subst (Changes change more absent taken left asks refused_asks before after) (sym is)
-        (so_answered done same (subst (SaysLast last_then) is says) counts made leaves none due asked)
+        (so_answered done same (subst (SaysLast said_then.last) is says) counts made leaves none due asked)
 
 module _ (old new : DiskState) (gone there : Type 0) where
   so_told : (done : Result (Unit {0}) Refusal) → IsCounted done old new

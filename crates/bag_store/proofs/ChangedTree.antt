@@ -7,13 +7,13 @@ use Rattle.bag_store.proofs.Common.{IsDisk, OnlyLooks, entry_count, is_plain, is
 use Rattle.bag_store.proofs.Common.{MakesFolderNode, moved, nodes_move, IsMovedIn, IsRenamed, bag_of, file_state_after}
 use Rattle.bag_store.proofs.Common.{count_after, Begins, Makes, failures_after, Refusal, all_plain, other_not_plain}
 use Rattle.std.specs.FinMap as map
-use Rattle.bag_tree.specs.declared.answer.Answer.{Answer}
 use Rattle.bag_tree.specs.Steps as step
 use Rattle.bag_disk.specs.DiskNodes.{OnlySyncs, SameDisk}
 use Rattle.bag_store.proofs.AskedOf.{looked}
 use Rattle.bag_store.proofs.EntryCounts.{as_many_moved, more_put, no_more_gone}
 use Rattle.bag_store.proofs.BagSteps.{came_from, bag_moved_in, bag_renamed, file_gone, file_made, file_put}
 use Rattle.bag_store.proofs.BagSteps.{folder_made, free_not_taken}
+use Rattle.bag_store.specs.FileTree.{KeepsGiven, Replies}
 use Rattle.bag_store.specs.Writing.{LeavesPut, Puts, RemovesIt}
 use Rattle.bag_tree.specs.Cut.{lose}
 use Rattle.bag_tree.specs.ReplaceCalls.{LeavesReplaced}
@@ -46,60 +46,60 @@ record Steps (change : Bag → Bag) (more : ℕ) (old new : Nodes) : Type 0 wher
   plain : is_plain old ≡ true → is_plain new ≡ true
   entries : entry_count new ≤ entry_count old + more
 
-module _ (old new : DiskState) (own own_then given given_then : ℕ) (last last_then : Answer) where
+module _ (old new : DiskState) (own own_then : ℕ) (said said_then : Replies) where
   changed : (change : Bag → Bag) (more : ℕ) → ClosesOpenFile old new → old.failures + own ≤ new.failures + own_then
       → (IsTrue old.honest → Steps change more old.nodes new.nodes)
-      → AppliesStep change more (file_state_after old own given last)
-      (file_state_after new own_then given_then last_then)
+      → AppliesStep change more (file_state_after old own said)
+      (file_state_after new own_then said_then)
   changed change more closes grows steps = grind arith
 
   pub folder_changed : (name : List ℕ) → IsDisk old.nodes → IsDisk new.nodes → is_base_name name ≡ true
       → new.failures ≡ old.failures → own_then ≡ own → ClosesOpenFile old new
       → (IsTrue old.honest → MakesFolderNode old.nodes new.nodes name)
-      → AppliesStep (step.make_folder name) 1 (file_state_after old own given last)
-      (file_state_after new own_then given_then last_then)
+      → AppliesStep (step.make_folder name) 1 (file_state_after old own said)
+      (file_state_after new own_then said_then)
   folder_changed name disk disk_then is no_failure same closes makes =
       grind (arith, changed, folder_made, stays_plain, nothing_else_put, more_put)
 
   pub file_changed : (name bytes : List ℕ) → IsDisk old.nodes → IsDisk new.nodes
       → old.failures + own ≤ new.failures + own_then → Makes old new name bytes
-      → AppliesStep (step.create name bytes) 1 (file_state_after old own given last)
-      (file_state_after new own_then given_then last_then)
+      → AppliesStep (step.create name bytes) 1 (file_state_after old own said)
+      (file_state_after new own_then said_then)
   file_changed name bytes disk disk_then grows makes =
       grind (arith, changed, file_made, stays_plain, nothing_else_put, more_put)
 
   pub put_changed : (beside name bytes : List ℕ) → IsDisk old.nodes → IsDisk new.nodes
       → old.failures + own ≤ new.failures + own_then → Puts old new beside name bytes
-      → AppliesStep (step.create name bytes) 1 (file_state_after old own given last)
-      (file_state_after new own_then given_then last_then)
+      → AppliesStep (step.create name bytes) 1 (file_state_after old own said)
+      (file_state_after new own_then said_then)
   put_changed beside name bytes disk disk_then grows puts =
       grind (arith, changed, file_put, stays_plain, nothing_else_put, more_put)
 
   pub gone_changed : (name : List ℕ) → IsDisk old.nodes → IsDisk new.nodes
       → old.failures + own ≤ new.failures + own_then → RemovesIt old new name
-      → AppliesStep (lose name) 0 (file_state_after old own given last)
-      (file_state_after new own_then given_then last_then)
+      → AppliesStep (lose name) 0 (file_state_after old own said)
+      (file_state_after new own_then said_then)
   gone_changed name disk disk_then grows removes =
       grind (arith, changed, file_gone, stays_plain, nothing_else_gone, no_more_gone)
 
   pub moved_changed : (top folder : List ℕ) → IsDisk old.nodes → IsDisk new.nodes → is_base_name top ≡ true
       → new.failures ≡ old.failures → own_then ≡ own → ClosesOpenFile old new → IsMovedIn old new top folder
-      → AppliesStep (step.move_in top folder) 0 (file_state_after old own given last)
-      (file_state_after new own_then given_then last_then)
+      → AppliesStep (step.move_in top folder) 0 (file_state_after old own said)
+      (file_state_after new own_then said_then)
   moved_changed top folder disk disk_then is no_failure same closes moves =
       grind (arith, changed, bag_moved_in, stays_plain, nothing_else_moved, as_many_moved)
 
   pub renamed_changed : (from to : List ℕ) → IsDisk old.nodes → IsDisk new.nodes → is_base_name from ≡ true
       → is_base_name to ≡ true → new.failures ≡ old.failures → own_then ≡ own → ClosesOpenFile old new
       → IsRenamed old new from to
-      → AppliesStep (step.rename_folder from to) 0 (file_state_after old own given last)
-      (file_state_after new own_then given_then last_then)
+      → AppliesStep (step.rename_folder from to) 0 (file_state_after old own said)
+      (file_state_after new own_then said_then)
   renamed_changed from to disk disk_then from_is to_is no_failure same closes moves =
       grind (arith, changed, bag_renamed, stays_plain, nothing_else_moved, as_many_moved)
 
   -- a call that changes nothing that stands there keeps the tree
   pub tree_keeps : SameDisk old new → old.failures + own ≤ new.failures + own_then
-      → Keeps (file_state_after old own given last) (file_state_after new own_then given_then last_then)
+      → Keeps (file_state_after old own said) (file_state_after new own_then said_then)
   tree_keeps same grows = record {
     bag = ap bag_of same.nodes;
     plain = ap is_plain same.nodes;
@@ -111,8 +111,8 @@ module _ (old new : DiskState) (own own_then given given_then : ℕ) (last last_
   }
 
   -- a refused step left all
-  pub step_same : OnlySyncs old new → old.failures + own ≤ new.failures + own_then → given_then ≡ given
-      → IsUnchanged (file_state_after old own given last) (file_state_after new own_then given_then last_then)
+  pub step_same : OnlySyncs old new → old.failures + own ≤ new.failures + own_then → KeepsGiven said said_then
+      → IsUnchanged (file_state_after old own said) (file_state_after new own_then said_then)
   step_same syncs grows same = record {
     keeps = record {
       bag = ap bag_of syncs.nodes;
@@ -124,25 +124,25 @@ module _ (old new : DiskState) (own own_then given given_then : ℕ) (last last_
     };
     openings = syncs.openings;
     rest = syncs.rest;
-    given = same;
+    given = same.given;
   }
 
   -- a refused step left all, or a file of some first bytes
   pub step_begun : (name bytes : List ℕ) → IsDisk old.nodes → IsDisk new.nodes → is_base_name name ≡ true
-      → old.failures + own ≤ new.failures + own_then → given_then ≡ given
+      → old.failures + own ≤ new.failures + own_then → KeepsGiven said said_then
       → OnlyLooks old new ⊎ Begins old new name bytes
-      → IsUnchanged (file_state_after old own given last) (file_state_after new own_then given_then last_then)
-      ⊎ LeavesPartialFile name bytes (file_state_after old own given last)
-      (file_state_after new own_then given_then last_then)
+      → IsUnchanged (file_state_after old own said) (file_state_after new own_then said_then)
+      ⊎ LeavesPartialFile name bytes (file_state_after old own said)
+      (file_state_after new own_then said_then)
   step_begun name bytes disk disk_then is grows same (inl looks) = inl (step_same (looked old new looks) grows same)
   step_begun name bytes disk disk_then is grows same (inr begins) =
       grind (arith, file_changed name (take begins.count bytes) disk disk_then grows begins.first, free_not_taken)
 
   -- a refused change left all, or a file of some first bytes beside, or was made
   pub put_left : (beside name bytes : List ℕ) → IsDisk old.nodes → IsDisk new.nodes → is_base_name beside ≡ true
-      → old.failures + own ≤ new.failures + own_then → given_then ≡ given → LeavesPut old new beside name bytes
-      → LeavesReplaced beside name bytes (file_state_after old own given last)
-      (file_state_after new own_then given_then last_then)
+      → old.failures + own ≤ new.failures + own_then → KeepsGiven said said_then → LeavesPut old new beside name bytes
+      → LeavesReplaced beside name bytes (file_state_after old own said)
+      (file_state_after new own_then said_then)
   put_left beside name bytes disk disk_then is grows same (inl syncs) = inl (step_same syncs grows same)
   put_left beside name bytes disk disk_then is grows same (inr (inl begins)) =
       elim (step_begun beside bytes disk disk_then is grows same (inr begins))
@@ -151,10 +151,10 @@ module _ (old new : DiskState) (own own_then given given_then : ℕ) (last last_
       inr (inr (put_changed beside name bytes disk disk_then grows puts))
 
   pub gone_left : (name : List ℕ) → IsDisk old.nodes → IsDisk new.nodes
-      → old.failures + own ≤ new.failures + own_then → given_then ≡ given → OnlySyncs old new ⊎ RemovesIt old new name
-      → IsUnchanged (file_state_after old own given last) (file_state_after new own_then given_then last_then)
-      ⊎ AppliesStep (lose name) 0 (file_state_after old own given last)
-      (file_state_after new own_then given_then last_then)
+      → old.failures + own ≤ new.failures + own_then → KeepsGiven said said_then → OnlySyncs old new ⊎ RemovesIt old new name
+      → IsUnchanged (file_state_after old own said) (file_state_after new own_then said_then)
+      ⊎ AppliesStep (lose name) 0 (file_state_after old own said)
+      (file_state_after new own_then said_then)
   gone_left name disk disk_then grows same (inl syncs) = inl (step_same syncs grows same)
   gone_left name disk disk_then grows same (inr removes) = inr (gone_changed name disk disk_then grows removes)
 

@@ -8,6 +8,7 @@ use Rattle.bag_disk.specs.declared.refusal.Refusal.{Refusal}
 use Rattle.bag_disk.specs.declared.refusal.Refusal.TheVariants.{Device, Special, Name, NotFound}
 use Rattle.bag_disk.specs.declared.refusal.Refusal.TheVariants.{TooMany, Memory, Exists}
 use Rattle.bag_disk.specs.declared.refusal.Refusal.TheVariants.{Contradicts, InTheWay}
+use Rattle.bag_store.specs.FileTree.{Replies}
 use Rattle.bag_store.specs.declared.answered.Answered.{Answered}
 
 -- how often a tree failed over what its disk gave
@@ -17,6 +18,15 @@ own_failures answered = failures_counted answered.failures
 -- how many bytes the open file gave
 abbrev pub bytes_given : Answered → ℕ
 bytes_given answered = length answered.given.bytes
+
+-- what the calls have answered
+abbrev pub replies_of : Answered → Replies
+replies_of answered = record {
+  listed = answered.files.what.listed;
+  gave = answered.files.what.gave;
+  given = bytes_given answered;
+  last = answered.last;
+}
 
 -- the fault that answers a refusal
 abbrev pub fault_answering : Refusal → TreeFault

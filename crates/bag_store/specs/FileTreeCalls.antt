@@ -10,7 +10,7 @@ use Rattle.bag_store.specs.declared.file_tree.FileTree.{FileTree}
 use Rattle.bag_disk.specs.Disk.{DiskState}
 use Rattle.bag_disk.specs.declared.disk.Disk as Disk
 use Rattle.bag_disk.specs.Refusal.{MeetsSpecial, MeetsUnnamed}
-use Rattle.bag_store.specs.Answered.{bytes_given, own_failures}
+use Rattle.bag_store.specs.Answered.{own_failures, replies_of}
 use Rattle.bag_store.specs.Asking.{SyncsBoth}
 use Rattle.bag_store.specs.FileTree.{file_state_after}
 
@@ -42,8 +42,7 @@ AnswersTakenLast folder old new cause =
 abbrev pub state_of : {D : Type 0} {disk : Disk.Ghosts D} → (D → DiskState) → FileTree D disk
     → TreeState
 state_of state tree =
-    file_state_after (state tree.disk) (own_failures tree.answered) (bytes_given tree.answered)
-    tree.answered.last
+    file_state_after (state tree.disk) (own_failures tree.answered) (replies_of tree.answered)
 
 -- the disk of a tree
 abbrev pub disk_of : {D : Type 0} {disk : Disk.Ghosts D} → FileTree D disk → D

@@ -3,6 +3,7 @@ ghost use Rattle.std.specs.Prelude.{◌≡◌, true};
 ghost use Rattle.bag_store.specs.Asking.{HasDurableFolders};
 
 use crate::answered::Answered;
+use crate::standing::has_folder_named;
 use crate::{changing, replacing, writing};
 use bag_disk::{Disk, Refusal, ReplaceDisk, SystemDisk, WritableDisk, list_below, open_at};
 use bag_tree::{Listing, ReplaceTree, Tree, TreeFault, WriteTree};
@@ -77,7 +78,7 @@ impl<D: Disk + Drop> Tree for FileTree<D> {
     {
         match list_below(&mut self.disk, self.alloc) {
             Ok(listing) => {
-                self.answered.give();
+                self.answered.list(&listing);
                 Ok(listing)
             }
             Err(unlisted) => Err(self.answered.refuse_list(unlisted)),
@@ -93,7 +94,7 @@ impl<D: Disk + Drop> Tree for FileTree<D> {
         self.disk.close();
         match open_at(&mut self.disk, path) {
             Ok(()) => {
-                self.answered.open();
+                self.answered.open(path);
                 Ok(())
             }
             Err(refusal) => Err(self.answered.refuse(refusal)),
@@ -194,9 +195,26 @@ impl<D: WritableDisk + Drop> WriteTree for FileTree<D> {
 impl<D: ReplaceDisk + Drop> ReplaceTree for FileTree<D> {
     ghost use Rattle.std.specs.Prelude.{◌≢◌, IsTrue, IfErr};
     ghost use Rattle.bag_text.specs.Path.{is_base_name};
-    ghost use Rattle.bag_tree.specs.ReplaceCalls.{Removes, Replaces};
+    ghost use Rattle.bag_tree.specs.ReplaceCalls.{LooksForFolder, Removes, Replaces};
     ghost use Rattle.bag_store.specs.FileTreeCalls.{ReportsDisk, disk_of, state_of};
     ghost use Rattle.bag_store.specs.Writing.{LooksFirst};
+
+    /// Whether a folder has a name in the base folder. What is no file and no folder is `Special`.
+    fn has_folder(&mut self, name: &str) -> Result<bool, TreeFault>
+        requires { IsTrue (is_base_name name.now) }
+        ensures looks { LooksForFolder name.now (state_of D.state self.old)
+            (state_of D.state self.new) result }
+        ensures cause { IfErr result (
+            ReportsDisk ⊥ (D.state (disk_of self.old)) (D.state (disk_of self.new))) }
+    {
+        match has_folder_named(&mut self.disk, name) {
+            Ok(is_there) => {
+                self.answered.give();
+                Ok(is_there)
+            }
+            Err(refusal) => Err(self.answered.refuse(refusal)),
+        }
+    }
 
     fn replace(&mut self, beside: &str, name: &str, bytes: &[u8]) -> Result<(), TreeFault>
         requires beside { IsTrue (is_base_name beside.now) }

@@ -11,9 +11,10 @@
 //! A `FileTree` stands over any `Disk`, a few calls of the system below a base folder, and is
 //! proved for each honest one. Over a `WritableDisk` it can be changed step by step, so that a
 //! folder is made a bag in place (RFC 8493, 2.1); over a `ReplaceDisk` files of its base folder can
-//! be put in place of others, and removed. `FileTree::at` is the tree over the system's disk, of
-//! which nothing is promised. What a tree means, its changes and its digests are in `bag_tree`,
-//! trees in memory in `bag_memory`, disks in `bag_disk`.
+//! be put in place of others, and removed, and it can be asked whether a folder has a name there.
+//! `FileTree::at` is the tree over the system's disk, of which nothing is promised. What a tree
+//! means, its changes and its digests are in `bag_tree`, trees in memory in `bag_memory`, disks in
+//! `bag_disk`.
 //!
 //! A tree of files is honest where its disk is, and has what stands there; a step on an honest one
 //! is its function on bags, and replaces nothing but a file of the name that is given.

@@ -7,7 +7,7 @@ ghost use Rattle.bag_disk.specs.DiskNodes.{HasSpecial, IsReachedByFolders, OnlyL
 ghost use Rattle.bag_disk.specs.WritableDisk.{HasFileNode};
 ghost use Rattle.bag_store.specs.Changing.{IsNameTaken, LacksFileThere};
 ghost use Rattle.bag_disk.specs.DiskBag.{bag_of};
-ghost use Rattle.bag_disk.specs.Refusal.{IsCounted};
+ghost use Rattle.bag_disk.specs.Refusal.{IsCounted, MeetsSpecial};
 ghost use Rattle.bag_store.specs.Due.{IsDueInFinding, IsDueInLook, IsDueInMaking, IsDueInRemoving};
 ghost use Rattle.bag_store.specs.Standing.{IsStanding};
 ghost use Rattle.bag_store.specs.Writing.{is_none_or_file};
@@ -95,6 +95,21 @@ pub(crate) fn check_no_folder<D: Disk>(disk: &mut D, name: &str) -> Result<(), R
     match standing_at(disk, name)? {
         None | Some(Standing::File) => Ok(()),
         Some(Standing::Folder) => Err(Refusal::Exists),
+    }
+}
+
+/// Whether a folder has a name in the base folder.
+pub(crate) fn has_folder_named<D: Disk>(disk: &mut D, name: &str) -> Result<bool, Refusal>
+    requires { IsTrue (is_base_name name.now) }
+    ensures looks { OnlyLooks (D.state disk.old) (D.state disk.new) }
+    ensures found { IfOk result (λ found. IsTrue (D.state disk.old).honest
+        → found ≡ has_folder (bag_of (D.state disk.old).nodes) name.now) }
+    ensures refused { IfErr result (IsDueInLook (MeetsSpecial (D.state disk.old))) }
+    ensures failures { IsCounted result (D.state disk.old) (D.state disk.new) }
+{
+    match standing_at(disk, name)? {
+        Some(Standing::Folder) => Ok(true),
+        None | Some(Standing::File) => Ok(false),
     }
 }
 

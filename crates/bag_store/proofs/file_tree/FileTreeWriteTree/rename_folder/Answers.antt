@@ -10,17 +10,17 @@ returns-clause-renames g c =
     let did = c.rename_folder-done.ensures in
     let from = c.args.from.now in
     let to = c.args.to.now in
-    answered (g.D.Disk.state c.args.self.now.disk) (g.D.Disk.state c.rename_folder-done.new.disk) _ _ _ _ _ _ _ _ _ _ _ _ _ _
+    answered (g.D.Disk.state c.args.self.now.disk) (g.D.Disk.state c.rename_folder-done.new.disk) _ _ _ _ _ _ _ _ _ _ _ _
     done c.to.result c.to.ensures.answer c.to.ensures.failures c.to.ensures.last did.failures
     (on_ok_both done did.renamed did.closed (λ renamed closed kept same. (
-      renamed_changed _ _ _ _ _ _ _ _ from to (g.met.D.Disk.is_disk c.args.self.now.disk)
+      renamed_changed _ _ _ _ _ _ from to (g.met.D.Disk.is_disk c.args.self.now.disk)
           (g.met.D.Disk.is_disk c.rename_folder-done.new.disk) c.requires.from c.requires.to kept same closed renamed,
       λ honest. (
         has_it _ from c.requires.from (renamed honest).folder_is,
         not_taken _ to c.requires.to (renamed honest).free,
       ),
     )))
-    (on_err_weaker done (λ syncs grows. step_same _ _ _ _ _ _ _ _ syncs grows c.to.ensures.given) did.same)
+    (on_err_weaker done (λ syncs grows. step_same _ _ _ _ _ _ syncs grows c.to.ensures.given) did.same)
     (λ none. none) did.refused did.asked
 
 pub returns-clause-cause : goal.returns-clause-cause

@@ -1,0 +1,21 @@
+use Rattle.bag_store.proofs.BaseNames.{base_reached}
+use Rattle.bag_store.proofs.Common.{HasSpecial, IsReachedByFolders, IsTrue, arith, due_for, err_from_is_err_and, folder_of_disk}
+use Rattle.bag_store.proofs.standing.has_folder_named.Goals as goal
+
+pub returns-in_err-standing_at-clause-refused : goal.returns-in_err-standing_at-clause-refused
+returns-in_err-standing_at-clause-refused g c =
+    let p = err_from_is_err_and c.from_residual.result c.from_residual.ensures.1 in
+    let old = g.D.Disk.state c.args.disk.now in
+    rw (p.1, p.2)
+    (due_for (IsTrue old.honest → IsReachedByFolders old.nodes c.args.name.now → HasSpecial old.nodes) ⊥ ⊥ ⊥ _ _ _ _ _
+    (λ special honest. special honest (base_reached _ _ c.requires)) (λ never. never)
+    (λ never. absurd never) (λ never. never) c.in_err-standing_at.ensures.refused)
+
+pub returns-in-Some-Folder-clause-found : goal.returns-in-Some-Folder-clause-found
+returns-in-Some-Folder-clause-found g c = λ honest. grind (arith, folder_of_disk, base_reached)
+
+pub returns-in-None-clause-found : goal.returns-in-None-clause-found
+returns-in-None-clause-found g c = λ honest. grind (arith, folder_of_disk, base_reached)
+
+pub returns-in-None-2-clause-found : goal.returns-in-None-2-clause-found
+returns-in-None-2-clause-found g c = λ honest. grind (arith, folder_of_disk, base_reached)
