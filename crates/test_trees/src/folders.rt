@@ -74,17 +74,29 @@ fn is_there(stop: &impl Abort, rt: &HostRuntime, folders: &str, (path, held): Pl
         .is_symlink()
 }
 
-/// A trial is right in a folder that is made for it; its links stand as before, and nothing is
-/// outside.
-fn try_below(stop: &impl Abort, rt: &HostRuntime, folders: &str, trial: &Trial) {
+/// Makes the folder `base` with what stands there, beside the folder `outside`, and gives its path.
+pub(crate) fn make_base(
+    stop: &impl Abort,
+    rt: &HostRuntime,
+    folders: &str,
+    places: &[Place],
+) -> String {
     let base = place(stop, rt, folders, "base");
     let outside = place(stop, rt, folders, "outside");
     for folder in [folders, outside.as_str(), base.as_str()] {
         fs::create_dir(rt, folder).expect(stop, "succeeds");
     }
-    for held in trial.before {
+    for held in places {
         put(stop, rt, folders, *held);
     }
+    base
+}
+
+/// A trial is right in a folder that is made for it; its links stand as before, and nothing is
+/// outside.
+fn try_below(stop: &impl Abort, rt: &HostRuntime, folders: &str, trial: &Trial) {
+    let base = make_base(stop, rt, folders, trial.before);
+    let outside = place(stop, rt, folders, "outside");
     let mut tree = tree_of(stop, rt, base.as_str());
     follow(stop, rt.alloc(), &mut tree, trial);
     for held in trial.before {

@@ -20,6 +20,8 @@ mod held;
 #[cfg(test)]
 mod listings;
 #[cfg(test)]
+mod looks;
+#[cfg(test)]
 mod made_up;
 #[cfg(test)]
 mod on_disks;
