@@ -89,7 +89,7 @@ pub use Rattle.bag_facts.specs.TagFacts.{AreByPath, AreEntriesOf, IsDeclarationO
 pub use Rattle.bag_facts.specs.TagFacts.{IsParsed, IsReadOf, IsTagFileNamed, SaysOfTagFile, entry_paths, name_of}
 pub use Rattle.bag_facts.specs.TagFacts.{path_of}
 pub use Rattle.bag_facts.specs.TagReader.{AreBytes, AreFilesOfBag, PathsAreTexts, IsWhole, ReadsWanted, StopsReading}
-pub use Rattle.bag_facts.specs.TagReader.{read_path, MayStopReading, OpensAll, OpensFirst}
+pub use Rattle.bag_facts.specs.TagReader.{given_of, read_path, MayStopReading, OpensAll, OpensFirst}
 pub use Rattle.bag_facts.specs.Wanted.{AreWanted, ForListing, IsWanted, OpensUpTo, OpensWanted}
 pub use Rattle.bag_facts.specs.Wanted.{Wants, paths_of}
 pub use Rattle.bag_facts.specs.declared.facts.Facts.{Facts}

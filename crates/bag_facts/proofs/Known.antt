@@ -3,7 +3,10 @@ use Rattle.bag_facts.proofs.Common.{arith, ◌≡◌, List, map, length, Some, s
 use Rattle.bag_facts.proofs.Common.{IsListOf, same_members, tag_path, Bag, IsBag, file, HasFile, IsOrdered}
 use Rattle.bag_facts.proofs.Common.{HasItsFolder, IsListingOf, size_at, TreeState, Keeps, FileEntry, Listing, AreJudged}
 use Rattle.bag_facts.proofs.Common.{IsFactsOf, SaysOfTagFile, PathsAreTexts, IsWhole, read_path, IsWanted, AreWanted}
-use Rattle.bag_facts.proofs.Common.{paths_of, Facts, Options, TagBytes, IsTrue}
+use Rattle.bag_facts.proofs.Common.{paths_of, Facts, Options, TagBytes, IsTrue, ◌++◌, given_of, option_map}
+use Rattle.bag_facts.proofs.Common.{AreFilesOfBag}
+use Rattle.bag_facts.proofs.GivenTags.{are_tag_files}
+use Rattle.bag_facts.specs.Given.{GivesTagFiles}
 use Rattle.bag_facts.proofs.ListedFiles.{file_listed, listed_file}
 use Rattle.bag_facts.proofs.Parsed.{same_paths, parsed_from}
 use Rattle.bag_facts.proofs.RulesRead.{rules_known}
@@ -51,17 +54,43 @@ module _ (facts : Facts) (options : Options) (listing : Listing) (files : List F
       → IsTrue old.honest → IsFactsOf old.bag facts
   known_honest old mid k listed whole honest = grind (arith, known_of)
 
-  -- over any tree they are of some bag
-  pub known_seen : (mid : TreeState) → HasItsFolder listing → PathsAreTexts files
-      → ((one : TagBytes) → Contains read one → IsWhole files mid one) → (bag : Bag) × IsBag bag × IsFactsOf bag facts
-  known_seen mid needs texts whole =
-      let sizes : (one : TagBytes) → Contains read one
-      → size_at listing.files (read_path one) ≡ Some (length one.bytes.items) =
-      λ one c. subst (λ some. size_at some (read_path one) ≡ Some (length one.bytes.items)) files_are (whole one c).size
-      in
-      let listed = listing_seen read listing ordered.ascending sizes ordered needs in (
-        seen_bag read listing,
-        seen_is_bag read (λ one c. (whole one c).are_bytes) listing ordered (subst PathsAreTexts files_are texts)
-            listed,
-        known_of (seen_bag read listing) listed (read_seen read listing ordered.ascending sizes wanted.ascending),
-      )
+  module _ (mid : TreeState) (needs : HasItsFolder listing) (texts : PathsAreTexts files)
+      (whole : (one : TagBytes) → Contains read one → IsWhole files mid one) where
+    sizes : (one : TagBytes) → Contains read one
+        → size_at listing.files (read_path one) ≡ Some (length one.bytes.items)
+    sizes one c =
+        subst (λ some. size_at some (read_path one) ≡ Some (length one.bytes.items)) files_are (whole one c).size
+
+    listed : IsListingOf (seen_bag read listing) listing
+    listed = listing_seen read listing ordered.ascending sizes ordered needs
+
+    held : (one : TagBytes) → Contains read one → file (seen_bag read listing) (read_path one) ≡ Some one.bytes.items
+    held = read_seen read listing ordered.ascending sizes wanted.ascending
+
+    is_bag : IsBag (seen_bag read listing)
+    is_bag =
+        seen_is_bag read (λ one c. (whole one c).are_bytes) listing ordered (subst PathsAreTexts files_are texts) listed
+
+    -- over any tree they are of some bag
+    pub known_seen : (bag : Bag) × IsBag bag × IsFactsOf bag facts
+    known_seen = (seen_bag read listing, is_bag, known_of (seen_bag read listing) listed held)
+
+    -- of which the tree listed the files, and gave the tag files
+    pub known_given : (old new : TreeState) (first : Listing) → mid.listed ≡ Some first
+        → listing.files ≡ first.files → new.listed ≡ mid.listed → mid.gave ≡ old.gave
+        → new.gave ≡ mid.gave ++ map given_of read
+        → (bag : Bag) × IsBag bag × IsFactsOf bag facts × GivesTagFiles options bag facts.listing.files old new
+    known_given old new first was same still none gave = (
+      seen_bag read listing,
+      is_bag,
+      known_of (seen_bag read listing) listed held,
+      record {
+        listed =
+            ap (option_map (λ (l : Listing). l.files)) (still ∙ was) ∙ ap Some (sym same)
+            ∙ ap (λ (l : Listing). Some l.files) (sym listing_is);
+        tags = map given_of read;
+        tags_are = are_tag_files (seen_bag read listing) options files read
+            (subst (AreFilesOfBag (seen_bag read listing)) (sym files_are) listed.files) wanted held;
+        gave = gave ∙ ap (λ before. before ++ map given_of read) none;
+      },
+    )

@@ -10,6 +10,7 @@ pub mod Entries
 pub mod Escapes
 pub mod FieldPieces
 pub mod Found
+pub mod GivenTags
 pub mod ItsFolder
 pub mod Known
 pub mod Lines

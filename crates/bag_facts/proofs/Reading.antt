@@ -7,8 +7,8 @@ use Rattle.bag_facts.proofs.Common.{TreeState, Keeps, OpensAtMost, IsEntryOf, Fa
 use Rattle.bag_facts.proofs.Common.{Unlisted, FileEntry, Listing, Stop, TreeFault, Device, Special, Name, NotFound}
 use Rattle.bag_facts.proofs.Common.{TooMany, Changed, NoneOpen, Memory, Exists, memory_then, memory_unlisted}
 use Rattle.bag_facts.proofs.Common.{nothing_asked, nothing_then, MayRefuseFacts, MayStopReading, AreFilesOfBag}
-use Rattle.bag_facts.proofs.Common.{PathsAreTexts, IsWhole, ReadsWanted, StopsReading, read_path, IsWanted, AreWanted}
-use Rattle.bag_facts.proofs.Common.{OpensFirst, OpensUpTo, paths_of, Options, TagBytes, IsUtf8, IsTrue}
+use Rattle.bag_facts.proofs.Common.{PathsAreTexts, IsWhole, ReadsWanted, StopsReading, read_path, given_of, IsWanted}
+use Rattle.bag_facts.proofs.Common.{AreWanted, OpensFirst, OpensUpTo, paths_of, Options, TagBytes, IsUtf8, IsTrue}
 use Rattle.bag_facts.proofs.ListedFiles.{own_size}
 use Rattle.bag_facts.proofs.Mapped.{take_one_more, taken_cases}
 use Rattle.bag_facts.proofs.Refusing.{wanted_some}
@@ -55,6 +55,8 @@ pub record ReadsSome (options : Options) (files : List FileEntry) (count : ℕ) 
   pub keeps : Keeps old new
   pub no_failure : NothingFailed old new
   pub opened : new.openings ≡ old.openings ++ map read_path read
+  pub listed : new.listed ≡ old.listed
+  pub gave : new.gave ≡ old.gave ++ map given_of read
   pub paths : map read_path read ≡ wanted options (take count files)
   pub whole : (one : TagBytes) → Contains read one → IsWhole files old one
   pub texts : PathsAreTexts (take count files)
@@ -94,13 +96,13 @@ module _ {options : Options} {files : List FileEntry} {i : ℕ} {entry : FileEnt
       [ inl a ↦ before.texts other a | inr e ↦ subst (λ (x : FileEntry). IsUtf8 x.path) e text ]
 
   -- a listed file isn't wanted
-  pub reads_no_more : Keeps mid new → NothingFailed mid new → IsUtf8 entry.path → ReadsWanted options entry mid new None
-      → ReadsSome options files (i + 1) old new read
-  reads_no_more k no_failure text h =
+  pub reads_no_more : Keeps mid new → NothingFailed mid new → new.listed ≡ mid.listed → IsUtf8 entry.path
+      → ReadsWanted options entry mid new None → ReadsSome options files (i + 1) old new read
+  reads_no_more k no_failure still text h =
       grind (arith, keeps_on, nothing_then, next_paths, one_unwanted, append-nil, texts_more)
 
-  module _ (one : TagBytes) (k : Keeps mid new) (no_failure : NothingFailed mid new) (text : IsUtf8 entry.path)
-      (h : ReadsWanted options entry mid new (Some one)) where
+  module _ (one : TagBytes) (k : Keeps mid new) (no_failure : NothingFailed mid new)
+      (still : new.listed ≡ mid.listed) (text : IsUtf8 entry.path) (h : ReadsWanted options entry mid new (Some one)) where
     entry_wanted : IsWanted options entry.path
     entry_wanted = (one.name, h.at, h.wanted)
 
@@ -113,12 +115,20 @@ module _ {options : Options} {files : List FileEntry} {i : ℕ} {entry : FileEnt
     one_whole : IsWhole files old one
     one_whole = grind (arith, own_size, listed)
 
+    gave_one : new.gave ≡ old.gave ++ map given_of (read ++ one ∷ [])
+    gave_one =
+        h.gave ∙ (λ j. before.gave j ++ (sym h.at j, one.bytes.items) ∷ [])
+        ∙ append_assoc old.gave (map given_of read) (given_of one ∷ [])
+        ∙ ap (λ given. old.gave ++ given) (sym (map-append given_of read (one ∷ [])))
+
     -- one more was read
     pub reads_one_more : ReadsSome options files (i + 1) old new (read ++ one ∷ [])
     reads_one_more = record {
       keeps = keeps_on old mid new before.keeps k;
       no_failure = nothing_then old mid new before.no_failure no_failure;
       opened = opened_more ∙ ap (λ paths. old.openings ++ paths) (sym paths_more);
+      listed = still ∙ before.listed;
+      gave = gave_one;
       paths = paths_more;
       whole = λ other c. elim (contains_either read (one ∷ []) other c) [
         | inl a ↦ before.whole other a

@@ -4,6 +4,7 @@ pub mod FactsOfBag
 pub mod FaultAt
 pub mod FaultLine
 pub mod FaultOrder
+pub mod Given
 pub mod Laws
 pub mod LineFields
 pub mod LineOf

@@ -2,7 +2,7 @@
 use Rattle.std.specs.Prelude.{◌≡◌, ◌⊎◌, ◌++◌, ◌∷◌, ◌<◌, ℕ, List, [], length, All, Contains, Option}
 use Rattle.std.specs.Prelude.{None, Some, IsTrue, IsUtf8}
 use Rattle.std.specs.Option.{option_map}
-use Rattle.bag_text.specs.Bytes.{Path}
+use Rattle.bag_text.specs.Bytes.{Content, Path}
 use Rattle.bag_read.specs.ManifestName.{tag_path}
 use Rattle.bag_tree.specs.Bag as bag
 use Rattle.bag_tree.specs.Tree.{MayReportMemory, TreeState, CameFromFile}
@@ -19,6 +19,10 @@ use Rattle.bag_facts.specs.declared.tag_reader.TagBytes.{TagBytes}
 -- where the file stands
 abbrev pub read_path : TagBytes → Path
 read_path read = tag_path read.name
+
+-- what was given of it: where it stands, and its bytes
+abbrev pub given_of : TagBytes → Path × Content
+given_of read = (read_path read, read.bytes.items)
 
 -- these are the files of the bag, with their lengths
 abbrev pub AreFilesOfBag : bag.Bag → List FileEntry → Type 0
@@ -44,6 +48,7 @@ pub record ReadsFile (options : Options) (entry : FileEntry) (old new : TreeStat
   pub at : read_path read ≡ entry.path
   pub wanted : Wants options read.name
   pub opened : new.openings ≡ old.openings ++ entry.path ∷ []
+  pub gave : new.gave ≡ old.gave ++ (entry.path, read.bytes.items) ∷ []
   pub are_bytes : AreBytes read.bytes.items
   pub size : length read.bytes.items ≡ entry.size
   pub bytes : IsTrue old.honest → bag.file old.bag entry.path ≡ Some read.bytes.items
@@ -51,7 +56,7 @@ pub record ReadsFile (options : Options) (entry : FileEntry) (old new : TreeStat
 -- a listed file was read where it is wanted, and passed over where it isn't
 abbrev pub ReadsWanted : Options → FileEntry → TreeState → TreeState → Option TagBytes → Type 0
 ReadsWanted options entry old new None =
-    ¬ (IsWanted options entry.path) × (new.openings ≡ old.openings)
+    ¬ (IsWanted options entry.path) × (new.openings ≡ old.openings) × (new.gave ≡ old.gave)
 ReadsWanted options entry old new (Some read) = ReadsFile options entry old new read
 
 -- reading files stopped: at one that is wanted, or when out of memory

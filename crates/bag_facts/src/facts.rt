@@ -11,6 +11,7 @@ ghost use Rattle.bag_tree.specs.Bag.{Bag, IsBag, HasFile, file};
 ghost use Rattle.bag_tree.specs.Tree.{Keeps, NothingFailed};
 ghost use Rattle.bag_facts.specs.Facts.{rules_in};
 ghost use Rattle.bag_facts.specs.FactsOfBag.{AreJudged, AreParsed, AreRulesOf, HasItsFolder};
+ghost use Rattle.bag_facts.specs.Given.{GivesTagFiles};
 ghost use Rattle.bag_facts.specs.TagFacts.{name_of, AreEntriesOf, IsReadOf, IsDeclarationOf};
 ghost use Rattle.bag_facts.specs.TagFacts.{IsMetadataOf, IsFetchListOf, IsManifestNamed};
 ghost use Rattle.bag_facts.specs.TagFacts.{IsTagFileNamed};
@@ -48,8 +49,9 @@ impl Facts {
     /// The stop of a refusal names the file that was refused; it names none for the listing and
     /// when out of memory. Its cause is the tree's own answer, but for out of memory, which is
     /// reported only where the tree reported it or refused nothing. The facts are those of an
-    /// honest tree's bag. Of any other tree they are those of some bag that has the listed files,
-    /// and the payload folder where the listing has it or names a payload file.
+    /// honest tree's bag. Of any other tree they are those of a bag that has the files that it
+    /// listed, with the bytes that it gave of the tag files, and the payload folder where the listing
+    /// has it or names a payload file.
     pub fn read<T: Tree>(alloc: Global, tree: &mut T, options: Options) -> Result<Facts, Stop>
         ensures keeps { Keeps (T.state tree.old) (T.state tree.new) }
         ensures no_failure { OnOk result (NothingFailed (T.state tree.old) (T.state tree.new)) }
@@ -67,6 +69,9 @@ impl Facts {
         ensures facts { IfOk result (λ facts.
             IsTrue (T.state tree.old).honest → IsFactsOf (T.state tree.old).bag facts) }
         ensures seen { IfOk result (λ facts. (bag : Bag) × IsBag bag × IsFactsOf bag facts) }
+        ensures gave { IfOk result (λ facts. (bag : Bag) × IsBag bag × IsFactsOf bag facts
+            × GivesTagFiles
+            options bag facts.listing.files (T.state tree.old) (T.state tree.new)) }
         ensures plain { OnOk result
             (IsTrue (T.state tree.old).honest → IsTrue (T.state tree.old).plain) }
         ensures stop { IfErr result (MayStopReading options (T.state tree.old) (T.state tree.new)) }

@@ -6,7 +6,7 @@ ghost use Rattle.bag_tree.specs.Listing.{IsOrdered};
 ghost use Rattle.bag_tree.specs.Tree.{Keeps, NothingFailed, IsRefusedAt};
 ghost use Rattle.bag_tree.specs.FileReads.{IsEntryOf, OpensAtMost};
 ghost use Rattle.bag_facts.specs.TagReader.{AreBytes, AreFilesOfBag, PathsAreTexts, IsWhole};
-ghost use Rattle.bag_facts.specs.TagReader.{ReadsWanted, StopsReading, read_path, OpensFirst};
+ghost use Rattle.bag_facts.specs.TagReader.{ReadsWanted, StopsReading, given_of, read_path, OpensFirst};
 ghost use Rattle.bag_facts.specs.Wanted.{Wants, IsWanted, AreWanted, OpensUpTo};
 ghost use Rattle.bag_facts.specs.declared.tag_reader.TagBytes.{TagBytes};
 
@@ -45,6 +45,9 @@ pub(crate) fn read_tag_files<T: Tree>(
     ensures no_failure { OnOk result (NothingFailed (T.state tree.old) (T.state tree.new)) }
     ensures opened { IfOk result (λ read.
         (T.state tree.new).openings ≡ (T.state tree.old).openings ++ map read_path read.items) }
+    ensures listed { OnOk result ((T.state tree.new).listed ≡ (T.state tree.old).listed) }
+    ensures gave { IfOk result (λ read.
+        (T.state tree.new).gave ≡ (T.state tree.old).gave ++ map given_of read.items) }
     ensures texts { OnOk result (PathsAreTexts files.now) }
     ensures wanted { IfOk result (λ read. AreWanted options files.now (map read_path read.items)) }
     ensures whole { IfOk result (λ read.
@@ -79,6 +82,7 @@ fn read_wanted<T: Tree>(
 ) -> Result<Option<TagBytes>, Stop>
     ensures keeps { Keeps (T.state tree.old) (T.state tree.new) }
     ensures no_failure { OnOk result (NothingFailed (T.state tree.old) (T.state tree.new)) }
+    ensures listed { OnOk result ((T.state tree.new).listed ≡ (T.state tree.old).listed) }
     ensures text { OnOk result (IsUtf8 entry.now.path) }
     ensures read { IfOk result
         (ReadsWanted options entry.now (T.state tree.old) (T.state tree.new)) }

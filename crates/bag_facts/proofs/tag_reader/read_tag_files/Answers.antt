@@ -33,7 +33,7 @@ pub loop-entry-preserved-in_default : goal.loop-entry-preserved-in_default
 loop-entry-preserved-in_default g c =
     reads_no_more c.requires.ascending c.loop-entry-test.true c.entry-item.is c.loop-entry.invariant
     (g.T.Tree.state c.read_wanted.new.tree)
-    c.in_ok-file.ensures.keeps c.in_ok-file.ensures.no_failure c.in_ok-file.ensures.text
+    c.in_ok-file.ensures.keeps c.in_ok-file.ensures.no_failure c.in_ok-file.ensures.listed c.in_ok-file.ensures.text
     (rw c.in_default.is at c.in_ok-file.ensures.read)
 
 pub returns-then-is_err-clause-opened_first : goal.returns-then-is_err-clause-opened_first
@@ -42,7 +42,7 @@ returns-then-is_err-clause-opened_first g c =
     opens_first c.args.options c.args.files.now (c.loop-entry.entry-index + 1) (g.T.Tree.state c.args.tree.now) new
     c.requires.ascending
     (opened_more c.requires.ascending c.loop-entry-test.true c.entry-item.is c.loop-entry.invariant new
-    c.in-Some.file c.in_ok-file.ensures.keeps c.in_ok-file.ensures.no_failure c.in_ok-file.ensures.text
+    c.in-Some.file c.in_ok-file.ensures.keeps c.in_ok-file.ensures.no_failure c.in_ok-file.ensures.listed c.in_ok-file.ensures.text
     (rw c.in-Some.is at c.in_ok-file.ensures.read))
 
 pub loop-entry-preserved : goal.loop-entry-preserved
@@ -50,7 +50,7 @@ loop-entry-preserved g c =
     let pushed : c.push.new.self.items ≡ c.loop-entry.read.items ++ c.in-Some.file ∷ [] = search rules in
     rw pushed (reads_one_more c.requires.ascending c.loop-entry-test.true c.entry-item.is c.loop-entry.invariant
     (g.T.Tree.state c.read_wanted.new.tree)
-    c.in-Some.file c.in_ok-file.ensures.keeps c.in_ok-file.ensures.no_failure c.in_ok-file.ensures.text
+    c.in-Some.file c.in_ok-file.ensures.keeps c.in_ok-file.ensures.no_failure c.in_ok-file.ensures.listed c.in_ok-file.ensures.text
     (rw c.in-Some.is at c.in_ok-file.ensures.read))
 
 pub returns-clause-wanted : goal.returns-clause-wanted

@@ -1,6 +1,6 @@
 use Rattle.bag_facts.proofs.Common.{arith, inr, map, nothing_given, nothing_then, read_path}
 use Rattle.bag_facts.proofs.ItsFolder.{ordered_with, honest_with}
-use Rattle.bag_facts.proofs.Known.{known_honest, known_seen}
+use Rattle.bag_facts.proofs.Known.{known_given, known_honest, known_seen}
 use Rattle.bag_facts.proofs.Opens.{opened_wanted, opens_none, opens_wanted, opens_all_first, opens_later}
 use Rattle.bag_facts.proofs.Opens.{opens_all_later}
 use Rattle.bag_facts.proofs.PassedOn.{passed_on, on_error}
@@ -77,6 +77,17 @@ returns-in-Ok-of-clause-seen g c =
     (ordered_with c.in-Ok.listing had.result had.ensures.files c.in-Ok.ensures.ordered) c.in-Ok-of.ensures.tags
     c.in_ok-read.ensures.wanted (g.T.Tree.state c.list.new.self) had.ensures.folder
     c.in_ok-read.ensures.texts c.in_ok-read.ensures.whole
+
+pub returns-in-Ok-of-clause-gave : goal.returns-in-Ok-of-clause-gave
+returns-in-Ok-of-clause-gave g c =
+    let had = c.with_its_folder-listing in
+    known_given c.in-Ok-of.facts c.args.options had.result c.as_slice.result.now c.in_ok-read.read.items
+    c.in-Ok-of.ensures.options c.in-Ok-of.ensures.listing c.as_slice.ensures
+    (ordered_with c.in-Ok.listing had.result had.ensures.files c.in-Ok.ensures.ordered) c.in-Ok-of.ensures.tags
+    c.in_ok-read.ensures.wanted (g.T.Tree.state c.list.new.self) had.ensures.folder
+    c.in_ok-read.ensures.texts c.in_ok-read.ensures.whole (g.T.Tree.state c.args.tree.now)
+    (g.T.Tree.state c.read_tag_files.new.tree) c.in-Ok.listing c.in-Ok.ensures.listed had.ensures.files
+    c.in_ok-read.ensures.listed c.list.ensures.gave c.in_ok-read.ensures.gave
 
 pub returns-in-Ok-of-clause-opened : goal.returns-in-Ok-of-clause-opened
 returns-in-Ok-of-clause-opened g c = grind (arith, opens_all_later)
