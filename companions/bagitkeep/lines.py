@@ -59,6 +59,7 @@ WORDS = {
     811: "fetch-not-allowed",
     812: "version-not-accepted",
     813: "serialization-required",
+    814: "serialization-forbidden",
 }
 """The word of each code, as docs/FAULTS.md has them."""
 

@@ -21,7 +21,8 @@ all_codes =
     ∷ code.ProfileIdentifier ∷ code.LabelRequired ∷ code.LabelRepeated ∷ code.ValueNotAllowed
     ∷ code.ManifestRequired ∷ code.ManifestNotAllowed ∷ code.TagmanifestRequired
     ∷ code.TagmanifestNotAllowed ∷ code.TagFileRequired ∷ code.TagFileNotAllowed
-    ∷ code.FetchNotAllowed ∷ code.VersionNotAccepted ∷ code.SerializationRequired ∷ []
+    ∷ code.FetchNotAllowed ∷ code.VersionNotAccepted ∷ code.SerializationRequired
+    ∷ code.SerializationForbidden ∷ []
 
 -- every code with its word
 abbrev pub words : List (Code × List ℕ)

@@ -116,10 +116,12 @@ pub enum Code {
     VersionNotAccepted = 812,
     /// The profile requires a serialized bag, and this is a folder (BagIt Profiles specification).
     SerializationRequired = 813,
+    /// The profile forbids a serialized bag, and this is an archive (BagIt Profiles specification).
+    SerializationForbidden = 814,
 }
 
 /// Every code with its word, in the order of the numbers.
-const CODES: [(Code, &str); 48] = [
+const CODES: [(Code, &str); 49] = [
     (Code::NoDeclaration, "no-declaration"),
     (Code::DeclarationNotUtf8, "declaration-not-utf8"),
     (Code::DeclarationLineCount, "declaration-line-count"),
@@ -174,6 +176,7 @@ const CODES: [(Code, &str); 48] = [
     (Code::FetchNotAllowed, "fetch-not-allowed"),
     (Code::VersionNotAccepted, "version-not-accepted"),
     (Code::SerializationRequired, "serialization-required"),
+    (Code::SerializationForbidden, "serialization-forbidden"),
 ];
 
 impl Code {

@@ -243,5 +243,5 @@ fn codes(rt: HostRuntime) {
             count = count.wrapping_add(1);
         }
     }
-    assert_eq!(rt; count, 48);
+    assert_eq!(rt; count, 49);
 }
