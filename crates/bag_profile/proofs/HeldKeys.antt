@@ -6,6 +6,7 @@ use Rattle.bag_profile.proofs.Common.{as_object, ProfileFault, Key, LabelRule, �
 use Rattle.bag_profile.proofs.Common.{name_rules, name_lists_of, of_object, serialization_named, terms_of, texts}
 use Rattle.bag_profile.proofs.Common.{unchecked_of}
 use Rattle.std.proofs.lemmas.Option.{same_Some}
+use Rattle.bag_profile.specs.declared.form.Form.TheVariants.{Folder}
 use Rattle.bag_profile.specs.declared.key.Key.TheVariants as key
 use Rattle.bag_profile.specs.declared.name_lists.NameRules.{NameRules}
 use Rattle.bag_profile.specs.declared.name_lists.NameLists.{NameLists}
@@ -118,6 +119,7 @@ made : (d : Data) (members : Members) (identifier : List ℕ) (labels : List Lab
       names = lists;
       terms = terms;
       unchecked = unchecked_of members;
+      form = Folder;
     })
 unfolding key_name labels_of
 made d members identifier labels lists terms all i l n t =
@@ -136,6 +138,7 @@ made d members identifier labels lists terms all i l n t =
       accept_version = three.1;
       serialization = three.2;
       others = (members, all, refl);
+      for_folders = refl;
     }
 
 object_holds : (d : Data) (members : Members) (profile : Profile) → as_object d ≡ Some members

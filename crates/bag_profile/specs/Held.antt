@@ -4,6 +4,7 @@ use Rattle.std.specs.Prelude.{ℕ, ◌≡◌, ◌⊎◌, true, false, List, [], 
 use Rattle.std.specs.Prelude.{option_map, option_and_then}
 use Rattle.serde_json.specs.Data.{Data, Members}
 use Rattle.serde_json.specs.Find.{get, as_bool, as_str, as_object}
+use Rattle.bag_profile.specs.declared.form.Form.TheVariants.{Folder}
 use Rattle.bag_profile.specs.declared.label.LabelRule.{LabelRule}
 use Rattle.bag_profile.specs.declared.rule.ListRule.TheVariants as list
 use Rattle.bag_profile.specs.declared.terms.Serialization.TheVariants.{Optional}
@@ -53,6 +54,7 @@ pub record HoldsKeys (d : Data) (profile : Profile) : Type 0 where
       (λ value. option_and_then serialization_named (as_str value)) d profile.terms.serialization
   pub others : (members : Members) × (as_object d ≡ Some members)
       × (profile.unchecked ≡ unchecked_of members)
+  pub for_folders : profile.form ≡ Folder
 
 -- the law: a value that is a profile is one that holds what stands at its keys
 abbrev pub ProfilesHoldTheirKeys : Type 0

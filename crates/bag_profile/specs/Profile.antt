@@ -1,5 +1,6 @@
 -- What a profile says (BagIt Profiles Specification, Implementation Details).
 use Rattle.std.specs.Prelude.{ℕ, List, Option}
+use Rattle.bag_profile.specs.declared.form.Form.{Form}
 use Rattle.bag_profile.specs.declared.label.LabelRule.{LabelRule}
 use Rattle.bag_profile.specs.declared.name_lists.NameLists.{NameLists}
 use Rattle.bag_profile.specs.declared.rule.ListRule.{ListRule}
@@ -15,6 +16,8 @@ pub record Profile : Type 0 where
   pub terms : Terms
   -- the keys that are passed over, ascending
   pub unchecked : List (List ℕ)
+  -- in which form the bags lie that are compared with it
+  pub form : Form
 
 abbrev pub names : Profile → ListRule → Option (List (List ℕ))
 names profile list.ManifestsRequired = profile.names.manifests.required

@@ -8,6 +8,7 @@ use Rattle.serde_json.specs.Find.{as_str, as_object}
 use Rattle.serde_json.specs.Read as json
 use Rattle.bag_profile.specs.declared.fault.ProfileFault.{ProfileFault}
 use Rattle.bag_profile.specs.declared.fault.ProfileFault.TheVariants.{NotJson, Memory}
+use Rattle.bag_profile.specs.declared.form.Form.TheVariants.{Folder}
 use Rattle.bag_profile.specs.declared.key.Key.TheVariants as key
 use Rattle.bag_profile.specs.declared.label.LabelRule.{LabelRule}
 use Rattle.bag_profile.specs.Answer.{shaped, at, needed}
@@ -32,7 +33,7 @@ identifier_of d = needed key.ProfileInfo as_record d >>= needed key.ProfileIdent
 unfoldable pub labels_of : Data → Result (List LabelRule) ProfileFault
 labels_of = at key.BagInfo [] label_rules
 
--- what an object says, whose members are given too
+-- what an object says, whose members are given too; as it is read, it is for folders
 abbrev pub of_object : Data → Members → Result Profile ProfileFault
 of_object d members = do
   identifier ← identifier_of d
@@ -45,6 +46,7 @@ of_object d members = do
     names = names;
     terms = terms;
     unchecked = unchecked_of members;
+    form = Folder;
   }
 
 -- the profile that a value is

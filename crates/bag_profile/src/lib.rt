@@ -18,6 +18,7 @@
 #![tactic(auto)]
 
 mod fault;
+mod form;
 mod key;
 mod label;
 pub mod laws;
@@ -31,6 +32,7 @@ mod text_set;
 mod unchecked;
 
 pub use fault::ProfileFault;
+pub use form::Form;
 pub use key::Key;
 pub use label::LabelRule;
 pub use pattern::matches;

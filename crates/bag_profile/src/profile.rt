@@ -4,10 +4,11 @@ ghost use Rattle.std.specs.Option.{ForSome};
 ghost use Rattle.bag_profile.specs.Orderly as orderly;
 ghost use Rattle.bag_profile.specs.Profile as spec;
 ghost use Rattle.bag_profile.specs.TextSet.{IsAscending};
+ghost use Rattle.bag_profile.specs.declared.form.Form.TheVariants.{Archive};
 
 use crate::name_lists::NameLists;
 use crate::terms::Terms;
-use crate::{LabelRule, ListRule, Serialization};
+use crate::{Form, LabelRule, ListRule, Serialization};
 use bag_text::{Items, Text};
 use std::marker::Model;
 
@@ -19,6 +20,7 @@ pub struct Profile {
     pub(crate) names: NameLists,
     pub(crate) terms: Terms,
     pub(crate) unchecked: Items<Text>,
+    pub(crate) form: Form,
 }
 
 impl Model for Profile {
@@ -33,6 +35,7 @@ impl Model for Profile {
       names = p.names;
       terms = p.terms;
       unchecked = p.unchecked;
+      form = p.form;
     } };
 
     ghost invariant = { λ p. orderly.IsOrderly record {
@@ -41,6 +44,7 @@ impl Model for Profile {
       names = p.names;
       terms = p.terms;
       unchecked = p.unchecked;
+      form = p.form;
     } };
 }
 
@@ -106,5 +110,24 @@ impl Profile {
         ensures ascending { IsAscending result.now }
     {
         self.unchecked.as_slice()
+    }
+
+    /// The same profile, for bags that are archives: of them it is asked whether a bag may be
+    /// serialized, and no longer whether it must be (`Serialization`). As it is read, a profile is
+    /// for folders.
+    pub fn for_archives(self) -> Profile
+        ensures { result ≡ record self { form = Archive } }
+    {
+        Profile {
+            form: Form::Archive,
+            ..self
+        }
+    }
+
+    /// In which form the bags lie that are compared with the profile.
+    pub fn form(&self) -> Form
+        ensures { result ≡ self.now.form }
+    {
+        self.form
     }
 }

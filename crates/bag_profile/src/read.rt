@@ -9,7 +9,7 @@ use crate::label::label_rules;
 use crate::name_lists::name_lists_of;
 use crate::terms::terms_of;
 use crate::unchecked::unchecked_of;
-use crate::{Key, LabelRule, Profile, ProfileFault};
+use crate::{Form, Key, LabelRule, Profile, ProfileFault};
 use bag_text::{Items, Text};
 use serde_json::{Map, Value};
 use std::alloc::Global;
@@ -75,6 +75,7 @@ fn of_object(
         names,
         terms,
         unchecked,
+        form: Form::Folder,
     })
 }
 
