@@ -37,7 +37,10 @@ pub use Rattle.bag_profile.specs.declared.label.LabelRule.{LabelRule}
 pub use Rattle.bag_profile.specs.declared.rule.ListRule.{ListRule}
 pub use Rattle.bag_profile.specs.declared.rule.ListRule.TheVariants.{AcceptBagItVersion, TagFilesAllowed}
 pub use Rattle.bag_profile.specs.declared.rule.ListRule.TheVariants.{TagFilesRequired}
-pub use Rattle.bag_profile.specs.declared.terms.Serialization.TheVariants.{Required}
+pub use Rattle.bag_profile.specs.declared.form.Form.{Form}
+pub use Rattle.bag_profile.specs.declared.form.Form.TheVariants.{Archive, Folder}
+pub use Rattle.bag_profile.specs.declared.terms.Serialization.{Serialization}
+pub use Rattle.bag_profile.specs.declared.terms.Serialization.TheVariants.{Forbidden, Optional, Required}
 pub use Rattle.bag_read.proofs.InfoElements.{elements_of}
 pub use Rattle.bag_read.proofs.PickedOut.{any_from, from_any}
 pub use Rattle.bag_read.specs.Declaration.{declared_version}
@@ -64,18 +67,20 @@ pub use Rattle.bag_text.specs.Text.{same_label, text_cmp}
 pub use Rattle.bag_text.specs.declared.code.Code.{Code}
 pub use Rattle.bag_text.specs.declared.code.Code.TheVariants.{FetchNotAllowed, LabelRepeated, LabelRequired}
 pub use Rattle.bag_text.specs.declared.code.Code.TheVariants.{ManifestNotAllowed, ManifestRequired, ProfileIdentifier}
-pub use Rattle.bag_text.specs.declared.code.Code.TheVariants.{SerializationRequired, TagFileNotAllowed, TagFileRequired}
+pub use Rattle.bag_text.specs.declared.code.Code.TheVariants.{SerializationForbidden, SerializationRequired}
+pub use Rattle.bag_text.specs.declared.code.Code.TheVariants.{TagFileNotAllowed, TagFileRequired}
 pub use Rattle.bag_text.specs.declared.code.Code.TheVariants.{TagmanifestNotAllowed, TagmanifestRequired}
 pub use Rattle.bag_text.specs.declared.code.Code.TheVariants.{ValueNotAllowed, VersionNotAccepted}
 pub use Rattle.bag_tree.specs.Bag.{Bag, HasFile, file, has_file}
 pub use Rattle.bag_tree.specs.declared.listing.FileEntry.{FileEntry}
-pub use Rattle.bag_conformance.specs.ConformanceFaults.{AreAll, IsOfElements, IsOfKind, IsOfTagFiles, IsOfWhole}
-pub use Rattle.bag_conformance.specs.ConformanceFaults.{other_code, required_code}
+pub use Rattle.bag_conformance.specs.ConformanceFaults.{AreAll, IsOfElements, IsOfForm, IsOfKind, IsOfTagFiles}
+pub use Rattle.bag_conformance.specs.ConformanceFaults.{IsOfWhole, other_code, required_code}
 pub use Rattle.bag_conformance.specs.Laws.{ConformanceFaultsAreListed}
 pub use Rattle.bag_conformance.specs.Laws.{ConformanceFaultsAreOfStageEight}
 pub use Rattle.bag_conformance.specs.ConformanceStage.{HasFetchFile, HasOtherManifest, HasOtherTagFile, HasOtherValue}
 pub use Rattle.bag_conformance.specs.ConformanceStage.{HasOtherVersion, IsOfProfile, IsToBeSerialized, LacksIdentifier}
-pub use Rattle.bag_conformance.specs.ConformanceStage.{LacksLabel, LacksManifest, LacksTagFile, RepeatsLabel}
+pub use Rattle.bag_conformance.specs.ConformanceStage.{LacksLabel, LacksManifest, LacksTagFile, MayNotBeSerialized}
+pub use Rattle.bag_conformance.specs.ConformanceStage.{RepeatsLabel}
 pub use Rattle.bag_conformance.specs.ConformanceStage.{allowed_manifests, identifier_label}
 pub use Rattle.bag_stages.specs.FetchStage.{fetch_txt}
 pub use Rattle.bag_conformance.specs.ConformanceStage.{required_manifests}
@@ -84,5 +89,5 @@ pub use Rattle.bag_conformance.specs.ElementFaults.{in_info, labelled, later_fau
 pub use Rattle.bag_conformance.specs.ElementFaults.{required_faults, rule_faults, rules_faults, value_fault}
 pub use Rattle.bag_conformance.specs.ElementFaults.{value_faults}
 pub use Rattle.bag_conformance.specs.LabelOrder.{IsByLabel, folded_label, label_cmp}
-pub use Rattle.bag_conformance.specs.NotAllowed.{IsOtherManifest, IsOtherTagFile, other_version}
+pub use Rattle.bag_conformance.specs.NotAllowed.{IsOtherManifest, IsOtherTagFile, other_version, wrong_form}
 pub use Rattle.bag_conformance.specs.ProfileRules.{Excludes, IsFreeTagFile, Lists, MatchesNone}

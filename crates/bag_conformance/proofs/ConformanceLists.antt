@@ -1,6 +1,6 @@
 -- Every bag and every profile have a list of the faults of each part.
 use Rattle.bag_conformance.proofs.Common.{◌≡◌, ◌++◌, ◌∷◌, inl, inr, ℕ, List, [], Contains, Option, None, Some, refl}
-use Rattle.bag_conformance.proofs.Common.{enumerate_from, FetchNotAllowed, SerializationRequired, TagFileNotAllowed}
+use Rattle.bag_conformance.proofs.Common.{enumerate_from, Code, FetchNotAllowed, TagFileNotAllowed}
 use Rattle.bag_conformance.proofs.Common.{elements_of, manifest_name, Kind, Bag, file, has_file, HasFile, of_bag}
 use Rattle.bag_conformance.proofs.Common.{of_path, Profile, TagFilesRequired, TagFilesAllowed, AcceptBagItVersion}
 use Rattle.bag_conformance.proofs.Common.{made_of, rules_in, HasList, bag_info_txt, lines_in, bagit_txt, HasManifest}
@@ -8,18 +8,18 @@ use Rattle.bag_conformance.proofs.Common.{same_set, either, one_where, true_or_n
 use Rattle.bag_conformance.proofs.Common.{required_code, other_code, IsOfElements, IsOfKind, IsOfTagFiles, IsOfWhole}
 use Rattle.bag_conformance.proofs.Common.{element_faults, fetch_txt, required_manifests, allowed_manifests}
 use Rattle.bag_conformance.proofs.Common.{LacksManifest, HasOtherManifest, Excludes, IsOtherTagFile, Lists}
-use Rattle.bag_conformance.proofs.Common.{other_version}
+use Rattle.bag_conformance.proofs.Common.{other_version, wrong_form}
 use Rattle.bag_read.specs.InfoReader as reading
 use Rattle.bag_stages.proofs.BagLists.{files_listed, manifests_listed}
 use Rattle.bag_stages.proofs.HasLists.{not_decided}
-use Rattle.bag_conformance.proofs.Decisions.{required_or_not, free_or_not, manifest_or_not, names_listed}
+use Rattle.bag_conformance.proofs.Decisions.{free_or_not, manifest_or_not, names_listed}
 use Rattle.bag_conformance.proofs.Decisions.{excluded_or_not, unmatched_or_not}
 use Rattle.bag_conformance.proofs.ElementFaults.{elements_are, labelled_are}
 use Rattle.bag_conformance.proofs.FaultSets.{code_at, whole_at}
 use Rattle.bag_conformance.proofs.ItemFaults.{each_listed, items_listed}
 use Rattle.bag_conformance.proofs.TagFiles as tags
-use Rattle.bag_conformance.proofs.WholeBag.{HasOther, accepted_all, excluded_all, folder_all, serialized_all}
-use Rattle.bag_conformance.proofs.WholeBag.{undeclared_all, version_in}
+use Rattle.bag_conformance.proofs.WholeBag.{HasOther, accepted_all, excluded_all, right_form_all, undeclared_all}
+use Rattle.bag_conformance.proofs.WholeBag.{version_in, wrong_form_all}
 
 module _ (bag : Bag) (profile : Profile) where
   pub elements_listed : HasList (IsOfElements bag profile)
@@ -81,14 +81,16 @@ module _ (bag : Bag) (profile : Profile) where
     | inr not ↦ ([], accepted_all bag profile version e [] refl not)
   ]
 
-  pub whole_listed : HasList (IsOfWhole bag profile)
-  whole_listed =
+  forms_by : (wrong : Option Code) → wrong_form profile.terms.serialization profile.form ≡ wrong
+      → HasList (IsOfWhole bag profile)
+  forms_by None right =
       let versions = versions_by (version_in (file bag bagit_txt)) refl in
-      let serialization = of_bag SerializationRequired in
-      elim (required_or_not profile.terms.serialization) [
-        | inl asks ↦ (
-          versions.0 ++ serialization ∷ [],
-          serialized_all bag profile versions.0 _ serialization versions.1 refl refl asks,
-        )
-        | inr other ↦ (versions.0, folder_all bag profile versions.0 versions.0 versions.1 refl other)
-      ]
+      (versions.0, right_form_all bag profile versions.0 versions.0 versions.1 refl right)
+  forms_by (Some c) wrong =
+      let versions = versions_by (version_in (file bag bagit_txt)) refl in (
+        versions.0 ++ of_bag c ∷ [],
+        wrong_form_all bag profile versions.0 _ (of_bag c) c versions.1 refl refl wrong,
+      )
+
+  pub whole_listed : HasList (IsOfWhole bag profile)
+  whole_listed = forms_by (wrong_form profile.terms.serialization profile.form) refl

@@ -2,7 +2,7 @@
 use Rattle.bag_conformance.proofs.Common.{◌≡◌, ◌≢◌, inl, inr, ℕ, List, true, false, Option, None, Some, refl, sym}
 use Rattle.bag_conformance.proofs.Common.{subst, arith, Contains, list_any, bytes_eq-Decides, is_payload_path, any_from}
 use Rattle.bag_conformance.proofs.Common.{from_any, manifest_name, is_alg_text, is_manifest_name, tag_path, Kind}
-use Rattle.bag_conformance.proofs.Common.{Payload, Tag, Bag, matches, Profile, names, ListRule, Required, HasList}
+use Rattle.bag_conformance.proofs.Common.{Payload, Tag, Bag, matches, Profile, names, ListRule, HasList}
 use Rattle.bag_conformance.proofs.Common.{HasManifest, Decided, nothing, only, same_set, for_each, one_where}
 use Rattle.bag_conformance.proofs.Common.{true_or_not, false_or_not, both_decided, missing_or_not, Lists, Excludes}
 use Rattle.bag_conformance.proofs.Common.{MatchesNone, IsFreeTagFile}
@@ -11,7 +11,6 @@ use Rattle.std.proofs.lemmas.Bool.{both_ways, false_from_ne_true}
 use Rattle.std.proofs.lemmas.Option.{none-some, same_Some}
 use Rattle.bag_read.specs.declared.tag_name.TagName.TheVariants.{Declaration, Info, Fetch}
 use Rattle.bag_read.proofs.ManifestName.{named_is, named_test}
-use Rattle.bag_profile.specs.declared.terms.Serialization.{Serialization}
 use Rattle.bag_stages.proofs.HasLists.{not_decided, some_decided}
 
 -- the same in other words
@@ -34,10 +33,6 @@ of_option (Some y) = only _ y refl (λ x e. same_Some x y (sym e))
 
 pub same_or_not : (a b : List ℕ) → Decided (a ≡ b)
 same_or_not a b = grind (arith, bytes_eq-Decides a b, true_or_not (bytes_eq a b), decided_as)
-
-pub required_or_not : (s : Serialization) → Decided (s ≡ Required)
-required_or_not Required = inl refl
-required_or_not other = inr (λ e. cc)
 
 module _ (kind : Kind) (path : List ℕ) where
   -- the path is no manifest's of this kind

@@ -3,7 +3,8 @@ use Rattle.bag_conformance.proofs.Common.{arith, ◌≡◌, ◌⊎◌, inl, inr,
 use Rattle.bag_conformance.proofs.Common.{ProfileIdentifier, LabelRequired, LabelRepeated, ValueNotAllowed}
 use Rattle.bag_conformance.proofs.Common.{ManifestRequired, ManifestNotAllowed, TagmanifestRequired}
 use Rattle.bag_conformance.proofs.Common.{TagmanifestNotAllowed, TagFileRequired, TagFileNotAllowed, FetchNotAllowed}
-use Rattle.bag_conformance.proofs.Common.{VersionNotAccepted, SerializationRequired, Payload, Tag, Bag, Fault, Profile}
+use Rattle.bag_conformance.proofs.Common.{VersionNotAccepted, SerializationForbidden, SerializationRequired}
+use Rattle.bag_conformance.proofs.Common.{Payload, Tag, Bag, Fault, Profile}
 use Rattle.bag_conformance.proofs.Common.{AreAll, IsOfElements, IsOfKind, IsOfTagFiles, IsOfWhole}
 use Rattle.bag_conformance.specs.ConformanceStage.{ConformanceHolds, IsOfProfile}
 use Rattle.bag_conformance.proofs.FaultSets.{both_all, same_all}
@@ -35,7 +36,8 @@ module _ (bag : Bag) (profile : Profile) where
     of_some (inl (inr (inr (inl (e, h))))) = row TagFileNotAllowed e h
     of_some (inl (inr (inr (inr (e, h))))) = row FetchNotAllowed e h
     of_some (inr (inl (e, h))) = row VersionNotAccepted e h
-    of_some (inr (inr (e, h))) = row SerializationRequired e h
+    of_some (inr (inr (inl (e, h)))) = row SerializationRequired e h
+    of_some (inr (inr (inr (e, h)))) = row SerializationForbidden e h
 
     some_by : (c : Code) → f.code ≡ c → ConformanceHolds bag profile f c → IsOfSome f
     unfolding ConformanceHolds

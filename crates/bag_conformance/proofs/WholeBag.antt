@@ -1,10 +1,12 @@
 -- The faults of a bag as a whole.
-use Rattle.bag_conformance.proofs.Common.{arith, ◌≡◌, ◌≢◌, inl, inr, ◌++◌, ℕ, List, [], ◌∷◌, Option, None, Some, refl}
-use Rattle.bag_conformance.proofs.Common.{sym, ap, ◌∙◌, subst, option_and_then, VersionNotAccepted}
-use Rattle.bag_conformance.proofs.Common.{SerializationRequired, declared_version, Bag, file, Fault, Profile}
-use Rattle.bag_conformance.proofs.Common.{AcceptBagItVersion, Required, of_bag, bagit_txt, made_of, AreAll, IsOfWhole}
-use Rattle.bag_conformance.proofs.Common.{HasOtherVersion, IsToBeSerialized, other_version, Excludes}
+use Rattle.bag_conformance.proofs.Common.{arith, ◌≡◌, inl, inr, ◌++◌, ℕ, List, [], ◌∷◌, Option, None, Some, refl}
+use Rattle.bag_conformance.proofs.Common.{sym, ap, ◌∙◌, subst, option_and_then, Code, VersionNotAccepted}
+use Rattle.bag_conformance.proofs.Common.{SerializationForbidden, SerializationRequired, declared_version, Bag, file}
+use Rattle.bag_conformance.proofs.Common.{Fault, Profile, Form, Archive, Folder, Serialization, Forbidden, Optional}
+use Rattle.bag_conformance.proofs.Common.{AcceptBagItVersion, Required, of_bag, bagit_txt, made_of, AreAll, IsOfForm}
+use Rattle.bag_conformance.proofs.Common.{IsOfWhole, HasOtherVersion, other_version, wrong_form, Excludes}
 use Rattle.bag_conformance.proofs.FaultSets.{same_all, both_all, none_all, one_all, whole_at, code_at}
+use Rattle.std.proofs.lemmas.Option.{none-some, same_Some}
 
 -- the version that a bag declares
 abbrev pub version_in : Option (List ℕ) → Option (List ℕ)
@@ -53,23 +55,48 @@ module _ (bag : Bag) (profile : Profile) where
     excluded_all faults x made e excluded =
         one_all HasOther faults x made (is_other x e excluded) (λ f h. only_other x f e h)
 
-  abbrev pub IsSerialized : Fault → Type 0
-  IsSerialized f = (f.code ≡ SerializationRequired) × IsToBeSerialized bag profile f
+  -- what is wrong with the form, by the profile
+  form_by : (f : Fault) (s : Serialization) (form : Form) (c : Code) → s ≡ profile.terms.serialization
+      → form ≡ profile.form → wrong_form s form ≡ Some c → f ≡ of_bag c → IsOfForm bag profile f
+  form_by f Required Folder c s form is made =
+      let same = made ∙ ap of_bag (sym (same_Some SerializationRequired c is)) in
+      inl (code_at f SerializationRequired [] same, (whole_at f SerializationRequired [] same, sym s, sym form))
+  form_by f Forbidden Archive c s form is made =
+      let same = made ∙ ap of_bag (sym (same_Some SerializationForbidden c is)) in
+      inr (code_at f SerializationForbidden [] same, (whole_at f SerializationForbidden [] same, sym s, sym form))
+  form_by f Required Archive c s form is made = cc
+  form_by f Forbidden Folder c s form is made = cc
+  form_by f Optional _ c s form is made = cc
 
-  -- the profile asks for one file
-  pub serialized_all : (of_version faults : List Fault) (x : Fault) → AreAll HasOther of_version
-      → x ≡ of_bag SerializationRequired → faults ≡ of_version ++ x ∷ [] → profile.terms.serialization ≡ Required
-      → AreAll (IsOfWhole bag profile) faults
-  serialized_all of_version faults x of_others is made asks =
-      both_all HasOther IsSerialized of_version (x ∷ []) faults made of_others
-      (one_all IsSerialized (x ∷ []) x refl
-      (code_at x SerializationRequired [] is, (whole_at x SerializationRequired [] is, asks))
-      (λ f h. made_of f SerializationRequired [] None 0 [] h.0 h.1.0 ∙ sym is))
+  by_form : (f : Fault) → IsOfForm bag profile f
+      → (c : Code) × (wrong_form profile.terms.serialization profile.form ≡ Some c) × (f ≡ of_bag c)
+  by_form f (inl (e, (at, s, form))) = (
+    SerializationRequired,
+    ap (λ x. wrong_form x profile.form) s ∙ ap (wrong_form Required) form,
+    made_of f SerializationRequired [] None 0 [] e at,
+  )
+  by_form f (inr (e, (at, s, form))) = (
+    SerializationForbidden,
+    ap (λ x. wrong_form x profile.form) s ∙ ap (wrong_form Forbidden) form,
+    made_of f SerializationForbidden [] None 0 [] e at,
+  )
 
-  -- and it doesn't
-  pub folder_all : (of_version faults : List Fault) → AreAll HasOther of_version → faults ≡ of_version
-      → profile.terms.serialization ≢ Required → AreAll (IsOfWhole bag profile) faults
-  folder_all of_version faults of_others made other =
+  -- something is
+  pub wrong_form_all : (of_version faults : List Fault) (x : Fault) (c : Code) → AreAll HasOther of_version
+      → x ≡ of_bag c → faults ≡ of_version ++ x ∷ []
+      → wrong_form profile.terms.serialization profile.form ≡ Some c → AreAll (IsOfWhole bag profile) faults
+  wrong_form_all of_version faults x c of_others is made wrong =
+      both_all HasOther (IsOfForm bag profile) of_version (x ∷ []) faults made of_others
+      (one_all (IsOfForm bag profile) (x ∷ []) x refl
+      (form_by x profile.terms.serialization profile.form c refl refl wrong is)
+      (λ f h. let by = by_form f h in
+      by.2 ∙ ap of_bag (same_Some by.0 c (sym by.1 ∙ wrong)) ∙ sym is))
+
+  -- nothing is
+  pub right_form_all : (of_version faults : List Fault) → AreAll HasOther of_version → faults ≡ of_version
+      → wrong_form profile.terms.serialization profile.form ≡ None → AreAll (IsOfWhole bag profile) faults
+  right_form_all of_version faults of_others made right =
       subst (AreAll (IsOfWhole bag profile)) (sym made)
       (same_all HasOther (IsOfWhole bag profile) of_version (λ f h. inl h)
-      (λ f h. elim h [ inl a ↦ a | inr b ↦ absurd (other b.1.1) ]) of_others)
+      (λ f h. elim h [ inl a ↦ a | inr b ↦ absurd (none-some (by_form f b).0 (sym right ∙ (by_form f b).1)) ])
+      of_others)

@@ -9,6 +9,7 @@ use Rattle.bag_text.specs.declared.code.Code.TheVariants.{TagmanifestRequired}
 use Rattle.bag_text.specs.declared.code.Code.TheVariants.{TagmanifestNotAllowed, TagFileRequired}
 use Rattle.bag_text.specs.declared.code.Code.TheVariants.{TagFileNotAllowed, FetchNotAllowed}
 use Rattle.bag_text.specs.declared.code.Code.TheVariants.{VersionNotAccepted, SerializationRequired}
+use Rattle.bag_text.specs.declared.code.Code.TheVariants.{SerializationForbidden}
 use Rattle.bag_read.specs.declared.kind.Kind.{Kind}
 use Rattle.bag_read.specs.declared.kind.Kind.TheVariants.{Payload, Tag}
 use Rattle.bag_tree.specs.Bag.{Bag}
@@ -20,6 +21,7 @@ use Rattle.bag_conformance.specs.ConformanceStage.{LacksIdentifier, LacksLabel, 
 use Rattle.bag_conformance.specs.ConformanceStage.{HasOtherValue, LacksManifest, HasOtherManifest}
 use Rattle.bag_conformance.specs.ConformanceStage.{LacksTagFile, HasOtherTagFile, HasFetchFile}
 use Rattle.bag_conformance.specs.ConformanceStage.{HasOtherVersion, IsToBeSerialized}
+use Rattle.bag_conformance.specs.ConformanceStage.{MayNotBeSerialized}
 
 -- the members of a list are exactly these
 abbrev pub AreAll : (Fault → Type 0) → List Fault → Type 0
@@ -61,8 +63,12 @@ module _ (bag : Bag) (profile : Profile) (f : Fault) where
       ⊎ ((f.code ≡ TagFileNotAllowed) × HasOtherTagFile bag profile f)
       ⊎ ((f.code ≡ FetchNotAllowed) × HasFetchFile bag profile f)
 
+  -- about the form in which the bag lies
+  abbrev pub IsOfForm : Type 0
+  IsOfForm =
+      ((f.code ≡ SerializationRequired) × IsToBeSerialized bag profile f)
+      ⊎ ((f.code ≡ SerializationForbidden) × MayNotBeSerialized bag profile f)
+
   -- about the bag as a whole
   abbrev pub IsOfWhole : Type 0
-  IsOfWhole =
-      ((f.code ≡ VersionNotAccepted) × HasOtherVersion bag profile f)
-      ⊎ ((f.code ≡ SerializationRequired) × IsToBeSerialized bag profile f)
+  IsOfWhole = ((f.code ≡ VersionNotAccepted) × HasOtherVersion bag profile f) ⊎ IsOfForm

@@ -12,10 +12,11 @@ use Rattle.bag_read.specs.declared.kind.Kind.TheVariants.{Payload, Tag}
 use Rattle.bag_tree.specs.Bag.{Bag, file, HasFile}
 use Rattle.bag_facts.specs.declared.fault.Fault.{Fault}
 use Rattle.bag_profile.specs.Profile.{Profile}
+use Rattle.bag_profile.specs.declared.form.Form.TheVariants.{Folder, Archive}
 use Rattle.bag_profile.specs.declared.label.LabelRule.{LabelRule}
 use Rattle.bag_profile.specs.declared.rule.ListRule.{ListRule}
 use Rattle.bag_profile.specs.declared.rule.ListRule.TheVariants as list
-use Rattle.bag_profile.specs.declared.terms.Serialization.TheVariants.{Required}
+use Rattle.bag_profile.specs.declared.terms.Serialization.TheVariants.{Forbidden, Required}
 use Rattle.bag_stages.specs.FaultFields.{At, AtPath}
 use Rattle.bag_stages.specs.MetadataStage.{bag_info_txt, HasElement, HasLater, pair}
 use Rattle.bag_stages.specs.TagFiles.{bagit_txt, HasManifest}
@@ -99,9 +100,15 @@ module _ (bag : Bag) (profile : Profile) (f : Fault) where
       × (declared_version bytes ≡ Some version)
       × Excludes profile list.AcceptBagItVersion version
 
-  -- the profile asks for one file, and a bag in a folder is none
+  -- the profile asks for bags that are archives, and this one is a folder
   abbrev pub IsToBeSerialized : Type 0
-  IsToBeSerialized = At f [] None 0 [] × (profile.terms.serialization ≡ Required)
+  IsToBeSerialized =
+      At f [] None 0 [] × (profile.terms.serialization ≡ Required) × (profile.form ≡ Folder)
+
+  -- the profile forbids bags that are archives, and this one is such
+  abbrev pub MayNotBeSerialized : Type 0
+  MayNotBeSerialized =
+      At f [] None 0 [] × (profile.terms.serialization ≡ Forbidden) × (profile.form ≡ Archive)
 
   unfoldable pub ConformanceHolds : Code → Type 0
   -- bag-info.txt
@@ -121,6 +128,7 @@ module _ (bag : Bag) (profile : Profile) (f : Fault) where
   -- the bag as a whole
   ConformanceHolds code.VersionNotAccepted = HasOtherVersion
   ConformanceHolds code.SerializationRequired = IsToBeSerialized
+  ConformanceHolds code.SerializationForbidden = MayNotBeSerialized
   -- codes of other stages
   ConformanceHolds other = ⊥
 

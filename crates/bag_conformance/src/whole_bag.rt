@@ -9,16 +9,17 @@ ghost use Rattle.bag_stages.specs.TagFiles.{bagit_txt};
 ghost use Rattle.bag_conformance.specs.ConformanceFaults.{AreAll, IsOfWhole, AreAllOf};
 ghost use Rattle.bag_conformance.specs.ConformanceStage.{HasOtherVersion};
 ghost use Rattle.bag_conformance.specs.NotAllowed.{other_version};
+ghost use Rattle.bag_conformance.specs.NotAllowed as spec;
 
 use crate::profile_rules::excludes;
 use bag_facts::{Facts, Fault};
-use bag_profile::{ListRule, Profile, Serialization};
+use bag_profile::{Form, ListRule, Profile, Serialization};
 use bag_read::TagName;
 use bag_text::{Code, Text};
 use std::alloc::{AllocError, Global};
 
-/// The faults that the version isn't accepted, and that the bag is to be serialized (BagIt Profiles
-/// Specification, Accept-BagIt-Version, Serialization).
+/// The faults that the version isn't accepted, and that the bag is to be serialized or may not be
+/// (BagIt Profiles Specification, Accept-BagIt-Version, Serialization).
 pub(crate) fn whole_faults(
     alloc: Global,
     facts: &Facts,
@@ -28,10 +29,23 @@ pub(crate) fn whole_faults(
         AreAllOf facts.now (λ bag. IsOfWhole bag profile.now) faults.items) }
 {
     let mut faults = version_faults(alloc, facts, profile)?;
-    if profile.serialization() == Serialization::Required {
-        faults.push(Fault::of_bag(alloc, Code::SerializationRequired))?;
+    if let Some(code) = wrong_form(profile) {
+        faults.push(Fault::of_bag(alloc, code))?;
     }
     Ok(faults)
+}
+
+/// What is wrong with the form in which the bag lies, if anything is.
+fn wrong_form(profile: &Profile) -> Option<Code>
+    ensures { result ≡ spec.wrong_form profile.now.terms.serialization profile.now.form }
+{
+    match (profile.serialization(), profile.form()) {
+        (Serialization::Required, Form::Folder) => Some(Code::SerializationRequired),
+        (Serialization::Forbidden, Form::Archive) => Some(Code::SerializationForbidden),
+        (Serialization::Required, Form::Archive)
+        | (Serialization::Forbidden, Form::Folder)
+        | (Serialization::Optional, Form::Folder | Form::Archive) => None,
+    }
 }
 
 /// The fault that the bag declares a version that isn't accepted.
