@@ -45,6 +45,7 @@ check_arguments =
     ∷ number_rule (codes "max-faults")
     ∷ flag_rule (codes "clashes")
     ∷ option_rule (codes "part")
+    ∷ flag_rule (codes "tar")
     ∷ []
 
 -- those of the algorithms

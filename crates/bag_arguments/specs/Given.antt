@@ -16,6 +16,8 @@ use Rattle.bag_facts.specs.declared.options.Depth.{Depth}
 use Rattle.bag_facts.specs.declared.options.Depth.TheVariants.{Declaration, Fast, Complete, Full}
 use Rattle.bag_arguments.specs.Labels.{all_labels, label_name, label_option}
 use Rattle.bag_arguments.specs.declared.label.Label.{Label}
+use Rattle.bag_arguments.specs.declared.plan.Action.{Action}
+use Rattle.bag_arguments.specs.declared.plan.Action.TheVariants.{Check, CheckTars, Make}
 use Rattle.bag_arguments.specs.declared.plan.InfoItem.{InfoItem}
 use Rattle.bag_arguments.specs.declared.check_option.CheckOption.{CheckOption}
 use Rattle.bag_arguments.specs.declared.check_option.CheckOption.TheVariants as check
@@ -44,7 +46,8 @@ directories rows = values rows (codes "directory")
 abbrev pub check_options : List CheckOption
 check_options =
     check.DeclarationOnly ∷ check.Fast ∷ check.CompletenessOnly
-    ∷ check.Profile ∷ check.After ∷ check.MaxFaults ∷ check.Clashes ∷ check.Part ∷ []
+    ∷ check.Profile ∷ check.After ∷ check.MaxFaults ∷ check.Clashes ∷ check.Part
+    ∷ check.Tar ∷ []
 
 -- the name of its argument
 abbrev pub check_id : CheckOption → Text
@@ -56,6 +59,7 @@ check_id check.After = codes "after"
 check_id check.MaxFaults = codes "max-faults"
 check_id check.Clashes = codes "clashes"
 check_id check.Part = codes "part"
+check_id check.Tar = codes "tar"
 
 abbrev pub has_check_option : List Row → CheckOption → Bool
 has_check_option rows check.Profile = is_some (value rows (codes "profile"))
@@ -82,6 +86,13 @@ depth rows =
     else (if is_given rows (codes "fast") then Fast
     else (if is_given rows (codes "completeness-only") then Complete
     else Full))
+
+-- ---- what is done
+
+-- bags are made; or those in tar files are checked, or those in folders
+abbrev pub action : List Row → Action
+action rows =
+    if validates rows then (if is_given rows (codes "tar") then CheckTars else Check) else Make
 
 -- ---- the cursor and the limit
 

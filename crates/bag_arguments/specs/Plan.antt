@@ -8,13 +8,13 @@ use Rattle.bag_facts.specs.LineOf.{IsLineOf}
 use Rattle.bag_facts.specs.declared.fault.Fault.{Fault}
 use Rattle.bag_facts.specs.declared.options.Depth.{Depth}
 use Rattle.bag_facts.specs.declared.options.Depth.TheVariants.{Declaration, Full}
-use Rattle.bag_arguments.specs.Given.{validates, directories, depth, is_given, value, IsLimit}
+use Rattle.bag_arguments.specs.Given.{action, directories, depth, is_given, value, IsLimit}
 use Rattle.bag_arguments.specs.Given.{named_algs, or_default, info}
 use Rattle.bag_arguments.specs.Given.{out_of_place, has_two_depths, has_after_several}
 use Rattle.bag_arguments.specs.Given.{part_given, part_of}
 use Rattle.bag_arguments.specs.Words.{refusals, matches_of_words}
 use Rattle.bag_arguments.specs.declared.plan.Action.{Action}
-use Rattle.bag_arguments.specs.declared.plan.Action.TheVariants.{Sample, Help, Check, Make}
+use Rattle.bag_arguments.specs.declared.plan.Action.TheVariants.{Sample, Help}
 use Rattle.bag_arguments.specs.declared.plan.Plan.{Plan}
 use Rattle.bag_arguments.specs.declared.usage.Usage.{Usage}
 use Rattle.bag_arguments.specs.declared.usage.Usage.TheVariants.{Refused, Memory}
@@ -65,7 +65,7 @@ pub record IsPartMisused (rows : List Row) (usage : Usage) : Type 0 where
 
 -- what is asked for
 pub record IsPlanOf (rows : List Row) (plan : Plan) : Type 0 where
-  pub action_is : plan.action ≡ (if validates rows then Check else Make)
+  pub action_is : plan.action ≡ action rows
   pub directories_are : plan.directories ≡ directories rows
   pub depth_is : plan.options.depth ≡ depth rows
   pub clashes_are : plan.options.clashes ≡ is_given rows (codes "clashes")

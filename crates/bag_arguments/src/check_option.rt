@@ -16,10 +16,11 @@ pub enum CheckOption {
     MaxFaults,
     Clashes,
     Part,
+    Tar,
 }
 
 /// All of them, in the order in which they are looked at.
-pub(crate) const CHECK_OPTIONS: [CheckOption; 8] = [
+pub(crate) const CHECK_OPTIONS: [CheckOption; 9] = [
     CheckOption::DeclarationOnly,
     CheckOption::Fast,
     CheckOption::CompletenessOnly,
@@ -28,6 +29,7 @@ pub(crate) const CHECK_OPTIONS: [CheckOption; 8] = [
     CheckOption::MaxFaults,
     CheckOption::Clashes,
     CheckOption::Part,
+    CheckOption::Tar,
 ];
 
 impl CheckOption {
@@ -44,6 +46,7 @@ impl CheckOption {
             CheckOption::MaxFaults => "max-faults",
             CheckOption::Clashes => "clashes",
             CheckOption::Part => "part",
+            CheckOption::Tar => "tar",
         }
     }
 }

@@ -99,6 +99,11 @@ fn with_check_arguments<'a>(alloc: Global, command: Command<'a>) -> Result<Comma
             CheckOption::Part,
             "PART",
             "Check part K of N alone, given as K/N; all parts together are the report",
+        ))?
+        .arg(check_flag(
+            alloc,
+            CheckOption::Tar,
+            "Each DIRECTORY is a tar file, of which the bag is checked where it lies",
         ))
 }
 

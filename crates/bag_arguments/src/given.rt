@@ -9,7 +9,7 @@ ghost use Rattle.bag_text.specs.AlgList.{with_member};
 
 use crate::check_option::CHECK_OPTIONS;
 use crate::matched::{is_given, value, value_count, values};
-use crate::{CheckOption, InfoItem, Label};
+use crate::{Action, CheckOption, InfoItem, Label};
 use bag_facts::{Depth, Part};
 use bag_read::number_of;
 use bag_text::{Alg, AlgSet, Items, Text, trim};
@@ -102,6 +102,19 @@ pub(crate) fn has_after_several(matches: &ArgMatches<'_>) -> bool
     ensures { result ≡ spec.has_after_several (rows.rows_in matches.now) }
 {
     value(matches, CheckOption::After.id()).is_some() && value_count(matches, "directory") > 1
+}
+
+/// What is done with the words.
+pub(crate) fn action(matches: &ArgMatches<'_>) -> Action
+    ensures { result ≡ spec.action (rows.rows_in matches.now) }
+{
+    if !is_given(matches, "validate") {
+        Action::Make
+    } else if is_given(matches, CheckOption::Tar.id()) {
+        Action::CheckTars
+    } else {
+        Action::Check
+    }
 }
 
 /// The limit, 1 or more.

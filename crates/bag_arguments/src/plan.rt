@@ -11,6 +11,8 @@ pub enum Action {
     Help(Text),
     /// The bags in folders are checked.
     Check,
+    /// The bags in tar files are checked.
+    CheckTars,
     /// Folders are made bags.
     Make,
 }
@@ -26,7 +28,7 @@ pub struct InfoItem {
 #[derive(Debug, Drop)]
 pub struct Plan {
     pub action: Action,
-    /// The folders in the order of the words.
+    /// The folders, or the tar files, in the order of the words.
     pub directories: Items<Text>,
     pub options: Options,
     /// The file of the profile.

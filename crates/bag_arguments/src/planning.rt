@@ -85,13 +85,8 @@ fn plan_of_matches(alloc: Global, matches: &ArgMatches<'_>) -> Result<Plan, Usag
     refuse_misuse(matches)?;
     let after = cursor(alloc, matches)?;
     let part = part(matches)?;
-    let action = if is_given(matches, "validate") {
-        Action::Check
-    } else {
-        Action::Make
-    };
     Ok(Plan {
-        action,
+        action: given::action(matches),
         directories: given::directories(alloc, matches)?,
         options: Options {
             depth: given::depth(matches),
