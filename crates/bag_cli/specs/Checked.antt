@@ -2,7 +2,7 @@
 use Rattle.std.specs.Prelude.{ℕ, ◌≡◌, ◌⊎◌, ⊤, List, [], ◌∷◌, codes, Option, Some, None}
 use Rattle.bag_tree.specs.Out.{OutState}
 use Rattle.bag_tree.specs.Tree.{TreeState}
-use Rattle.bag_cli.specs.Visits.{Event, Entered, NotGiven, Left, Read}
+use Rattle.bag_cli.specs.Visits.{Event, Entered, NotGiven, Left, Read, Opened, Shut}
 use Rattle.bag_facts.specs.Part.{Part as PartValue}
 use Rattle.bag_walk.specs.declared.outcome.Request.{Request}
 use Rattle.bag_profile.specs.Profile.{Profile}
@@ -90,6 +90,8 @@ HaveNoFailure (Entered name ∷ visits) = HaveNoFailure visits
 HaveNoFailure (NotGiven name ∷ visits) = HaveNoFailure visits
 HaveNoFailure (Left state ∷ visits) = (state.failures ≡ 0) × HaveNoFailure visits
 HaveNoFailure (Read path answer ∷ visits) = HaveNoFailure visits
+HaveNoFailure (Opened path ∷ visits) = HaveNoFailure visits
+HaveNoFailure (Shut state ∷ visits) = (state.failures ≡ 0) × HaveNoFailure visits
 
 -- The sample was checked, as a folder of its name would be, and its device never fails. It is held
 -- in memory: these visits are none of a folder.

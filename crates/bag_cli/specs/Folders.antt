@@ -3,6 +3,7 @@ use Rattle.std.specs.Prelude.{ℕ, ◌≡◌, List, [], ◌∷◌, ◌++◌}
 use Rattle.bag_disk.specs.Disk.{DiskState}
 use Rattle.bag_store.specs.FileTree.{tree_state}
 use Rattle.bag_tree.specs.Tree.{TreeState}
+use Rattle.bag_tar.specs.Archive.{ArchiveState}
 use Rattle.bag_cli.specs.Visits.{Event}
 use Rattle.bag_cli.specs.declared.folders.Folders.{Folders}
 use Rattle.bag_cli.specs.declared.visits.Visits.{Visits}
@@ -14,6 +15,10 @@ disks_of folders = folders.disks.now
 -- the tree of the files in a folder, as it is when it is given
 abbrev pub tree_in : {D : Type 0} → (D → List ℕ → DiskState) → Folders D → List ℕ → TreeState
 tree_in below folders name = tree_state (below (disks_of folders) name) 0
+
+-- the tar file at a path, as it is when it is given
+abbrev pub tar_in : {D : Type 0} → (D → List ℕ → ArchiveState) → Folders D → List ℕ → ArchiveState
+tar_in archived folders name = archived (disks_of folders) name
 
 -- what was done with folders, in order
 abbrev pub visits_of : {D : Type 0} → Visits D → List Event

@@ -1,4 +1,5 @@
 pub mod Checked
+pub mod CheckedAs
 pub mod Checking
 pub mod Folders
 pub mod Halt
@@ -18,6 +19,9 @@ pub mod Saying
 pub mod Status
 pub mod StoredEvent
 pub mod SystemFile
+pub mod SystemTar
+pub mod TarChecked
+pub mod TarLine
 pub mod UncheckedKeys
 pub mod Visits
 pub mod Words

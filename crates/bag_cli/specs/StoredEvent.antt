@@ -14,7 +14,8 @@ use Rattle.bag_tree.specs.declared.listing.Listing.{Listing}
 use Rattle.bag_tree.specs.contracts.answer.Answer as answer
 use Rattle.bag_tree.specs.contracts.event.DeviceEvent as device_event
 use Rattle.bag_tree.specs.contracts.listing.Listing as listing
-use Rattle.bag_cli.specs.Visits.{Event, Entered, NotGiven, Left, Read}
+use Rattle.bag_tar.specs.Archive.{ArchiveState}
+use Rattle.bag_cli.specs.Visits.{Event, Entered, NotGiven, Left, Read, Opened, Shut}
 use Rattle.bag_cli.specs.declared.read_fault.ReadFault.{ReadFault}
 use Rattle.bag_cli.specs.contracts.read_fault.ReadFault as read_fault
 
@@ -89,29 +90,45 @@ coded_state =
     code_by Parts (coded× coded_kept (coded× coded_gave (coded× coded_reads coded_noted))) parts_of
     state_of (λ _. refl)
 
+abbrev coded_archive : Coded ArchiveState
+coded_archive =
+    code_by (List ℕ × (Bool × ℕ)) (coded× coded_text (coded× coded_bool coded_ℕ))
+    (λ state. (state.bytes, (state.honest, state.failures)))
+    (λ parts. record { bytes = parts.0; honest = parts.1.0; failures = parts.1.1 }) (λ _. refl)
+
+abbrev Reading : Type 0
+Reading = List ℕ × Result (List ℕ) ReadFault
+
 abbrev Kinds : Type 0
-Kinds = List ℕ ⊎ (List ℕ ⊎ (TreeState ⊎ (List ℕ × Result (List ℕ) ReadFault)))
+Kinds = List ℕ ⊎ (List ℕ ⊎ (TreeState ⊎ (Reading ⊎ (List ℕ ⊎ ArchiveState))))
 
 abbrev split : Event → Kinds
 split (Entered name) = inl name
 split (NotGiven name) = inr (inl name)
 split (Left state) = inr (inr (inl state))
-split (Read path given) = inr (inr (inr (path, given)))
+split (Read path given) = inr (inr (inr (inl (path, given))))
+split (Opened path) = inr (inr (inr (inr (inl path))))
+split (Shut state) = inr (inr (inr (inr (inr state))))
 
 abbrev join : Kinds → Event
 join (inl name) = Entered name
 join (inr (inl name)) = NotGiven name
 join (inr (inr (inl state))) = Left state
-join (inr (inr (inr (path, given)))) = Read path given
+join (inr (inr (inr (inl (path, given))))) = Read path given
+join (inr (inr (inr (inr (inl path))))) = Opened path
+join (inr (inr (inr (inr (inr state))))) = Shut state
 
 pub join_split : (event : Event) → join (split event) ≡ event
 join_split (Entered name) = refl
 join_split (NotGiven name) = refl
 join_split (Left state) = refl
 join_split (Read path given) = refl
+join_split (Opened path) = refl
+join_split (Shut state) = refl
 
 abbrev pub coded_event : Coded Event
 coded_event =
     let coded_read = coded× coded_text (coded_result coded_text read_fault.the_row.coded) in
-    code_by Kinds (coded⊎ coded_text (coded⊎ coded_text (coded⊎ coded_state coded_read)))
+    code_by Kinds (coded⊎ coded_text (coded⊎ coded_text (coded⊎ coded_state
+    (coded⊎ coded_read (coded⊎ coded_text coded_archive)))))
     split join join_split

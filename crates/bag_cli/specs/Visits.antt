@@ -1,6 +1,7 @@
--- Which folders were looked into, as what their trees were left, which couldn't be given, and which
--- files were read beside them.
+-- Which folders and tar files were looked into, as what their trees were left, which couldn't be
+-- given, and which files were read beside them.
 use Rattle.std.specs.Prelude.{ℕ, List, Result}
+use Rattle.bag_tar.specs.Archive.{ArchiveState}
 use Rattle.bag_tree.specs.Tree.{TreeState}
 use Rattle.bag_cli.specs.declared.read_fault.ReadFault.{ReadFault}
 
@@ -12,3 +13,6 @@ pub data Event : Type 0 where
   NotGiven : List ℕ → Event
   Left : TreeState → Event
   Read : List ℕ → Result (List ℕ) ReadFault → Event
+  -- the tar file at this path was given, or one that made no tree was left as this
+  Opened : List ℕ → Event
+  Shut : ArchiveState → Event

@@ -69,7 +69,7 @@ pub(crate) fn check_sample<O: Out>(
 
 /// Checks the bag of a tree under a name, as a plan says. Where memory for what is asked for runs
 /// out, it doesn't look at the tree.
-fn check_tree<T: Tree, O: Out>(
+pub(crate) fn check_tree<T: Tree, O: Out>(
     alloc: Global,
     tree: T,
     plan: &Plan,

@@ -3,26 +3,36 @@ ghost use Rattle.std.specs.Prelude.{ℕ, ◌≡◌, ◌≤◌, ⊤, false, List,
 ghost use Rattle.std.specs.Prelude.{Option, Some, IfOk, IsErrOf};
 ghost use Rattle.bag_disk.specs.Disk.{DiskState};
 ghost use Rattle.bag_disk.specs.SystemDisk.{base_of, system_state};
+ghost use Rattle.bag_tar.specs.Archive.{ArchiveState};
 ghost use Rattle.bag_cli.specs.SystemFile.{MayBeUnread};
+ghost use Rattle.bag_cli.specs.SystemTar.{refused_times};
 ghost use Rattle.bag_cli.specs.declared.read_fault.ReadFault.TheVariants.{Unread};
 
 use crate::read_fault::ReadFault;
 use crate::system_file::{open_file, read_within};
+use crate::{SystemTar, TarTrouble};
 use bag_disk::{ReplaceDisk, SystemDisk, Trouble};
+use bag_tar::Archive;
 use std::alloc::{AllocError, Global};
 use std::os::fd::AsFd;
 use std::rt::Files;
 
-/// What gives a disk for each base folder, and the bytes of files.
+/// What gives a disk for each base folder, tar files, and the bytes of files.
 pub trait Disks {
     /// What it gives.
     type Disk: ReplaceDisk + Drop;
+
+    /// What it gives for a tar file.
+    type Archive: Archive + Drop;
 
     /// What stands on the disk below each base folder.
     ghost below: { Self → List ℕ → DiskState };
 
     /// That a disk is the one below a base folder: of disks that are only made up nothing is said.
     ghost is_below: { Self.Disk → List ℕ → Type 0 } = { λ _ _. ⊤ };
+
+    /// What the tar file at each path is.
+    ghost archived: { Self → List ℕ → ArchiveState };
 
     /// That the file at a path has these bytes, or none where there is no file that can be read.
     ghost file: { Self → List ℕ → Option (List ℕ) → Type 0 };
@@ -35,6 +45,18 @@ pub trait Disks {
     /// Why the system refused last in a disk, for people to read, as far as that is known: no
     /// contract speaks of it.
     fn trouble<'d>(&self, _disk: &'d Self::Disk) -> Option<&'d Trouble> {
+        None
+    }
+
+    /// The tar file at a path, which is one of the system's, and leads from no base folder. Where
+    /// there is none, that is seen when it is read.
+    fn archive(&self, alloc: Global, path: &str) -> Result<Self::Archive, AllocError>
+        ensures state { IfOk result (λ archive.
+            Self.Archive.state archive ≡ archived self.now path.now) };
+
+    /// Why a tar file can't be read, for people to read, as far as that is known: no contract
+    /// speaks of it.
+    fn tar_trouble<'a>(&self, _archive: &'a Self::Archive) -> Option<&'a TarTrouble> {
         None
     }
 
@@ -55,9 +77,13 @@ where
 {
     type Disk = SystemDisk<R>;
 
+    type Archive = SystemTar<R>;
+
     ghost below = { λ _ _. system_state [] false 0 };
 
     ghost is_below = { λ disk base. base_of disk ≡ base };
+
+    ghost archived = { λ _ _. refused_times 0 };
 
     ghost file = { λ _ _ _. ⊤ };
 
@@ -67,6 +93,14 @@ where
 
     fn trouble<'d>(&self, disk: &'d SystemDisk<R>) -> Option<&'d Trouble> {
         disk.trouble()
+    }
+
+    fn archive(&self, alloc: Global, path: &str) -> Result<SystemTar<R>, AllocError> {
+        SystemTar::open(alloc, self, path)
+    }
+
+    fn tar_trouble<'a>(&self, archive: &'a SystemTar<R>) -> Option<&'a TarTrouble> {
+        archive.trouble()
     }
 
     fn read_file(&self, alloc: Global, path: &str, most: u32) -> Result<Vec<u8>, ReadFault> {

@@ -3,15 +3,17 @@ ghost use Rattle.std.specs.Prelude.{◌≡◌, ◌≤◌, [], Some, IfOk, IsErrO
 ghost use Rattle.std.specs.Result.{result_map_both};
 ghost use Rattle.bag_store.specs.FileTreeCalls.{disk_of};
 ghost use Rattle.bag_cli.specs.SystemFile.{MayBeUnread};
-ghost use Rattle.bag_cli.specs.Folders.{disks_of, tree_in, visits_of, AddsEvent};
-ghost use Rattle.bag_cli.specs.Visits.{Entered, NotGiven, Left, Read};
+ghost use Rattle.bag_cli.specs.Folders.{disks_of, tar_in, tree_in, visits_of, AddsEvent};
+ghost use Rattle.bag_cli.specs.Visits.{Entered, NotGiven, Left, Opened, Read, Shut};
 ghost use Rattle.bag_cli.specs.declared.read_fault.ReadFault.TheVariants.{Unread};
 
 use crate::disks::Disks;
 use crate::read_fault::ReadFault;
+use crate::tar_trouble::TarTrouble;
 use crate::visits::Visits;
 use bag_disk::Trouble;
 use bag_store::FileTree;
+use bag_tree::Tree;
 use std::alloc::{AllocError, Global};
 
 /// The folders that disks reach, and the files beside them.
@@ -58,6 +60,56 @@ impl<'d, D: Disks> Folders<'d, D> {
         }
     }
 
+    /// The tar file at a path.
+    pub(crate) fn open(
+        &self,
+        alloc: Global,
+        path: &str,
+        visits: &mut Visits<D>,
+    ) -> Result<D::Archive, AllocError>
+        ensures state { IfOk result (λ archive. D.Archive.state archive
+            ≡ tar_in D.archived self.now path.now) }
+        ensures opened { OnOk result (AddsEvent visits.old visits.new (Opened path.now)) }
+        ensures refused { OnErr result (AddsEvent visits.old visits.new (NotGiven path.now)) }
+    {
+        match self.disks.archive(alloc, path) {
+            Ok(archive) => {
+                note_opened(path, visits);
+                Ok(archive)
+            }
+            Err(AllocError) => {
+                note_not_given(path, visits);
+                Err(AllocError)
+            }
+        }
+    }
+
+    /// Why a tar file can't be read, for people to read, as far as that is known.
+    pub(crate) fn tar_trouble<'t>(&self, archive: &'t D::Archive) -> Option<&'t TarTrouble> {
+        self.disks.tar_trouble(archive)
+    }
+
+    /// Drops a tar file that made no tree, which is left as it is now.
+    pub(crate) fn shut(&self, archive: D::Archive, visits: &mut Visits<D>)
+        ensures { AddsEvent visits.old visits.new (Shut (D.Archive.state archive)) }
+    {
+        visits.note_of(&archive);
+    }
+
+    /// Notes that the tree of this name is given.
+    pub(crate) fn enter_tree(&self, name: &str, visits: &mut Visits<D>)
+        ensures { AddsEvent visits.old visits.new (Entered name.now) }
+    {
+        visits.note_of(&name);
+    }
+
+    /// Drops a tree that a tar file made, which is left as it is now.
+    pub(crate) fn leave_tree<T: Tree + Drop>(&self, tree: T, visits: &mut Visits<D>)
+        ensures { AddsEvent visits.old visits.new (Left (T.state tree)) }
+    {
+        visits.note_of(&tree);
+    }
+
     /// Why the system refused last in a tree, for people to read, as far as that is known.
     pub fn trouble<'t>(&self, tree: &'t FileTree<D::Disk>) -> Option<&'t Trouble> {
         self.disks.trouble(tree.disk())
@@ -94,6 +146,13 @@ impl<'d, D: Disks> Folders<'d, D> {
         visits.note_of(&(path, &answer));
         answer
     }
+}
+
+/// Notes that a tar file was given.
+fn note_opened<D>(path: &str, visits: &mut Visits<D>)
+    ensures { AddsEvent visits.old visits.new (Opened path.now) }
+{
+    visits.note_of(&path);
 }
 
 /// Notes that a folder was asked for and couldn't be given.

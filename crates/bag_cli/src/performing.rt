@@ -1,6 +1,7 @@
 //! Does what a plan says.
 ghost use Rattle.std.specs.Option.{option_copied};
 ghost use Rattle.std.specs.Prelude.{◌≡◌, ◌≤◌, []};
+ghost use Rattle.bag_cli.specs.CheckedAs.{AreCheckedAs};
 ghost use Rattle.bag_cli.specs.Folders.{disks_of};
 ghost use Rattle.bag_cli.specs.Halt.{status_of};
 ghost use Rattle.bag_cli.specs.InTurn.{Does};
@@ -40,7 +41,8 @@ pub fn perform<D: Disks, O: Out, E: Out>(
 ) -> u8
     ensures status { result ≤ 3 }
     ensures performed { Does O.Out visits.old visits.new out.old out.new result
-        (IsPerformed (D.below (disks_of folders.now)) (D.file (disks_of folders.now)) plan.now) }
+        (IsPerformed (D.below (disks_of folders.now)) (D.archived (disks_of folders.now))
+        (D.file (disks_of folders.now)) plan.now) }
 {
     let work = Work {
         alloc,
@@ -63,18 +65,19 @@ impl<D: Disks> Work<'_, D> {
     ) -> Result<u8, Halt>
         ensures { Does O.Out visits.old visits.new out.old out.new (status_of result)
             (IsPerformed (D.below (disks_of self.now.folders.now))
+            (D.archived (disks_of self.now.folders.now))
             (D.file (disks_of self.now.folders.now)) self.now.plan.now) }
     {
         match &self.plan.action {
             Action::Sample => check_samples(self.alloc, self.plan, out),
             Action::Help(text) => write_text(text.as_str(), out),
-            Action::Check => self.check_all(visits, out, err),
+            Action::Check | Action::CheckTars => self.check_all(visits, out, err),
             Action::Make => self.make_all(visits, out, err),
         }
     }
 
-    /// Checks the bags in the folders of the plan, by its profile where it has one, which is read
-    /// first. Why there is none is said on `err`.
+    /// Checks the bags of the plan's words, by its profile where it has one, which is read first.
+    /// Why there is none is said on `err`.
     fn check_all<O: Out, E: Out>(
         &self,
         visits: &mut Visits<D>,
@@ -82,7 +85,9 @@ impl<D: Disks> Work<'_, D> {
         err: &mut E,
     ) -> Result<u8, Halt>
         ensures { Does O.Out visits.old visits.new out.old out.new (status_of result)
-            (IsChecked (D.below (disks_of self.now.folders.now))
+            (IsChecked (AreCheckedAs self.now.plan.now.action
+            (D.below (disks_of self.now.folders.now))
+            (D.archived (disks_of self.now.folders.now)) self.now.plan.now)
             (D.file (disks_of self.now.folders.now)) self.now.plan.now self.now.plan.now.profile) }
     {
         let Some(path) = &self.plan.profile else {
@@ -94,8 +99,7 @@ impl<D: Disks> Work<'_, D> {
         }
     }
 
-    /// Says which keys of a profile aren't checked, and checks the bags in the folders of the plan
-    /// by it.
+    /// Says which keys of a profile aren't checked, and checks the bags of the plan's words by it.
     fn check_by<O: Out, E: Out>(
         &self,
         profile: &Profile,
@@ -104,7 +108,10 @@ impl<D: Disks> Work<'_, D> {
         err: &mut E,
     ) -> Result<u8, Halt>
         ensures { Does O.Out visits.old visits.new out.old out.new (status_of result)
-            (AreCheckedBy (D.below (disks_of self.now.folders.now)) self.now.plan.now profile.now) }
+            (AreCheckedBy (AreCheckedAs self.now.plan.now.action
+            (D.below (disks_of self.now.folders.now))
+            (D.archived (disks_of self.now.folders.now)) self.now.plan.now)
+            self.now.plan.now profile.now) }
     {
         say_unchecked(self.plan.quiet, profile, out)?;
         self.check_each(Some(profile), visits, out, err)

@@ -11,17 +11,35 @@ pub fn say_trouble<E: Out>(alloc: Global, program: &str, trouble: Option<&Troubl
         return;
     };
     if let Ok(why) = format!(in alloc; "{trouble}") {
-        let _ = put_trouble(program, trouble.location(), why.as_str(), err);
+        let hint = hint_for(trouble.location(), why.as_str());
+        let _ = put_trouble(
+            program,
+            trouble.location(),
+            &[": ", why.as_str(), hint, "\n"],
+            err,
+        );
     }
 }
 
-/// Hands the line to the output. The location is written as a field of a line.
-fn put_trouble<E: Out>(
+/// What is said of a tar file that is taken for a folder.
+const IS_TAR: &str = "; a tar file is checked by bagit --validate --tar";
+
+/// What is said besides of a location at which the system refused for this reason.
+fn hint_for(location: &str, why: &str) -> &'static str {
+    if why == "not a folder" && location.ends_with(".tar") {
+        IS_TAR
+    } else {
+        ""
+    }
+}
+
+/// Hands a line to the output. The location is written as a field of a line.
+pub(crate) fn put_trouble<E: Out>(
     program: &str,
     location: &str,
-    why: &str,
+    why: &[&str],
     err: &mut E,
 ) -> Result<(), Refused> {
     put_pieces(err, &[program])?;
-    put_line(location, &[": ", why, "\n"], err)
+    put_line(location, why, err)
 }

@@ -1,0 +1,88 @@
+//! One check of the bag in a tar file.
+ghost use Rattle.std.specs.Option.{option_copied};
+ghost use Rattle.bag_cli.specs.Checking.{ChecksFolder};
+ghost use Rattle.bag_cli.specs.Folders.{tar_in, visits_of};
+ghost use Rattle.bag_cli.specs.InTurn.{HasVisited};
+ghost use Rattle.bag_cli.specs.TarChecked.{ChecksTar, TellsUnopened};
+
+use crate::check::{check_tree, whole_status};
+use crate::tar_line::tell_no_tree;
+use crate::tar_trouble::say_tar_trouble;
+use crate::work::Work;
+use crate::{Disks, Halt, Visits};
+use bag_profile::Profile;
+use bag_tar::{TarStop, TarTree};
+use bag_text::said;
+use bag_tree::{Out, Refused, Tree};
+
+impl<D: Disks> Work<'_, D> {
+    /// Checks the bag in a tar file, as the plan says, by this profile or without one. Gives the
+    /// status where the whole report was written, or why the file makes no tree, and says on `err`
+    /// what is wrong with the file.
+    pub(crate) fn check_tar<O: Out, E: Out>(
+        &self,
+        profile: Option<&Profile>,
+        name: &str,
+        visits: &mut Visits<D>,
+        out: &mut O,
+        err: &mut E,
+    ) -> Result<u8, Halt>
+        ensures { HasVisited (visits_of visits.old) (visits_of visits.new) (λ own.
+            ChecksTar self.now.plan.now (option_copied profile.entry)
+            (tar_in D.archived self.now.folders.now name.now) name.now
+            (O.state out.old) (O.state out.new) own result) }
+    {
+        let archive = self.folders.open(self.alloc, name, visits)?;
+        match TarTree::open(self.alloc, archive) {
+            Ok(tree) => self.check_opened(tree, profile, name, visits, out),
+            Err((archive, stop)) => {
+                Ok(self.tell_unopened(archive, &stop, name, visits, out, err)?)
+            }
+        }
+    }
+
+    /// Checks the bag of a tree that a tar file made.
+    fn check_opened<T: Tree + Drop, O: Out>(
+        &self,
+        tree: T,
+        profile: Option<&Profile>,
+        name: &str,
+        visits: &mut Visits<D>,
+        out: &mut O,
+    ) -> Result<u8, Halt>
+        ensures { HasVisited (visits_of visits.old) (visits_of visits.new) (λ own.
+            ChecksFolder self.now.plan.now (option_copied profile.entry) (T.state tree) name.now
+            (O.state out.old) (O.state out.new) own result) }
+    {
+        self.folders.enter_tree(name, visits);
+        let (tree, checked) = check_tree(self.alloc, tree, self.plan, profile, name, out);
+        self.folders.leave_tree(tree, visits);
+        whole_status(checked)
+    }
+
+    /// Writes why a tar file made no tree, and says on `err` what is wrong with it.
+    fn tell_unopened<O: Out, E: Out>(
+        &self,
+        archive: D::Archive,
+        stop: &TarStop,
+        name: &str,
+        visits: &mut Visits<D>,
+        out: &mut O,
+        err: &mut E,
+    ) -> Result<u8, Refused>
+        ensures { HasVisited (visits_of visits.old) (visits_of visits.new) (λ own.
+            TellsUnopened (D.Archive.state archive) stop.now name.now
+            (O.state out.old) (O.state out.new) own result) }
+    {
+        let told = tell_no_tree(name, "", stop.cause, out);
+        say_tar_trouble(
+            self.alloc,
+            said::PROGRAM,
+            name,
+            self.folders.tar_trouble(&archive),
+            err,
+        );
+        self.folders.shut(archive, visits);
+        told
+    }
+}

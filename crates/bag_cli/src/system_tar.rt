@@ -1,0 +1,93 @@
+//! A tar file of the system's.
+ghost use Rattle.std.specs.Prelude.{◌≡◌, ◌≤◌, IfOk, length};
+ghost use Rattle.bag_cli.specs.SystemTar.{refused_times, system_tar_state};
+ghost use Rattle.bag_tar.specs.SystemArchive.{no_bytes};
+
+use crate::tar_trouble::{TarTrouble, packing_of};
+use bag_tar::{Archive, SystemArchive, Unread};
+use bag_tree::Heard;
+use std::alloc::{AllocError, Global};
+use std::fs;
+use std::rt::Files;
+
+/// A tar file of the system's, of which nothing is promised but how often it refused. Where there
+/// is none that can be read, it refuses each read.
+#[derive(Drop)]
+pub struct SystemTar<R: Files> {
+    archive: Option<SystemArchive<R>>,
+    /// Why there is none, or what stands there in its place, as far as that was seen.
+    trouble: Option<TarTrouble>,
+    /// A byte for each refusal, which only clauses read.
+    refusals: Heard,
+}
+
+impl<R: Files> SystemTar<R> {
+    /// The tar file at a path. It fails only when out of memory.
+    pub(crate) fn open(alloc: Global, rt: &R, path: &str) -> Result<SystemTar<R>, AllocError>
+        ensures { IfOk result (λ tar. system_tar_state tar ≡ refused_times 0) }
+    {
+        let (archive, trouble) = match open_file(alloc, rt, path) {
+            Ok(archive) => (Some(archive), None),
+            Err(trouble) if trouble.is_memory() => return Err(AllocError),
+            Err(trouble) => (None, Some(trouble)),
+        };
+        Ok(SystemTar {
+            archive,
+            trouble,
+            refusals: Heard::new(),
+        })
+    }
+
+    /// Why it can't be read, or what stands there in its place.
+    pub(crate) fn trouble(&self) -> Option<&TarTrouble> {
+        self.trouble.as_ref()
+    }
+
+    /// Reads from a place on, and looks at the first bytes of the file.
+    fn read_file(&mut self, at: u64, buffer: &mut [u8]) -> Result<usize, Unread>
+        ensures within { IfOk result (λ n. n ≤ length buffer.old) }
+        ensures same { self.new.refusals ≡ self.old.refusals }
+    {
+        if buffer.is_empty() {
+            return Ok(0);
+        }
+        let Some(archive) = &mut self.archive else {
+            return Err(Unread);
+        };
+        let count = archive.read_at(at, buffer)?;
+        if at == 0 {
+            self.trouble = packing_of(buffer);
+        }
+        Ok(count)
+    }
+}
+
+/// Opens the regular file at a path, or where a link there leads. Anything else isn't opened: a
+/// pipe may wait for its other end.
+fn open_file<R: Files>(alloc: Global, rt: &R, path: &str) -> Result<SystemArchive<R>, TarTrouble> {
+    match fs::metadata(rt, path) {
+        Ok(metadata) if metadata.is_file() => match SystemArchive::open(alloc, rt, path) {
+            Ok(archive) => Ok(archive),
+            Err(error) => Err(TarTrouble::of(error)),
+        },
+        Ok(metadata) if metadata.is_dir() => Err(TarTrouble::Folder),
+        Ok(_) => Err(TarTrouble::NoFile),
+        Err(error) => Err(TarTrouble::of(error)),
+    }
+}
+
+impl<R: Files> Archive for SystemTar<R> {
+    ghost state = { system_tar_state };
+
+    fn read_at(&mut self, at: u64, buffer: &mut [u8]) -> Result<usize, Unread> {
+        match self.read_file(at, buffer) {
+            Ok(count) => Ok(count),
+            Err(Unread) => {
+                self.refusals.note(&[0]);
+                Err(Unread)
+            }
+        }
+    }
+
+    ghost are_bytes = { λ _. no_bytes };
+}
