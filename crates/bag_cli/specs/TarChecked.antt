@@ -1,12 +1,14 @@
 -- What checks of the bags in tar files write, and the exit status after them.
-use Rattle.std.specs.Prelude.{ℕ, ◌≡◌, ◌⊎◌, true, IsTrue, List, [], ◌∷◌, Option}
+use Rattle.std.specs.Prelude.{ℕ, ◌≡◌, ◌⊎◌, true, IsTrue, List, [], ◌∷◌, Option, None, unwrap_or}
 use Rattle.std.specs.Prelude.{Result, Ok, Err, MatchResult}
 use Rattle.std.specs.Io.KnownBytes.{Appends}
 use Rattle.bag_tar.specs.Archive.{ArchiveState, SameArchive}
+use Rattle.bag_tar.specs.MemberName.{IsNameAt}
 use Rattle.bag_tar.specs.Tar.{IsTarOf}
 use Rattle.bag_tar.specs.TarTree.{IsNew}
 use Rattle.bag_tar.specs.Walk.{MayStop, StopsAt}
 use Rattle.bag_tar.specs.declared.tar_fault.TarFault.{TarFault}
+use Rattle.bag_tar.specs.declared.tar_fault.TarFault.TheVariants.{Device, Memory}
 use Rattle.bag_tar.specs.declared.tar_fault.TarStop.{TarStop}
 use Rattle.bag_tree.specs.Out.{IsCut, OutState}
 use Rattle.bag_tree.specs.Tree.{TreeState}
@@ -46,14 +48,29 @@ TellsNoTree name member cause before after told =
     (λ _. IsCut before.taken after.taken (no_tree_line name member cause)
     × (after.has_refused ≡ true))
 
--- an archive that made no tree was left as this, and that was reported
+-- the name of the member at a place of an archive that is read again; or that was refused
+abbrev pub IsReadAgain : ArchiveState → ArchiveState → ℕ → Option (List ℕ) → Type 0
+IsReadAgain old new at member =
+    ((cause : TarFault) × MayStop cause old new × (member ≡ None))
+    ⊎ (IsTrue old.honest → IsNameAt old.bytes at member)
+
+-- the member at which an archive stops, none where its device or memory refused
+abbrev pub IsMemberAt : TarFault → ArchiveState → ArchiveState → ℕ → Option (List ℕ) → Type 0
+IsMemberAt Device old new at member = member ≡ None
+IsMemberAt Memory old new at member = member ≡ None
+IsMemberAt cause old new at member = IsReadAgain old new at member
+
+-- an archive that made no tree was left, and that was reported
 pub record TellsUnopened (archive : ArchiveState) (stop : TarStop) (name : List ℕ)
     (before after : OutState) (visits : List Event) (told : Result ℕ Refused) : Type 0 where
-  pub member : List ℕ
-  pub visit : visits ≡ Shut archive ∷ []
-  pub tells : TellsNoTree name member stop.cause before after told
+  pub new : ArchiveState
+  pub member : Option (List ℕ)
+  pub same : SameArchive archive new
+  pub is_member : IsMemberAt stop.cause archive new stop.at member
+  pub visit : visits ≡ Shut new ∷ []
+  pub tells : TellsNoTree name (unwrap_or member []) stop.cause before after told
 
--- the archive made no tree, and was left as this, and that was reported
+-- the archive made no tree, and that was reported
 pub record IsNoTreeReported (archive : ArchiveState) (name : List ℕ) (before after : OutState)
     (visits : List Event) (told : Result ℕ Refused) : Type 0 where
   pub stop : TarStop

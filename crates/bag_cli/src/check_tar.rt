@@ -3,7 +3,9 @@ ghost use Rattle.std.specs.Option.{option_copied};
 ghost use Rattle.bag_cli.specs.Checking.{ChecksFolder};
 ghost use Rattle.bag_cli.specs.Folders.{tar_in, visits_of};
 ghost use Rattle.bag_cli.specs.InTurn.{HasVisited};
-ghost use Rattle.bag_cli.specs.TarChecked.{ChecksTar, TellsUnopened};
+ghost use Rattle.bag_cli.specs.TarChecked.{ChecksTar, IsMemberAt, IsReadAgain, TellsUnopened};
+ghost use Rattle.bag_tar.specs.Archive.{SameArchive};
+ghost use Rattle.std.specs.Prelude.{◌≡◌, [], unwrap_or};
 
 use crate::check::{check_tree, whole_status};
 use crate::tar_line::tell_no_tree;
@@ -11,9 +13,10 @@ use crate::tar_trouble::say_tar_trouble;
 use crate::work::Work;
 use crate::{Disks, Halt, Visits};
 use bag_profile::Profile;
-use bag_tar::{TarStop, TarTree};
-use bag_text::said;
+use bag_tar::{Archive, TarFault, TarStop, TarTree, name_at};
+use bag_text::{Text, said};
 use bag_tree::{Out, Refused, Tree};
+use std::alloc::Global;
 
 impl<D: Disks> Work<'_, D> {
     /// Checks the bag in a tar file, as the plan says, by this profile or without one. Gives the
@@ -74,7 +77,9 @@ impl<D: Disks> Work<'_, D> {
             TellsUnopened (D.Archive.state archive) stop.now name.now
             (O.state out.old) (O.state out.new) own result) }
     {
-        let told = tell_no_tree(name, "", stop.cause, out);
+        let mut archive = archive;
+        let member = member_at(self.alloc, &mut archive, stop);
+        let told = tell_no_tree(name, text_of(&member), stop.cause, out);
         say_tar_trouble(
             self.alloc,
             said::PROGRAM,
@@ -84,5 +89,45 @@ impl<D: Disks> Work<'_, D> {
         );
         self.folders.shut(archive, visits);
         told
+    }
+}
+
+/// The name of the member at which an archive stops, where it has one and what stops it isn't its
+/// device or memory.
+fn member_at<B: Archive>(alloc: Global, archive: &mut B, stop: &TarStop) -> Option<Text>
+    ensures same { SameArchive (B.state archive.old) (B.state archive.new) }
+    ensures named { IsMemberAt stop.now.cause (B.state archive.old) (B.state archive.new)
+        stop.now.at result }
+{
+    match stop.cause {
+        TarFault::Device | TarFault::Memory => None,
+        TarFault::CutOff
+        | TarFault::Damaged
+        | TarFault::Special
+        | TarFault::Name
+        | TarFault::Twice
+        | TarFault::NoBase
+        | TarFault::TooMany => read_name(alloc, archive, stop.at),
+    }
+}
+
+/// The name of the member whose header is at a place, where it has one and that isn't refused.
+fn read_name<B: Archive>(alloc: Global, archive: &mut B, at: u64) -> Option<Text>
+    ensures same { SameArchive (B.state archive.old) (B.state archive.new) }
+    ensures named { IsReadAgain (B.state archive.old) (B.state archive.new) at result }
+{
+    match name_at(alloc, archive, at) {
+        Ok(name) => name,
+        Err(_) => None,
+    }
+}
+
+/// The text of a name; empty where there is none.
+fn text_of(name: &Option<Text>) -> &str
+    ensures { result.now ≡ unwrap_or name.now [] }
+{
+    match name {
+        Some(name) => name.as_str(),
+        None => "",
     }
 }

@@ -13,6 +13,14 @@ pub enum Word {
     Link,
     Opened,
     Beside,
+    /// A tar file is begun.
+    Tar,
+    /// A member is added to it.
+    Member,
+    /// Bytes of it are written over.
+    Over,
+    /// It is cut off.
+    Cut,
     Text,
     Read,
     /// A row that is read.
@@ -33,7 +41,7 @@ pub enum Word {
 }
 
 /// The words that lines begin with.
-const WORDS: [(&str, Word); 17] = [
+const WORDS: [(&str, Word); 21] = [
     ("|", Word::Written),
     ("-", Word::Row),
     ("$", Word::Run),
@@ -51,6 +59,10 @@ const WORDS: [(&str, Word); 17] = [
     ("bag", Word::Bag),
     ("opened", Word::Opened),
     ("link", Word::Link),
+    ("tar", Word::Tar),
+    ("member", Word::Member),
+    ("over", Word::Over),
+    ("cut", Word::Cut),
 ];
 
 /// A line that says something: its number, from 1, its first word, and what follows one space after

@@ -34,7 +34,7 @@ pub enum Mistake {
     Command,
     /// A row has no `=>`, or no reader.
     Row,
-    /// There is no folder to put something into, or it can't stand there.
+    /// There is no folder or tar file to put something into, or it can't stand there.
     Place,
     /// A file has no answer that is compared, or there is no file.
     Nothing,

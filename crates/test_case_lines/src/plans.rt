@@ -59,6 +59,7 @@ fn put_plan(plan: &Plan, out: &mut Bytes) {
         Action::Sample => "sample",
         Action::Help(_) => "help",
         Action::Check => "check",
+        Action::CheckTars => "check tar",
         Action::Make => "make",
     });
     for directory in plan.directories.as_slice() {

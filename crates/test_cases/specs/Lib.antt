@@ -1,2 +1,3 @@
+pub mod CaseTar
 pub mod Checked
 pub mod Shelf

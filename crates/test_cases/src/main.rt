@@ -3,14 +3,17 @@
 #![tactic(auto)]
 
 mod answers;
+mod case_tar;
 mod commands;
 mod files;
 mod on_disk;
+mod packing;
 mod renewals;
 mod running;
 mod session;
 mod shelf;
 mod stages;
+mod tars;
 mod trees;
 mod turns;
 mod world;

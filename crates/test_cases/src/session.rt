@@ -1,5 +1,6 @@
 //! A session over a file of cases: its entries are followed one after another.
 use crate::running::run;
+use crate::tars::Tar;
 use crate::world::World;
 use std::alloc::{AllocError, Global};
 use test_case_lines::{
@@ -17,6 +18,8 @@ pub(crate) struct Session {
     folder: Bytes,
     /// Whether what is put belongs to a bag: then it goes into each folder that begins with that.
     is_bag: bool,
+    /// The last tar file of the case.
+    tar: Option<Tar>,
     /// What reads the rows of the case.
     reader: Option<Reader>,
 }
@@ -29,6 +32,7 @@ impl Session {
             world,
             folder: Bytes::new(alloc),
             is_bag: false,
+            tar: None,
             reader: None,
         })
     }
@@ -49,6 +53,11 @@ impl Session {
             }
             Word::File | Word::Folder | Word::Link | Word::Opened => self.put(rt, entry, report),
             Word::Beside => put(rt, &self.texts, &[], entry, &mut self.world, report),
+            Word::Member | Word::Over => {
+                let (what, bytes) = path_and_bytes(&self.texts, &[], entry, report);
+                let word = entry.line.word;
+                self.change_tar(rt, word, &what.held, &bytes.held, report);
+            }
             Word::Text => name_text(&mut self.texts, entry, report),
             _ if !entry.below.is_empty() => report.text.fail(Mistake::Unasked),
             Word::Row => {
@@ -76,6 +85,15 @@ impl Session {
             Word::In => {
                 let words = words_of(rt.alloc(), line.rest, &mut report.text);
                 self.begin_folder(rt, lines, &words, report);
+            }
+            Word::Tar => {
+                let words = words_of(rt.alloc(), line.rest, &mut report.text);
+                let tar = Tar::of(rt.alloc(), &words, &self.world);
+                self.keep_tar(rt, tar, report);
+            }
+            Word::Cut => {
+                let words = words_of(rt.alloc(), line.rest, &mut report.text);
+                self.cut_tar(rt, &words, report);
             }
             Word::Read => {
                 let words = words_of(rt.alloc(), line.rest, &mut report.text);
@@ -123,9 +141,52 @@ impl Session {
     /// Ends the case before, and removes its folders and files.
     pub(crate) fn end(&mut self, rt: &HostRuntime, report: &mut Report) {
         self.is_bag = false;
+        self.tar = None;
         self.reader = None;
         self.folder.held.clear();
         self.world.remove(rt, report);
+    }
+
+    /// Keeps a tar file, and puts it beside the folders.
+    fn keep_tar(&mut self, rt: &HostRuntime, tar: Result<Tar, Mistake>, report: &mut Report) {
+        match tar {
+            Ok(tar) => {
+                tar.put(rt, &mut self.world, report);
+                self.tar = Some(tar);
+            }
+            Err(mistake) => report.text.fail(mistake),
+        }
+    }
+
+    /// Changes the last tar file.
+    fn change_tar(
+        &mut self,
+        rt: &HostRuntime,
+        word: Word,
+        what: &[u8],
+        bytes: &[u8],
+        report: &mut Report,
+    ) {
+        let Some(mut tar) = self.tar.take() else {
+            report.text.fail(Mistake::Place);
+            return;
+        };
+        match tar.change(rt.alloc(), word, what, bytes) {
+            Ok(()) => self.keep_tar(rt, Ok(tar), report),
+            Err(mistake) => report.text.fail(mistake),
+        }
+    }
+
+    /// Cuts the last tar file off.
+    fn cut_tar(&mut self, rt: &HostRuntime, words: &[&str], report: &mut Report) {
+        let Some(mut tar) = self.tar.take() else {
+            report.text.fail(Mistake::Place);
+            return;
+        };
+        match tar.cut(words) {
+            Ok(()) => self.keep_tar(rt, Ok(tar), report),
+            Err(mistake) => report.text.fail(mistake),
+        }
     }
 
     /// Puts something into the last folder; of a bag it is only seen whether it can be read.

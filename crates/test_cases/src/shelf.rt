@@ -1,10 +1,12 @@
 //! Disks in memory for the program.
 ghost use Rattle.std.specs.Prelude.{◌≡◌, ⊤, IfOk};
+ghost use Rattle.bag_cli.specs.SystemTar.{refused_times};
 ghost use Rattle.test_disk.specs.MemoryDisk.{state_of};
 ghost use Rattle.test_disk.specs.Refusing.{refusing};
 ghost use Rattle.test_cases.specs.Shelf.{disk_at, unclaimed};
 
 use crate::answers::answer_to;
+use crate::case_tar::CaseTar;
 use crate::commands::Verb;
 use crate::world::World;
 use bag_cli::{Disks, ReadFault};
@@ -47,7 +49,11 @@ fn opened_below<'a>(world: &'a World, folder: &str) -> (&'a str, &'a [u8]) {
 impl Disks for World {
     type Disk = MemoryDisk;
 
+    type Archive = CaseTar;
+
     ghost below = { λ world. unclaimed world.disks };
+
+    ghost archived = { λ _ _. refused_times 0 };
 
     ghost file = { λ _ _ _. ⊤ };
 
@@ -62,6 +68,10 @@ impl Disks for World {
             disk.bar(Text::empty(alloc))?;
         }
         Ok(disk)
+    }
+
+    fn archive(&self, alloc: Global, path: &str) -> Result<CaseTar, AllocError> {
+        CaseTar::of(alloc, self.file(path))
     }
 
     fn read_file(&self, alloc: Global, path: &str, most: u32) -> Result<Vec<u8>, ReadFault> {
@@ -88,7 +98,11 @@ struct Refusing<'a, D> {
 impl<'a, D: Disks> Disks for Refusing<'a, D> {
     type Disk = RefusingDisk<D::Disk>;
 
+    type Archive = D::Archive;
+
     ghost below = { λ these base. refusing (D.below these.disks.now base) these.fault 0 };
+
+    ghost archived = { λ these. D.archived these.disks.now };
 
     ghost file = { λ these. D.file these.disks.now };
 
@@ -99,6 +113,10 @@ impl<'a, D: Disks> Disks for Refusing<'a, D> {
             None => Call::Counted(self.calls.clone()?),
         };
         Ok(RefusingDisk::over(disk, call, self.fault))
+    }
+
+    fn archive(&self, alloc: Global, path: &str) -> Result<D::Archive, AllocError> {
+        self.disks.archive(alloc, path)
     }
 
     fn read_file(&self, alloc: Global, path: &str, most: u32) -> Result<Vec<u8>, ReadFault> {

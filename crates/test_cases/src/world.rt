@@ -149,6 +149,11 @@ impl World {
         }
     }
 
+    /// What stands in a folder, by its paths.
+    pub(crate) fn nodes_in(&self, folder: &str) -> Option<&BTreeMap<Vec<u8>, Node>> {
+        self.folders.get(folder)
+    }
+
     /// Whether a folder can be a tree.
     pub(crate) fn has_tree(&self, name: &str) -> bool {
         self.has_trees && self.opened.is_none() && self.folders.contains_key(name)

@@ -1,11 +1,13 @@
 //! Honest disks with files, and the program over them.
-ghost use Rattle.std.specs.Prelude.{◌≡◌, List, None, ℕ};
+ghost use Rattle.std.specs.Prelude.{◌≡◌, List, [], None, ℕ};
 ghost use Rattle.bag_cli.specs.Reported.{IsCheckOfOne, GivesReport};
 ghost use Rattle.bag_store.specs.DiskBag.{bag_of};
+ghost use Rattle.bag_tar.specs.MemoryArchive.{state_of_bytes};
 ghost use Rattle.test_disk.specs.MemoryDisk.{fresh, state_of};
 
 use bag_cli::laws::honest_disks_are_reported;
 use bag_cli::{Disks, Folders, Plan, ReadFault, perform};
+use bag_tar::MemoryArchive;
 use bag_tree::Out;
 use std::alloc::{AllocError, Global};
 use test_disk::MemoryDisk;
@@ -20,7 +22,11 @@ pub(crate) struct SameDisks<'a> {
 impl<'a> Disks for SameDisks<'a> {
     type Disk = MemoryDisk;
 
+    type Archive = MemoryArchive;
+
     ghost below = { λ disks _. fresh (state_of disks.held.now).nodes };
+
+    ghost archived = { λ _ _. state_of_bytes [] };
 
     ghost file = { λ _ _ bytes. bytes ≡ None };
 
@@ -29,6 +35,10 @@ impl<'a> Disks for SameDisks<'a> {
             return Err(AllocError);
         }
         self.held.fresh_copy(alloc)
+    }
+
+    fn archive(&self, alloc: Global, _path: &str) -> Result<MemoryArchive, AllocError> {
+        MemoryArchive::of(alloc, &[])
     }
 
     fn read_file(&self, _alloc: Global, _path: &str, _most: u32) -> Result<Vec<u8>, ReadFault> {
