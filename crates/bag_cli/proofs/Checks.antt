@@ -3,6 +3,10 @@ use Rattle.bag_cli.proofs.Common.{◌≡◌, inl, inr, ◌≤◌, ℕ, List, Opt
 use Rattle.bag_cli.proofs.Common.{Result, Ok, Err, OutState, TreeState, Event, CheckOutcome, Unwritten, Profile, Plan}
 use Rattle.bag_walk.specs.declared.part_run.PartOutcome.TheVariants as part
 use Rattle.bag_cli.specs.declared.check_outcome.CheckOutcome.TheVariants.{OfBag, OfPart}
+use Rattle.bag_arguments.specs.declared.plan.Action.{Action}
+use Rattle.bag_arguments.specs.declared.plan.Action.TheVariants.{CheckTars}
+use Rattle.bag_cli.proofs.Common.{AreTarChecksOf, ArchiveState, DiskState, IsLastTarCheck, IsWholeAs, IsWholeTarCheck}
+use Rattle.bag_cli.proofs.Common.{tree_state}
 use Rattle.bag_cli.proofs.Common.{AreChecksOf, HasRunOut, IsCheckOf, IsLastCheck, IsVisitToCheck, IsWholeCheck}
 use Rattle.bag_cli.proofs.Common.{result_ok, subst, sym, visit_of, whole_status}
 use Rattle.bag_cli.specs.Checking.{ChecksFolder}
@@ -63,3 +67,29 @@ pub checks_status : (plan : Plan) (profile : Option Profile) (tree_of : List ℕ
     (before after : OutState) (visits : List Event) (n : ℕ)
     → AreChecksOf plan profile tree_of names before after visits n → n ≤ 3
 checks_status plan profile tree_of names before after visits n checks = grind (arith, turns_status)
+
+-- a check of a tar file has a status
+pub tar_status_is : (plan : Plan) (profile : Option Profile) (archive : ArchiveState) (name : List ℕ)
+    (before after : OutState) (visits : List Event) (n : ℕ)
+    → IsWholeTarCheck plan profile archive name before after visits n → n ≤ 3
+tar_status_is plan profile archive name before after visits n (own, e, inl tree) =
+    check_status_is plan profile tree.0 name before after own n tree.2.1
+tar_status_is plan profile archive name before after visits n (own, e, inr none) = omega (arith, none.tells.tells.0)
+
+-- what checks of tar files give is a status
+pub tars_status : (plan : Plan) (profile : Option Profile) (archived : List ℕ → ArchiveState) (names : List (List ℕ))
+    (before after : OutState) (visits : List Event) (n : ℕ)
+    → AreTarChecksOf plan profile archived names before after visits n → n ≤ 3
+tars_status plan profile archived names before after visits n checks =
+    turns_status (λ name. IsLastTarCheck plan profile (archived name) name)
+    (λ name. IsWholeTarCheck plan profile (archived name) name)
+    (λ name. tar_status_is plan profile (archived name) name) names before after visits n checks
+
+-- whatever is checked by a plan, it has a status
+pub status_as : (action : Action) (below : List ℕ → DiskState) (archived : List ℕ → ArchiveState) (plan : Plan)
+    (profile : Option Profile) (name : List ℕ) (before after : OutState) (visits : List Event) (n : ℕ)
+    → IsWholeAs action below archived plan profile name before after visits n → n ≤ 3
+status_as CheckTars below archived plan profile name before after visits n check =
+    tar_status_is plan profile (archived name) name before after visits n check
+status_as action below archived plan profile name before after visits n check =
+    check_status_is plan profile (tree_state (below name) 0) name before after visits n check

@@ -59,12 +59,16 @@ pub use Rattle.bag_cli.specs.InTurn.{AreInTurn, HasVisited, Last, Whole}
 pub use Rattle.bag_make.specs.WholeMaking.{IsMake}
 pub use Rattle.bag_cli.specs.Making.{ReportsMaking}
 pub use Rattle.bag_cli.specs.Makings.{AreMakingsOf, IsLastMaking, IsMakingReported, IsWholeMaking, element_of}
-pub use Rattle.bag_cli.specs.Performed.{AreMade, IsChecked, IsDoneBy, IsPerformed, IsSaid}
+pub use Rattle.bag_cli.specs.CheckedAs.{AreCheckedAs, IsLastAs, IsWholeAs}
+pub use Rattle.bag_cli.specs.Performed.{AreChecked, AreMade, AreTarsChecked, Checks, IsChecked, IsDoneBy}
+pub use Rattle.bag_cli.specs.Performed.{IsPerformed, IsSaid}
 pub use Rattle.bag_cli.specs.Sample.{sample_state}
 pub use Rattle.bag_cli.specs.Saying.{Says}
 pub use Rattle.bag_cli.specs.Status.{whole_status}
 pub use Rattle.bag_cli.specs.declared.check_outcome.CheckOutcome.{CheckOutcome}
 pub use Rattle.bag_cli.specs.Reported.{ReportsMade, GivesReport, reported_lines}
+pub use Rattle.bag_cli.specs.TarChecked.{AreTarChecksOf, IsLastTarCheck, IsTreeOf, IsWholeTarCheck}
+pub use Rattle.bag_tar.specs.Archive.{ArchiveState}
 pub use Rattle.bag_cli.specs.UncheckedKeys.{unchecked_line, unchecked_lines}
-pub use Rattle.bag_cli.specs.Visits.{Entered, Event, Left, NotGiven, Read}
+pub use Rattle.bag_cli.specs.Visits.{Entered, Event, Left, NotGiven, Opened, Read, Shut}
 pub use Rattle.bag_cli.specs.declared.record.Record.{Record}

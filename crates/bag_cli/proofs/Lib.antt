@@ -3,4 +3,6 @@ pub mod Asked
 pub mod Checks
 pub mod Common
 pub mod Makings
+pub mod OverHonest
+pub mod Tars
 pub mod Turns

@@ -22,6 +22,7 @@ pub mod SystemFile
 pub mod SystemTar
 pub mod TarChecked
 pub mod TarLine
+pub mod TarReported
 pub mod UncheckedKeys
 pub mod Visits
 pub mod Words

@@ -2,11 +2,27 @@
 ghost use Rattle.bag_cli.specs.Reported.{HonestDisksAreReported, HonestFoldersAreMade};
 ghost use Rattle.bag_cli.specs.Reported.{NoPartEndsWithZero};
 ghost use Rattle.bag_cli.specs.Honest.{HonestFoldersAreReported};
+ghost use Rattle.bag_cli.specs.TarReported.{HonestTarsAreReported, NoBagIsUnread};
+
+use bag_tar::laws::an_archive_holds_one_bag;
 
 /// Over an honest disk the check of one directory, by a profile or without one, writes the report
 /// of the bag that stands there.
 pub fn honest_disks_are_reported()
     ensures { HonestDisksAreReported }
+{}
+
+/// Over an honest tar file that holds a bag the check of that one, by a profile or without one,
+/// writes the report of the bag.
+pub fn honest_tars_are_reported()
+    ensures { HonestTarsAreReported }
+{
+    an_archive_holds_one_bag();
+}
+
+/// The check of an honest tar file that holds no one bag ends with status 3, and says why.
+pub fn no_bag_is_unread()
+    ensures { NoBagIsUnread }
 {}
 
 /// A check of a part of a bag ends with another status than 0, which is a whole check's alone.

@@ -1,31 +1,57 @@
 use Rattle.bag_cli.proofs.Common.{◌≡◌, ℕ, List, Option, [], sym, subst, append-nil, DiskState, OutState, Event, Plan}
-use Rattle.bag_cli.proofs.Common.{refl, visits_of, IsDoneBy, IsPerformed}
+use Rattle.bag_cli.proofs.Common.{refl, visits_of, ArchiveState, AreCheckedAs, IsChecked, IsDoneBy, IsPerformed}
 use Rattle.bag_arguments.specs.declared.plan.Action.{Action}
+use Rattle.bag_arguments.specs.declared.plan.Action.TheVariants.{Check, CheckTars}
 use Rattle.bag_cli.proofs.work.Work.perform.Goals as goal
 
--- what was done is what the plan says
-performed : (below : List ℕ → DiskState) (file : List ℕ → Option (List ℕ) → Type 0) (plan : Plan) (action : Action)
-    (before after : OutState) (visits : List Event) (n : ℕ)
-    → plan.action ≡ action → IsDoneBy action below file plan before after visits n
-    → IsPerformed below file plan before after visits n
-performed below file plan action before after visits n is done =
-    subst (λ (action : Action). IsDoneBy action below file plan before after visits n) (sym is) done
+module _ (below : List ℕ → DiskState) (archived : List ℕ → ArchiveState)
+    (file : List ℕ → Option (List ℕ) → Type 0) (plan : Plan) where
+  -- what was done is what the plan says
+  performed : (action : Action) (before after : OutState) (visits : List Event) (n : ℕ) → plan.action ≡ action
+      → IsDoneBy action below archived file plan before after visits n
+      → IsPerformed below archived file plan before after visits n
+  performed action before after visits n is done =
+      subst (λ (action : Action). IsDoneBy action below archived file plan before after visits n) (sym is) done
+
+  -- what is checked of a plan's words by its action
+  checked : (action : Action) (before after : OutState) (visits : List Event) (n : ℕ) → plan.action ≡ action
+      → IsChecked (AreCheckedAs plan.action below archived plan) file plan plan.profile before after visits n
+      → IsChecked (AreCheckedAs action below archived plan) file plan plan.profile before after visits n
+  checked action before after visits n is done =
+      subst (λ (action : Action).
+      IsChecked (AreCheckedAs action below archived plan) file plan plan.profile before after visits n) is done
 
 pub returns-in-Sample : goal.returns-in-Sample
-returns-in-Sample g c =
-    ([], sym (append-nil (visits_of c.args.visits.now)), performed _ _ _ _ _ _ _ _ c.in-Sample.is (c.check_samples.ensures, refl))
+returns-in-Sample g c = (
+  [],
+  sym (append-nil (visits_of c.args.visits.now)),
+  performed _ _ _ _ _ _ _ _ _ c.in-Sample.is (c.check_samples.ensures, refl),
+)
 
 pub returns-in-Help : goal.returns-in-Help
 returns-in-Help g c = (
   [],
   sym (append-nil (visits_of c.args.visits.now)),
-  performed _ _ _ _ _ _ _ _ c.in-Help.is (rw c.as_str.ensures at c.write_text.ensures),
+  performed _ _ _ _ _ _ _ _ _ c.in-Help.is (rw c.as_str.ensures at c.write_text.ensures),
 )
 
 pub returns-in-Check : goal.returns-in-Check
 returns-in-Check g c =
-    let done = c.check_all.ensures in (done.0, done.1, performed _ _ _ _ _ _ _ _ c.in-Check.is done.2)
+    let done = c.check_all.ensures in (
+      done.0,
+      done.1,
+      performed _ _ _ _ Check _ _ _ _ c.in-Check.is (checked _ _ _ _ Check _ _ _ _ c.in-Check.is done.2),
+    )
+
+pub returns-in-CheckTars : goal.returns-in-CheckTars
+returns-in-CheckTars g c =
+    let done = c.check_all.ensures in (
+      done.0,
+      done.1,
+      performed _ _ _ _ CheckTars _ _ _ _ c.in-CheckTars.is
+          (checked _ _ _ _ CheckTars _ _ _ _ c.in-CheckTars.is done.2),
+    )
 
 pub returns-in-Make : goal.returns-in-Make
 returns-in-Make g c =
-    let done = c.make_all.ensures in (done.0, done.1, performed _ _ _ _ _ _ _ _ c.in-Make.is done.2)
+    let done = c.make_all.ensures in (done.0, done.1, performed _ _ _ _ _ _ _ _ _ c.in-Make.is done.2)

@@ -1,0 +1,11 @@
+use Rattle.bag_cli.proofs.Tars.{checked_as}
+use Rattle.bag_arguments.specs.declared.plan.Action.TheVariants.{CheckTars}
+use Rattle.bag_cli.proofs.work.Work.check_word.Goals as goal
+
+pub returns-in-CheckTars : goal.returns-in-CheckTars
+returns-in-CheckTars g c =
+    let done = c.check_tar.ensures in (
+      done.0,
+      done.1,
+      checked_as _ CheckTars _ _ _ _ _ _ _ _ _ c.in-CheckTars.is done.2,
+    )
