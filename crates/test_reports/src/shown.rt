@@ -84,6 +84,10 @@ const OPTIONS: &[(CheckOption, (&str, &str))] = &[
         CheckOption::Part,
         ("bagit: --part needs --validate", "NeedsValidate(Part)"),
     ),
+    (
+        CheckOption::Tar,
+        ("bagit: --tar needs --validate", "NeedsValidate(Tar)"),
+    ),
 ];
 
 #[test]
