@@ -15,6 +15,8 @@ use Rattle.bag_tree.specs.contracts.answer.Answer as answer
 use Rattle.bag_tree.specs.contracts.event.DeviceEvent as device_event
 use Rattle.bag_tree.specs.contracts.listing.Listing as listing
 use Rattle.bag_tar.specs.Archive.{ArchiveState}
+use Rattle.bag_tar.specs.declared.place.Place.{Place}
+use Rattle.bag_tar.specs.contracts.place.Place as place
 use Rattle.bag_cli.specs.Visits.{Event, Entered, NotGiven, Left, Read, Opened, Shut}
 use Rattle.bag_cli.specs.declared.read_fault.ReadFault.{ReadFault}
 use Rattle.bag_cli.specs.contracts.read_fault.ReadFault as read_fault
@@ -92,9 +94,15 @@ coded_state =
 
 abbrev coded_archive : Coded ArchiveState
 coded_archive =
-    code_by (List ℕ × (Bool × ℕ)) (coded× coded_text (coded× coded_bool coded_ℕ))
-    (λ state. (state.bytes, (state.honest, state.failures)))
-    (λ parts. record { bytes = parts.0; honest = parts.1.0; failures = parts.1.1 }) (λ _. refl)
+    code_by (List ℕ × (Bool × (ℕ × List Place)))
+    (coded× coded_text (coded× coded_bool (coded× coded_ℕ (coded_list place.the_row.coded))))
+    (λ state. (state.bytes, (state.honest, (state.failures, state.asked))))
+    (λ parts. record {
+      bytes = parts.0;
+      honest = parts.1.0;
+      failures = parts.1.1.0;
+      asked = parts.1.1.1;
+    }) (λ _. refl)
 
 abbrev Reading : Type 0
 Reading = List ℕ × Result (List ℕ) ReadFault
