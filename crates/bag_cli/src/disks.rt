@@ -83,7 +83,7 @@ where
 
     ghost is_below = { λ disk base. base_of disk ≡ base };
 
-    ghost archived = { λ _ _. refused_times 0 };
+    ghost archived = { λ _ _. refused_times 0 [] };
 
     ghost file = { λ _ _ _. ⊤ };
 

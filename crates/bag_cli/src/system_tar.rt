@@ -1,10 +1,10 @@
 //! A tar file of the system's.
-ghost use Rattle.std.specs.Prelude.{◌≡◌, ◌≤◌, IfOk, length};
+ghost use Rattle.std.specs.Prelude.{◌≡◌, ◌≤◌, [], IfOk, length};
 ghost use Rattle.bag_cli.specs.SystemTar.{refused_times, system_tar_state};
 ghost use Rattle.bag_tar.specs.SystemArchive.{no_bytes};
 
 use crate::tar_trouble::{TarTrouble, packing_of};
-use bag_tar::{Archive, SystemArchive, Unread};
+use bag_tar::{Archive, AskedPlaces, SystemArchive, Unread};
 use bag_tree::Heard;
 use std::alloc::{AllocError, Global};
 use std::fs;
@@ -19,12 +19,13 @@ pub struct SystemTar<R: Files> {
     trouble: Option<TarTrouble>,
     /// A byte for each refusal, which only clauses read.
     refusals: Heard,
+    asked: AskedPlaces,
 }
 
 impl<R: Files> SystemTar<R> {
     /// The tar file at a path. It fails only when out of memory.
     pub(crate) fn open(alloc: Global, rt: &R, path: &str) -> Result<SystemTar<R>, AllocError>
-        ensures { IfOk result (λ tar. system_tar_state tar ≡ refused_times 0) }
+        ensures { IfOk result (λ tar. system_tar_state tar ≡ refused_times 0 []) }
     {
         let (archive, trouble) = match open_file(alloc, rt, path) {
             Ok(archive) => (Some(archive), None),
@@ -35,6 +36,7 @@ impl<R: Files> SystemTar<R> {
             archive,
             trouble,
             refusals: Heard::new(),
+            asked: AskedPlaces::nothing(),
         })
     }
 
@@ -47,6 +49,7 @@ impl<R: Files> SystemTar<R> {
     fn read_file(&mut self, at: u64, buffer: &mut [u8]) -> Result<usize, Unread>
         ensures within { IfOk result (λ n. n ≤ length buffer.old) }
         ensures same { self.new.refusals ≡ self.old.refusals }
+        ensures asked { self.new.asked ≡ self.old.asked }
     {
         if buffer.is_empty() {
             return Ok(0);
@@ -80,6 +83,7 @@ impl<R: Files> Archive for SystemTar<R> {
     ghost state = { system_tar_state };
 
     fn read_at(&mut self, at: u64, buffer: &mut [u8]) -> Result<usize, Unread> {
+        self.asked.note(at, buffer.len());
         match self.read_file(at, buffer) {
             Ok(count) => Ok(count),
             Err(Unread) => {

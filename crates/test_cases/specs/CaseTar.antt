@@ -4,6 +4,6 @@ use Rattle.bag_tar.specs.Archive.{ArchiveState}
 use Rattle.bag_cli.specs.SystemTar.{refused_times}
 use Rattle.test_cases.specs.declared.case_tar.CaseTar.{CaseTar}
 
--- nothing is claimed of what it holds; so often it refused
+-- nothing is claimed of what it holds; so often it refused, and it was asked for these parts
 abbrev pub case_tar_state : CaseTar → ArchiveState
-case_tar_state tar = refused_times (length tar.refusals.bytes)
+case_tar_state tar = refused_times (length tar.refusals.bytes) tar.asked.places

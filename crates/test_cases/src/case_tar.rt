@@ -1,10 +1,10 @@
 //! The tar files of a case, in memory.
-ghost use Rattle.std.specs.Prelude.{◌≡◌, ◌≤◌, IfOk, length};
+ghost use Rattle.std.specs.Prelude.{◌≡◌, ◌≤◌, [], IfOk, length};
 ghost use Rattle.bag_tar.specs.SystemArchive.{no_bytes};
 ghost use Rattle.bag_cli.specs.SystemTar.{refused_times};
 ghost use Rattle.test_cases.specs.CaseTar.{case_tar_state};
 
-use bag_tar::{Archive, MemoryArchive, Unread};
+use bag_tar::{Archive, AskedPlaces, MemoryArchive, Unread};
 use bag_tree::Heard;
 use std::alloc::{AllocError, Global};
 
@@ -13,12 +13,13 @@ use std::alloc::{AllocError, Global};
 pub(crate) struct CaseTar {
     archive: Option<MemoryArchive>,
     refusals: Heard,
+    asked: AskedPlaces,
 }
 
 impl CaseTar {
     /// The tar file of these bytes.
     pub(crate) fn of(alloc: Global, bytes: Option<&[u8]>) -> Result<CaseTar, AllocError>
-        ensures { IfOk result (λ tar. case_tar_state tar ≡ refused_times 0) }
+        ensures { IfOk result (λ tar. case_tar_state tar ≡ refused_times 0 []) }
     {
         let archive = match bytes {
             Some(bytes) => Some(MemoryArchive::of(alloc, bytes)?),
@@ -27,12 +28,14 @@ impl CaseTar {
         Ok(CaseTar {
             archive,
             refusals: Heard::new(),
+            asked: AskedPlaces::nothing(),
         })
     }
 
     fn read(&mut self, at: u64, buffer: &mut [u8]) -> Result<usize, Unread>
         ensures within { IfOk result (λ n. n ≤ length buffer.old) }
         ensures same { self.new.refusals ≡ self.old.refusals }
+        ensures asked { self.new.asked ≡ self.old.asked }
     {
         if buffer.is_empty() {
             return Ok(0);
@@ -48,6 +51,7 @@ impl Archive for CaseTar {
     ghost state = { case_tar_state };
 
     fn read_at(&mut self, at: u64, buffer: &mut [u8]) -> Result<usize, Unread> {
+        self.asked.note(at, buffer.len());
         match self.read(at, buffer) {
             Ok(count) => Ok(count),
             Err(Unread) => {

@@ -1,5 +1,5 @@
 //! Disks in memory for the program.
-ghost use Rattle.std.specs.Prelude.{◌≡◌, ⊤, IfOk};
+ghost use Rattle.std.specs.Prelude.{◌≡◌, [], ⊤, IfOk};
 ghost use Rattle.bag_cli.specs.SystemTar.{refused_times};
 ghost use Rattle.test_disk.specs.MemoryDisk.{state_of};
 ghost use Rattle.test_disk.specs.Refusing.{refusing};
@@ -53,7 +53,7 @@ impl Disks for World {
 
     ghost below = { λ world. unclaimed world.disks };
 
-    ghost archived = { λ _ _. refused_times 0 };
+    ghost archived = { λ _ _. refused_times 0 [] };
 
     ghost file = { λ _ _ _. ⊤ };
 
