@@ -17,6 +17,7 @@ use Rattle.bag_renew.proofs.ManyChanges.{not_named_all}
 use Rattle.bag_renew.proofs.OneChange.{AreOfFiles, IsFileName, IsLevel, all_level, at_change, at_changes}
 use Rattle.bag_renew.proofs.OneChange.{itself_level, level_on, name_of, with_change, with_changes}
 use Rattle.bag_renew.proofs.Staying.{IsWritten, no_begun}
+use Rattle.bag_renew.proofs.ReservedNames.{begun_is_reserved, is_reserved}
 
 none_there : (d : Bag) (path : List ℕ) → ((q c : List ℕ) → file d q ≡ Some c → IsWithin path q → ⊥)
     → has_within d path ≡ false
@@ -48,10 +49,11 @@ module _ (bag : Bag) (way : IsOutOfTheWay bag) where
 
   is_free : (b : Bag) → IsLevel bag b → file b begun_file ≡ None → IsFree b begun_file
   is_free b level none = record {
-    no_folder = ap (λ s. set.contains s begun_file) level.folders ∙ way.begun;
+    no_folder = ap (λ s. set.contains s begun_file) level.folders ∙ way begun_file begun_is_reserved;
     no_file = none_there b begun_file (λ q c at within. elim within [
       | inl itself ↦ false≢true (sym (ap is_some none) ∙ ap (λ p. is_some (file b p)) (sym itself) ∙ ap is_some at)
-      | inr below ↦ level.below begun_file below.0 c (refl, way.begun) (ap (file b) (sym below.1) ∙ at)
+      | inr below ↦ level.below begun_file below.0 c (refl, way begun_file begun_is_reserved)
+          (ap (file b) (sym below.1) ∙ at)
     ]);
   }
 
@@ -82,14 +84,15 @@ module _ (bag : Bag) (way : IsOutOfTheWay bag) where
 
 module _ (bag : Bag) (renewal : Renewal) (is : IsBag bag) (way : IsOutOfTheWay bag) where
   file_name : (tag : TagName) → IsWritten tag → IsFileName bag (tag_path tag)
-  file_name tag written = (in_base tag, way.tags tag)
+  file_name tag written = (in_base tag, way (tag_path tag) (is_reserved tag written))
 
   opening_are : AreOfFiles bag (opening bag renewal)
   opening_are = of_removes bag renewal (IsFileName bag) file_name Tag (algs_where (has_tag_manifest bag))
 
   clearing_are : AreOfFiles bag (clearing bag renewal)
   clearing_are =
-      of_clearing bag renewal (IsFileName bag) file_name (refl, way.begun) (has_file bag begun_file)
+      of_clearing bag renewal (IsFileName bag) file_name (refl, way begun_file begun_is_reserved)
+      (has_file bag begun_file)
 
   back_others : AllByRecursion (λ c. begun_file ≢ name_of c) (back bag renewal)
   back_others = of_back bag renewal (λ n. begun_file ≢ n) (λ tag written. no_begun tag)

@@ -10,6 +10,7 @@ use Rattle.bag_renew.proofs.Common.{tag_manifests, with_path, writes_info, Renew
 use Rattle.bag_tags.specs.OnLines.{text_on_lines}
 use Rattle.bag_renew.proofs.ManyChanges.{all_both}
 use Rattle.bag_renew.proofs.Staying.{IsWritten}
+use Rattle.bag_renew.proofs.ReservedNames.{begun_is_reserved, is_reserved}
 use Rattle.bag_renew.proofs.OneChange.{AreOfFiles, IsFileName, name_of}
 
 module _ (bag : Bag) (renewal : Renewal) where
@@ -101,4 +102,6 @@ module _ (bag : Bag) (renewal : Renewal) where
           (all_both Of (clearing bag renewal) back (of_clearing (has_file bag begun_file)) of_back)
 
   pub are_of_files : IsOutOfTheWay bag → AreOfFiles bag (changes bag renewal)
-  are_of_files way = of_changes (IsFileName bag) (λ tag written. (in_base tag, way.tags tag)) (refl, way.begun)
+  are_of_files way =
+      of_changes (IsFileName bag) (λ tag written. (in_base tag, way (tag_path tag) (is_reserved tag written)))
+      (refl, way begun_file begun_is_reserved)

@@ -8,6 +8,7 @@ use Rattle.std.proofs.lemmas.List.Elements.{All-from_recursion}
 use Rattle.std.proofs.lemmas.List.Kept.{IsStrictlySortedBy-filter}
 use Rattle.std.proofs.lemmas.Simd.{map-map}
 use Rattle.std.specs.List.Sorted.{IsStrictlySortedBy}
+use Rattle.std.specs.Option.{option_map}
 use Rattle.std.specs.Prelude.{All}
 use Rattle.std.specs.Str.{chars, is_utf8}
 use Rattle.bag_text.specs.Code.{stage}
@@ -19,6 +20,7 @@ use Rattle.bag_text.proofs.ListOf.{each_from_members, nothing_listed}
 use Rattle.bag_facts.proofs.Mapped.{kept, passed}
 use Rattle.bag_facts.specs.FactsOfBag.{IsFactsOf}
 use Rattle.bag_facts.specs.FaultOrder.{fault_cmp}
+use Rattle.bag_facts.specs.Given.{GivesTagFiles}
 use Rattle.bag_facts.specs.TagReader.{OpensAll}
 use Rattle.bag_facts.specs.Wanted.{IsWanted, paths_of}
 use Rattle.bag_facts.specs.declared.facts.Facts.{Facts}
@@ -49,6 +51,7 @@ use Rattle.bag_tree.specs.DigestsOf.{sum_at}
 use Rattle.bag_tree.specs.Bag.{IsBag}
 use Rattle.bag_tree.specs.Tree.{Keeps, TreeState}
 use Rattle.bag_tree.specs.declared.listing.FileEntry.{FileEntry}
+use Rattle.bag_tree.specs.declared.listing.Listing.{Listing}
 use Rattle.bag_facts.proofs.Found.{held_at, listed, same_files}
 use Rattle.bag_renew.proofs.GivenDigests.{are_compared, read_are}
 use Rattle.bag_renew.specs.Compared.{AreCompared}
@@ -56,7 +59,7 @@ use Rattle.bag_renew.specs.FirstFaults.{HasNoneBefore, IsFaultBy, IsFirst, IsFou
 use Rattle.bag_renew.specs.NewManifests.{AreOfSameBytes, HasChecked, HasCheckedAll, IsRefusedFor}
 use Rattle.bag_renew.specs.NewManifests.{OpensRead, OpensTwice, manifests_for}
 use Rattle.bag_renew.specs.Renewed.{entries_of}
-use Rattle.bag_renew.specs.Summed.{AreChecked, AreSummed, IsDifferenceIn, IsFaultyFile, IsRight, files_to_read}
+use Rattle.bag_renew.specs.Summed.{AreGivenAndChecked, AreSummed, IsDifferenceIn, IsFaultyFile, IsRight, files_to_read}
 use Rattle.bag_tree.specs.Listing.{entry_of_file}
 use Rattle.bag_renew.specs.Summed.{is_to_read, payload_of, to_read}
 use Rattle.bag_renew.specs.Valid.{IsDamage}
@@ -276,13 +279,20 @@ module _ (facts : Facts) (algs : List Alg) (old mid new : TreeState) (options : 
     }
 
     pub has_checked : (with_payload : Bool) (summed : List SummedFile) (info : List ℕ)
-        → ((bag : Bag) × IsBag bag × IsFactsOf bag facts) → OpensAll full facts.listing.files old mid
+        → ((bag : Bag) × IsBag bag × IsFactsOf bag facts × GivesTagFiles full bag facts.listing.files old mid)
+        → OpensAll full facts.listing.files old mid
         → new.openings ≡ mid.openings ++ paths_of (to_read with_payload facts.listing.files)
-        → AreChecked mid facts (to_read with_payload facts.listing.files) algs summed info
+        → new.listed ≡ mid.listed
+        → AreGivenAndChecked mid new facts (to_read with_payload facts.listing.files) algs summed info
         → HasChecked facts with_payload algs old new summed info
-    has_checked with_payload summed info seen (tags, wanted, opened) then checked = record {
+    has_checked with_payload summed info (bag, is_bag, of_it, first) (tags, wanted, opened) then still all = record {
       options = options;
-      seen = seen;
+      bag = bag;
+      is_bag = is_bag;
+      of_it = of_it;
+      listed = ap (option_map (λ (l : Listing). l.files)) still ∙ first.listed;
+      given = first.tags;
+      given_are = first.tags_are;
       none = none;
       tags = tags;
       ascend = wanted.ascending;
@@ -292,14 +302,15 @@ module _ (facts : Facts) (algs : List Alg) (old mid new : TreeState) (options : 
       opened = then ∙ ap (λ xs. xs ++ paths_of (to_read with_payload facts.listing.files)) opened;
       of_bag = of;
       checked = record {
-        files = checked.files;
-        info_of = checked.info_of;
-        listed = checked.listed;
-        right = checked.right;
-        sums = checked.sums;
-        honest = λ h. subst (λ bag. All (λ (e : File). file bag e.0 ≡ Some e.1) checked.files) keeps.bag
-            (checked.honest (keeps.honest ∙ h));
+        files = all.are.files;
+        info_of = all.are.info_of;
+        listed = all.are.listed;
+        right = all.are.right;
+        sums = all.are.sums;
+        honest = λ h. subst (λ bag. All (λ (e : File). file bag e.0 ≡ Some e.1) all.are.files) keeps.bag
+            (all.are.honest (keeps.honest ∙ h));
       };
+      gave = all.gave ∙ ap (λ before. before ++ all.are.files) first.gave;
     }
 
 -- what a manifest says of the payload among files with their digests
@@ -346,11 +357,12 @@ all_files (e ∷ files) = ap (λ others. e ∷ others) (all_files files)
 -- of a bag that was checked
 module _ (facts : Facts) (with_payload : Bool) (algs : List Alg) (old new : TreeState) (summed : List SummedFile)
     (info : List ℕ) (h : HasChecked facts with_payload algs old new summed info) where
-  -- over any tree: of each bag with what is known, they were compared
-  pub compared : (bag : Bag) → IsFactsOf bag facts → AreCompared bag with_payload h.checked.files
-  compared bag of =
-      are_compared facts bag of with_payload (deep facts bag of h.options) h.checked.files h.checked.listed
-      (λ e c. All-contains (IsRight facts) h.checked.files e h.checked.right c)
+  -- over any tree they were compared
+  pub compared : AreCompared h.bag with_payload h.checked.files old new
+  compared =
+      are_compared facts h.bag h.of_it with_payload (deep facts h.bag h.of_it h.options) h.checked.files
+      h.checked.listed (λ e c. All-contains (IsRight facts) h.checked.files e h.checked.right c) old new h.is_bag
+      h.listed h.given h.given_are h.gave
 
 module _ (facts : Facts) (with_payload : Bool) (algs : List Alg) (old new : TreeState) (summed : List SummedFile)
     (info : List ℕ) (h : HasChecked facts with_payload algs old new summed info) (honest : IsTrue old.honest) where
@@ -426,15 +438,14 @@ module _ (rules : Rules) (algs : List Alg) (old new : TreeState) (summed : List 
   -- the manifests are those of its payload, whatever tree it is
   pub same_bytes : (made : List File)
       → made ≡ manifests_by rules Payload algs (filter (λ one. is_payload_path one.path) summed)
-      → AreOfSameBytes algs made
+      → AreOfSameBytes algs old new made
   same_bytes made is = record {
-    bag = all.2.seen.0;
-    is_bag = all.2.seen.1;
+    bag = all.2.bag;
     files = all.2.checked.files;
-    compared = compared all.0 true algs old new summed all.1 all.2 all.2.seen.0 all.2.seen.2;
+    compared = compared all.0 true algs old new summed all.1 all.2;
     made_of = is
         ∙ manifests_are algs all.2.checked.files summed all.2.checked.sums rules
-        ∙ ap (λ by. manifests_for by algs (payload_of all.2.checked.files)) (all.3 all.2.seen.0 all.2.seen.2);
+        ∙ ap (λ by. manifests_for by algs (payload_of all.2.checked.files)) (all.3 all.2.bag all.2.of_it);
   }
 
   module _ (honest : IsTrue old.honest) where

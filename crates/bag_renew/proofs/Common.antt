@@ -48,10 +48,12 @@ pub use Rattle.bag_tree.specs.Steps.{Files, create}
 pub use Rattle.bag_tree.specs.declared.file_change.FileChange.{FileChange}
 pub use Rattle.bag_tree.specs.declared.file_change.FileChange.TheVariants.{Put, Remove}
 pub use Rattle.bag_renew.specs.Changes.{after, changes, clearing, closing, dropping, opening, put, putting, unkept}
-pub use Rattle.bag_renew.specs.Laws.{ChangesKeepPayload, ChangesRenew, HasKnownManifests, IsOutOfTheWay}
+pub use Rattle.bag_renew.specs.Laws.{ChangesKeepPayload, ChangesRenew, HasKnownManifests}
 pub use Rattle.bag_renew.specs.Renewed.{File, algs_where, begun_file, declaration_file, has_payload_manifest}
 pub use Rattle.bag_renew.specs.Renewed.{has_tag_manifest, info_files, is_kept, is_kept_alg, is_new_alg, keeps, kept_or}
 pub use Rattle.bag_renew.specs.Renewed.{kept_tag_files, manifest, named_tag_files, new_algs, new_elements, new_rules}
 pub use Rattle.bag_renew.specs.Renewed.{new_tag_files, payload_manifest, payload_manifests, renewed, stays}
 pub use Rattle.bag_renew.specs.Renewed.{tag_manifests, with_path, writes_info}
+pub use Rattle.bag_renew.specs.Reserved.{IsOutOfTheWay, reserved_names}
+unfoldable pub use Rattle.bag_renew.specs.Reserved.{manifest_names}
 pub use Rattle.bag_renew.specs.declared.renewal.Renewal.{Renewal}

@@ -188,10 +188,7 @@ module _ (bag : Bag) (renewal : Renewal) (left : Bag) (can : CanRenewInPlace bag
   same_folder name = ap (λ s. set.contains s name) are.folders
 
   way : IsOutOfTheWay left
-  way = record {
-    begun = same_folder begun_file ∙ can.way.begun;
-    tags = λ tag. same_folder (tag_path tag) ∙ can.way.tags tag;
-  }
+  way name has = same_folder name ∙ can.way name has
 
   names_none : NoTagManifestNamesBegun left
   names_none = elim on [

@@ -224,10 +224,10 @@ seventh_of path content [] fault rest e = cc
 seventh_of path content (one ∷ expected) fault rest e =
     grind (arith, differing_stage (kind_of path), seventh_of path content expected fault rest)
 
-pub seventh_of_bytes : (state : TreeState) (entry : FileEntry) (expected : List Expected) (e : Unchecked)
-    → IsUnchecked state entry expected e → IsOfSeventh e
-seventh_of_bytes state entry expected (Stopped stop) h = tt
-seventh_of_bytes state entry expected (Faulty fault) (content, rest, read, same) =
+pub seventh_of_bytes : (old new : TreeState) (entry : FileEntry) (expected : List Expected) (e : Unchecked)
+    → IsUnchecked old new entry expected e → IsOfSeventh e
+seventh_of_bytes old new entry expected (Stopped stop) h = tt
+seventh_of_bytes old new entry expected (Faulty fault) (content, rest, read, same) =
     seventh_of entry.path content expected fault rest same
 
 pub seventh_for_memory : (e : Unchecked) → IsNoMemory e → IsOfSeventh e

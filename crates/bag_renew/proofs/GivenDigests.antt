@@ -2,7 +2,7 @@
 use Rattle.bag_renew.proofs.Common.{◌≡◌, ◌≢◌, ◌∙◌, ◌++◌, ◌∷◌, ℕ, Bool, true, false, cond, List, [], None}
 use Rattle.bag_renew.proofs.Common.{Some, Contains, arith, refl, sym, ap, subst, map, bytes_eq, codes}
 use Rattle.bag_renew.proofs.Common.{bytes_eq-Decides, contains_mapped, contains_nothing, mapped_contains, Alg, Bag, File}
-use Rattle.bag_renew.proofs.Common.{file, files_of, Kind}
+use Rattle.bag_renew.proofs.Common.{file, files_of, IsBag, Kind}
 use Rattle.hex.specs.Hex.{encode_lower}
 use Rattle.std.proofs.lemmas.List.{append_cancel_right}
 use Rattle.std.proofs.lemmas.List.Elements.{All-from_recursion}
@@ -11,11 +11,14 @@ use Rattle.bag_text.specs.Order.{IsListOf}
 use Rattle.bag_read.proofs.ManifestEntries.{entry_named, entry_of_path_once}
 use Rattle.bag_read.proofs.PickedOut.{is_picked, picked}
 use Rattle.bag_read.specs.declared.manifest.ManifestEntry.{ManifestEntry}
+use Rattle.std.specs.Option.{option_map}
 use Rattle.bag_facts.proofs.Mapped.{kept}
 use Rattle.bag_facts.specs.Facts.{rules_in}
 use Rattle.bag_facts.specs.FactsOfBag.{IsFactsOf}
 use Rattle.bag_facts.specs.FaultOrder.{fault_cmp}
+use Rattle.bag_facts.specs.Given.{AreTagFiles}
 use Rattle.bag_facts.specs.declared.facts.Facts.{Facts}
+use Rattle.bag_report.specs.Valid.{full}
 use Rattle.bag_facts.specs.declared.fault.Fault.{Fault}
 use Rattle.bag_facts.specs.declared.options.Depth.TheVariants.{Declaration}
 use Rattle.bag_stages.proofs.NamesByKind.{entry_kind}
@@ -27,6 +30,7 @@ use Rattle.bag_stages.specs.ValidityStage.{IsEntryIn, IsOfValidity, expected_and
 use Rattle.bag_stages.specs.Expected.{Expected}
 use Rattle.bag_tree.proofs.ListingLaw.{listings_are_of_the_bag}
 use Rattle.bag_tree.specs.Digest.{digest}
+use Rattle.bag_tree.specs.Tree.{TreeState}
 use Rattle.bag_tree.specs.declared.listing.FileEntry.{FileEntry}
 use Rattle.bag_facts.proofs.Found.{held_at}
 use Rattle.bag_renew.specs.Compared.{AreCompared, HasGivenDigests}
@@ -169,9 +173,17 @@ module _ (facts : Facts) (bag : Bag) (of : IsFactsOf bag facts) (with_payload : 
           given_digests bag e m.0.1 r.expected there (r.given.algs bag of deep) (r.given.faults bag of deep m.0.1 there)
           r.right
 
-      pub are_compared : AreCompared bag with_payload files
-      are_compared = record {
-        listed = listed ∙ read_are;
+      pub are_compared : (old new : TreeState) → IsBag bag
+          → option_map (λ listing. listing.files) new.listed ≡ Some facts.listing.files
+          → (tags : List File) → AreTagFiles full bag tags → new.gave ≡ (old.gave ++ tags) ++ files
+          → AreCompared bag with_payload files old new
+      are_compared old new is_bag was tags tags_are gave = record {
+        is_bag = is_bag;
+        listed = was ∙ ap Some (listings_are_of_the_bag bag facts.listing of.ordered of.listing);
+        tags = tags;
+        tags_are = tags_are;
+        gave = gave;
+        entries = listed ∙ read_are;
         right =
             All-from_recursion (HasGivenDigests bag) files
             (each_from_members (HasGivenDigests bag) files its_digests);

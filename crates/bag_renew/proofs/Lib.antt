@@ -55,6 +55,7 @@ pub mod RenewedAgain
 pub mod RenewedAlike
 pub mod RenewedNames
 pub mod ReplacedAgain
+pub mod ReservedNames
 pub mod SamePayload
 pub mod SomeChanges
 pub mod Staying

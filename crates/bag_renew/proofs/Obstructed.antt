@@ -1,35 +1,35 @@
 -- What the listed files of a bag tell of what keeps it from being renewed.
-use Rattle.bag_renew.proofs.Common.{◌≡◌, ◌≢◌, ◌⊎◌, ◌∷◌, ◌++◌, ◌&&◌, ◌||◌, ◌∙◌, ℕ, List, [], Bool, true, false, not, map}
-use Rattle.bag_renew.proofs.Common.{Option, None, Some, refl, sym, ap, subst, inl, inr, arith, Contains, append_assoc}
+use Rattle.bag_renew.proofs.Common.{◌≡◌, ◌≢◌, ◌⊎◌, ◌∷◌, ◌&&◌, ◌||◌, ◌∙◌, ℕ, List, [], Bool, true, false, not, map}
+use Rattle.bag_renew.proofs.Common.{Option, None, Some, refl, sym, ap, subst, inl, inr, arith, Contains}
 use Rattle.bag_renew.proofs.Common.{any_from, from_any, false≢true, cond, contains_behind, contains_cases}
-use Rattle.bag_renew.proofs.Common.{contains_either, contains_first, contains_mapped, contains_nothing, mapped_contains}
-use Rattle.bag_renew.proofs.Common.{list_any, and_from, and_parts, tag_path, algs, Alg, Kind, Payload, Tag}
-use Rattle.bag_renew.proofs.Common.{TagName, Declaration, Info, Fetch, Manifest, bytes_eq-Decides, codes, false_from_ne_true}
-use Rattle.bag_renew.proofs.Common.{first_component, get_or, is_payload_path, suc, take, zero}
-use Rattle.bag_renew.proofs.Common.{Bag, HasFile, files_of, has_file, under, keeps, new_algs, new_rules, Renewal}
+use Rattle.bag_renew.proofs.Common.{contains_first, contains_nothing}
+use Rattle.bag_renew.proofs.Common.{list_any, and_parts, tag_path, algs, Payload}
+use Rattle.bag_renew.proofs.Common.{Fetch, bytes_eq-Decides}
+use Rattle.bag_renew.proofs.Common.{is_payload_path}
+use Rattle.bag_renew.proofs.Common.{Bag, HasFile, files_of, has_file, keeps, new_algs, new_rules, Renewal}
 use Rattle.bag_renew.proofs.Common.{begun_file, bytes_eq, is_kept_alg, IsTrue, rules_in}
-use Rattle.std.specs.Prelude.{MatchOption, find}
 use Rattle.std.specs.Option.{option_map}
+use Rattle.std.specs.Prelude.{MatchOption, find}
 use Rattle.std.proofs.lemmas.Simd.{map-map}
-use Rattle.bag_text.specs.Path.{slash}
 use Rattle.bag_text.specs.declared.rules.Rules.{Rules}
 use Rattle.bag_text.specs.declared.rules.Rules.TheVariants.{V10, V097}
-use Rattle.bag_facts.proofs.ListedFiles.{file_listed, listed_file}
-use Rattle.bag_facts.specs.FactsOfBag.{IsByV097, IsFactsOf}
+use Rattle.bag_facts.proofs.ListedFiles.{file_listed}
+use Rattle.bag_facts.specs.FactsOfBag.{IfBagRead, IsByV097, IsFactsOf}
 use Rattle.bag_facts.specs.declared.facts.Facts.{Facts}
 use Rattle.bag_stages.specs.TagFiles.{named_in}
 use Rattle.bag_tags.specs.Writable as by_rules
 use Rattle.bag_tree.proofs.ListingLaw.{listings_are_of_the_bag}
-use Rattle.bag_tree.proofs.Within.{prefix_test}
+use Rattle.bag_tree.specs.Tree.{NothingFailed, TreeState}
 use Rattle.bag_tree.specs.declared.listing.FileEntry.{FileEntry}
 use Rattle.bag_renew.proofs.AlgsMade.{same_truth}
-use Rattle.bag_renew.specs.Obstacles.{AreFree, HasBelow, HasNoObstacle, IsInTheWay, IsNamedAsTag, first_unlisted}
-use Rattle.bag_renew.specs.Obstacles.{first_unnameable, has_percent, is_below, is_below_some, is_named_by_kept}
-use Rattle.bag_renew.specs.Obstacles.{is_unlisted, is_unnameable, is_unnameable_by, keeps_naming}
-use Rattle.bag_renew.specs.Obstacles.{manifest_names, paths_of, reserved_names}
+use Rattle.bag_renew.specs.Obstacles.{CanNameFiles, IsFreeToChange, IsHindered, IsNamedAsTag, IsObstacle}
+use Rattle.bag_renew.specs.Obstacles.{first_unlisted, first_unnameable, has_percent, is_named_by_kept}
+use Rattle.bag_renew.specs.Obstacles.{is_unlisted, is_unnameable, is_unnameable_by, keeps_naming, paths_of}
 use Rattle.bag_renew.specs.Renewed.{is_v10, writes_payload_manifest}
 use Rattle.bag_renew.specs.Telling.{AreStillListed, IsNamedByKept, IsToBeNamed}
 use Rattle.bag_tree.specs.Listing.{entry_of_file}
+use Rattle.bag_renew.specs.declared.fault.RenewFault.{RenewFault}
+use Rattle.bag_renew.specs.declared.fault.RenewFault.TheVariants as why
 
 module _ {A : Type 0} (p : A → Bool) where
   found_by : (b : Bool) (y : A) (xs : List A) (x : A) → p y ≡ b
@@ -64,78 +64,6 @@ found_mapped : {A B : Type 0} (f : A → B) (test : B → Bool) (xs : List A)
     → option_map f (find (λ x. test (f x)) xs) ≡ find test (map f xs)
 found_mapped f test [] = refl
 found_mapped f test (x ∷ xs) = grind (arith, find, found_mapped f test xs)
-
--- a path below a name is the name, a slash and more
-below_is : (name path : List ℕ) → is_below name path ≡ true → (rest : List ℕ) × (path ≡ under name rest)
-below_is name path is =
-    let front : List ℕ = name ++ slash ∷ [] in (
-      _,
-      (prefix_test front path).0 is
-          ∙ append_assoc name (slash ∷ []) _,
-    )
-
-is_below_it : (name rest : List ℕ) → is_below name (under name rest) ≡ true
-is_below_it name rest =
-    (prefix_test (name ++ slash ∷ []) (under name rest)).1 rest (sym (append_assoc name (slash ∷ []) rest))
-
-abbrev manifests : List (List ℕ)
-manifests = manifest_names Payload ++ manifest_names Tag
-
--- a path of the payload begins with a d
-front_begins : (n : ℕ) (path : List ℕ) → take n path ≡ codes "data" → get_or path 0 0 ≡ 100
-front_begins zero path same = let clash : [] ≡ codes "data" = same in cc
-front_begins (suc n) [] same = let clash : [] ≡ codes "data" = same in cc
-front_begins (suc n) (c ∷ rest) same = ap (λ front. get_or front 0 0) same
-
-its_folder : (path : List ℕ) → is_payload_path path ≡ true → first_component path ≡ codes "data"
-its_folder path is = grind (arith, and_parts, bytes_eq-Decides)
-
-payload_begins : (path : List ℕ) → is_payload_path path ≡ true → get_or path 0 0 ≡ 100
-payload_begins path is = front_begins _ path (its_folder path is)
-
--- no path below a reserved name is of the payload
-module _ (rest : List ℕ) where
-  outside : (name : List ℕ) → get_or (under name rest) 0 0 ≢ 100 → is_payload_path (under name rest) ≡ false
-  outside name other = false_from_ne_true _ (λ is. other (payload_begins (under name rest) is))
-
-  below_tag : (tag : TagName) → is_payload_path (under (tag_path tag) rest) ≡ false
-  below_tag Declaration = outside (tag_path Declaration) (λ e. omega (arith, e))
-  below_tag Info = outside (tag_path Info) (λ e. omega (arith, e))
-  below_tag Fetch = outside (tag_path Fetch) (λ e. omega (arith, e))
-  below_tag (Manifest Payload alg) = outside (tag_path (Manifest Payload alg)) (λ e. omega (arith, e))
-  below_tag (Manifest Tag alg) = outside (tag_path (Manifest Tag alg)) (λ e. omega (arith, e))
-
-  below_begun : is_payload_path (under begun_file rest) ≡ false
-  below_begun = outside begun_file (λ e. omega (arith, e))
-
-  below_same : (one name : List ℕ) → one ≡ name → is_payload_path (under one rest) ≡ false
-      → is_payload_path (under name rest) ≡ false
-  below_same one name same is = ap (λ n. is_payload_path (under n rest)) (sym same) ∙ is
-
-  below_kind : (kind : Kind) (name : List ℕ) → Contains (manifest_names kind) name
-      → is_payload_path (under name rest) ≡ false
-  unfolding manifest_names
-  below_kind kind name has =
-      let one = contains_mapped (λ (alg : Alg). tag_path (Manifest kind alg)) algs name has in
-      below_same (tag_path (Manifest kind one.0)) name one.2 (below_tag (Manifest kind one.0))
-
-  below_manifest : (name : List ℕ) → Contains manifests name → is_payload_path (under name rest) ≡ false
-  below_manifest name has = elim (contains_either (manifest_names Payload) (manifest_names Tag) name has) [
-    | inl payload ↦ below_kind Payload name payload
-    | inr tag ↦ below_kind Tag name tag
-  ]
-
-below_reserved : (name rest : List ℕ) → Contains reserved_names name → is_payload_path (under name rest) ≡ false
-below_reserved name rest has = elim (contains_cases (tag_path Declaration) (tag_path Info ∷ begun_file ∷ manifests) name has) [
-  | inl is ↦ below_same rest (tag_path Declaration) name is (below_tag rest Declaration)
-  | inr others ↦ elim (contains_cases (tag_path Info) (begun_file ∷ manifests) name others) [
-    | inl is ↦ below_same rest (tag_path Info) name is (below_tag rest Info)
-    | inr more ↦ elim (contains_cases begun_file manifests name more) [
-      | inl is ↦ below_same rest begun_file name is (below_begun rest)
-      | inr manifest ↦ below_manifest rest name manifest
-    ]
-  ]
-]
 
 first_false : (a b : Bool) → (a || b) ≡ false → a ≡ false
 first_false true b e = e
@@ -193,54 +121,6 @@ module _ (bag : Bag) (facts : Facts) (of : IsFactsOf bag facts) where
   path_there : (name : List ℕ) → HasFile bag name → Contains (map path files) name
   path_there name has = file_listed bag files name of.listing.files has
 
-  -- a file stands below a name, as a listed one does
-  below_there : (entry : FileEntry) (name : List ℕ) → Contains files entry → is_below name entry.path ≡ true
-      → HasBelow bag name
-  below_there entry name c is =
-      let below = below_is name entry.path is in (
-        below.0,
-        subst (HasFile bag) below.1
-            (listed_file bag files entry.path of.listing.files (mapped_contains path files entry c)),
-      )
-
-  module _ (listed : List FileEntry) (same : listed ≡ files) (names : List (List ℕ)) (reserved : names ≡ reserved_names)
-    where
-      abbrev is_found : FileEntry → Bool
-      is_found entry = is_below_some names entry.path
-
-      name_found : (found : Option (List ℕ)) (entry : FileEntry) (P : Type 0) → Contains files entry
-          → list_any (λ name. is_below name entry.path) names ≡ true
-          → found ≡ find (λ name. is_below name entry.path) names → MatchOption found P (IsInTheWay bag)
-      name_found (Some name) entry P c some e =
-          let is = found_passes (λ name. is_below name entry.path) names name (sym e) in
-          inl (subst (λ xs. Contains xs name) reserved is.0, below_there entry name c is.1)
-      name_found None entry P c some e =
-          let is = from_any (λ name. is_below name entry.path) names some in
-          absurd (false≢true
-          (sym (none_passes (λ name. is_below name entry.path) names is.0 (sym e) is.1) ∙ is.2))
-
-      -- a file below a reserved name was found, and then that name
-      pub in_the_way : (entry : FileEntry) (at : List ℕ) (found : Option (List ℕ)) (P : Type 0)
-          → Some entry ≡ find is_found listed → at ≡ entry.path → found ≡ find (λ name. is_below name at) names
-          → MatchOption found P (IsInTheWay bag)
-      in_the_way entry at found P first is e =
-          let this = found_passes is_found listed entry (sym first) in
-          name_found found entry P (subst (λ xs. Contains xs entry) same this.0)
-          (and_parts (not (is_payload_path entry.path)) (list_any (λ name. is_below name entry.path) names) this.1).1
-          (e ∙ ap (λ p. find (λ name. is_below name p) names) is)
-
-      -- or none
-      pub are_free : None ≡ find is_found listed → AreFree bag
-      are_free none name has (rest, there) =
-          let some = contains_mapped path files (under name rest) (path_there (under name rest) there) in
-          let above = any_from (λ n. is_below n some.0.path) names name
-          (subst (λ xs. Contains xs name) (sym reserved) has) (ap (is_below name) some.2 ∙ is_below_it name rest) in
-          let other : not (is_payload_path some.0.path) ≡ true =
-          ap (λ p. not (is_payload_path p)) some.2 ∙ ap not (below_reserved name rest has) in
-          false≢true
-          (sym (none_passes is_found listed some.0 (sym none) (subst (λ xs. Contains xs some.0) (sym same) some.1))
-          ∙ and_from (not (is_payload_path some.0.path)) (list_any (λ n. is_below n some.0.path) names) other above)
-
   among_paths : (name : List ℕ) → HasFile bag name → Contains (paths_of bag) name
   among_paths name has = subst (λ paths. Contains paths name) paths_are (path_there name has)
 
@@ -294,21 +174,35 @@ kept_or_not : (k : Bool) (P : Type 0) → (k ≡ false → P) → (k ≡ true) �
 kept_or_not true P old = inl refl
 kept_or_not false P old = inr (old refl)
 
--- nothing keeps the bag from being renewed, where each of these doesn't
-module _ (bag : Bag) (renewal : Renewal) (facts : Facts) (of : IsFactsOf bag facts)
-    (fetch : (not (keeps bag renewal) && has_file bag (tag_path Fetch)) ≡ false)
-    (some_alg : new_algs bag renewal ≢ []) (free : AreFree bag) (own : ¬ (IsNamedAsTag bag begun_file))
-    (none : first_unnameable bag renewal ≡ None) (listed : AreStillListed bag renewal) where
-  pub no_obstacle : HasNoObstacle bag renewal
-  no_obstacle = record {
-    fetch = fetch_by (keeps bag renewal) (has_file bag (tag_path Fetch)) fetch;
-    some_alg = some_alg;
-    free = free;
-    own = own;
-    nameable = nameable bag facts of renewal none;
-    spelled = kept_or_not (keeps bag renewal) _ (λ old name has. unescaped bag facts of renewal none name has old);
-    listed = listed;
-  }
+-- what is asked can be done, where none of these keeps from it
+pub free_to_change : (bag : Bag) (renewal : Renewal)
+    → (not (keeps bag renewal) && has_file bag (tag_path Fetch)) ≡ false → new_algs bag renewal ≢ []
+    → ¬ (IsNamedAsTag bag begun_file) → IsFreeToChange bag renewal
+free_to_change bag renewal fetch some_alg own = record {
+  fetch = fetch_by (keeps bag renewal) (has_file bag (tag_path Fetch)) fetch;
+  some_alg = some_alg;
+  own = own;
+}
+
+-- and the files can be named
+pub can_name_files : (bag : Bag) (renewal : Renewal) (facts : Facts) → IsFactsOf bag facts
+    → first_unnameable bag renewal ≡ None → AreStillListed bag renewal → CanNameFiles bag renewal
+can_name_files bag renewal facts of none listed = record {
+  nameable = nameable bag facts of renewal none;
+  spelled = kept_or_not (keeps bag renewal) _ (λ old name has. unescaped bag facts of renewal none name has old);
+  listed = listed;
+}
+
+-- ---- an obstacle was found
+
+module _ (facts : Facts) (renewal : Renewal) (old new : TreeState) where
+  -- by what is known of the bag
+  pub hindered_by_facts : (fault : RenewFault) → IfBagRead facts (λ bag. IsObstacle bag renewal fault)
+      → NothingFailed old new → IsHindered facts renewal old new fault
+  hindered_by_facts (why.InTheWay n) h calm = λ honest of deep. h old.bag of deep
+  hindered_by_facts (why.ReadStopped s) h calm = λ bag of deep. absurd (h bag of deep)
+  hindered_by_facts why.Memory h calm = inr calm
+  hindered_by_facts fault h calm = h
 
 -- ---- what the rules, or a manifest that is written, tell of what is listed
 

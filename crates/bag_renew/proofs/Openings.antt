@@ -4,6 +4,7 @@ use Rattle.bag_renew.proofs.Common.{List, [], All, All-append, All-contains, All
 use Rattle.bag_renew.proofs.Common.{append-nil, append_assoc, arith, false≢true, false_from_ne_true, is_payload_path}
 use Rattle.bag_renew.proofs.Common.{keeps, map, new_algs, refl, subst, sym, take, has_member}
 use Rattle.bag_renew.proofs.Common.{has_payload_manifest, is_new_alg, text_cmp, Bag, File, IsBag, Renewal, files_of, rules_in}
+use Rattle.bag_renew.proofs.Common.{IsOutOfTheWay}
 use Rattle.std.proofs.lemmas.List.{take-append-drop}
 use Rattle.std.proofs.lemmas.List.Elements.{All-from_recursion, All-take}
 use Rattle.std.proofs.lemmas.List.Folds.{list_any_none}
@@ -14,6 +15,8 @@ use Rattle.std.specs.Prelude.{drop}
 use Rattle.bag_facts.proofs.Mapped.{kept as among}
 use Rattle.bag_facts.proofs.Opens.{front_ascends, opens_none}
 use Rattle.bag_facts.specs.FactsOfBag.{IfBagRead, IsFactsOf}
+use Rattle.bag_facts.specs.Given.{GivesTagFiles}
+use Rattle.bag_facts.specs.TagReader.{OpensAll}
 use Rattle.bag_facts.specs.Wanted.{IsWanted, OpensWanted, paths_of}
 use Rattle.bag_facts.specs.declared.facts.Facts.{Facts}
 use Rattle.bag_facts.specs.declared.fault.Fault.{Fault}
@@ -21,6 +24,8 @@ use Rattle.bag_text.specs.Code.{stage}
 use Rattle.bag_text.proofs.ListOf.{each_from_members}
 use Rattle.bag_tree.specs.Tree.{TreeState}
 use Rattle.bag_tree.specs.declared.listing.FileEntry.{FileEntry}
+use Rattle.bag_tree.specs.declared.listing.Listing.{Listing}
+use Rattle.std.specs.Option.{option_map}
 use Rattle.bag_tree.specs.declared.tree_fault.Stop.{Stop}
 use Rattle.bag_renew.proofs.AlgsMade.{kept_is}
 use Rattle.bag_renew.proofs.AlgsWhere.{passes}
@@ -189,7 +194,7 @@ tag_path_only path (name, at, wants) =
     (λ is. no_payload_tag name (ap is_payload_path at ∙ is))
 
 module _ (renewal : Renewal) (old new : TreeState)
-    (h : OpensInTurn (λ bag. reads_payload bag renewal) (IsReadyFor renewal) old new) where
+    (h : OpensInTurn (λ bag. reads_payload bag renewal) (IsReadyFor renewal old) old new) where
   abbrev NoPayload : List (List ℕ) → Type 0
   NoPayload paths = All (λ path. is_payload_path path ≡ false) paths
 
@@ -217,27 +222,49 @@ module _ (renewal : Renewal) (old new : TreeState)
 
 -- ---- of a renewal
 
+-- the tag files were opened, and then none for a while
+pub wanted_still : (old mid now : TreeState) → OpensWanted full old mid → now.openings ≡ mid.openings
+    → OpensWanted full old now
+wanted_still old mid now (paths, opened, ascend, wanted) same = (paths, same ∙ opened, ascend, wanted)
+
+pub all_still : (files : List FileEntry) (old mid now : TreeState) → OpensAll full files old mid
+    → now.openings ≡ mid.openings → OpensAll full files old now
+all_still files old mid now (paths, wanted, opened) same = (paths, wanted, same ∙ opened)
+
+pub gives_still : (bag : Bag) (files : List FileEntry) (old mid now : TreeState)
+    → GivesTagFiles full bag files old mid → now.listed ≡ mid.listed → now.gave ≡ mid.gave
+    → GivesTagFiles full bag files old now
+gives_still bag files old mid now h same gave = record {
+  listed = ap (option_map (λ (l : Listing). l.files)) same ∙ h.listed;
+  tags = h.tags;
+  tags_are = h.tags_are;
+  gave = gave ∙ h.gave;
+}
+
 module _ (renewal : Renewal) (old mid new : TreeState) (is_bag : IsBag old.bag) where
   pub for_renewal_of_tags : OpensWanted full old new → OpensForRenewal renewal old new
   for_renewal_of_tags tags =
       for_renewal renewal old new
-      (tags_alone (λ bag. reads_payload bag renewal) (IsReadyFor renewal) old new new is_bag tags)
+      (tags_alone (λ bag. reads_payload bag renewal) (IsReadyFor renewal old) old new new is_bag tags)
 
   pub for_renewal_of_none : new.openings ≡ old.openings → OpensForRenewal renewal old new
   for_renewal_of_none same = for_renewal_of_tags (opens_none full old new same)
 
   pub for_renewal_of_files : (facts : Facts) → facts.options ≡ full
       → ((bag : Bag) × IsBag bag × IsFactsOf bag facts) → (IsTrue old.honest → IsFactsOf old.bag facts)
-      → OpensWanted full old mid → (algs : List Alg) → AllowsRenewal facts renewal algs → (b : Bool)
+      → OpensWanted full old mid → (algs : List Alg) → AllowsRenewal facts renewal algs
+      → (IsTrue old.honest → IsOutOfTheWay old.bag) → (b : Bool)
       → IfBagRead facts (λ bag. b ≡ reads_payload bag renewal)
       → OpensFirstToRead b facts.listing.files mid new → OpensForRenewal renewal old new
-  for_renewal_of_files facts options seen of tags algs allows b reads first =
+  for_renewal_of_files facts options seen of tags algs allows way b reads first =
       for_renewal renewal old new
-      (then_first (λ bag. reads_payload bag renewal) (IsReadyFor renewal) old mid new is_bag facts seen of tags b
+      (then_first (λ bag. reads_payload bag renewal) (IsReadyFor renewal old) old mid new is_bag facts seen of tags b
       (λ bag is. reads bag is (deep facts bag is options))
       (λ bag is. record {
         none_early = none_early facts bag is options allows.none;
-        no_obstacle = allows.no_obstacle bag is (deep facts bag is options);
+        free = allows.free bag is (deep facts bag is options);
+        way = way;
+        names = allows.names bag is (deep facts bag is options);
         info = allows.info bag is (deep facts bag is options);
       })
       first)
@@ -246,7 +273,7 @@ pub for_renewal_still : (renewal : Renewal) (old read new : TreeState) → Opens
     → new.openings ≡ read.openings → OpensForRenewal renewal old new
 for_renewal_still renewal old read new h same =
     for_renewal renewal old new
-    (still_in_turn (λ bag. reads_payload bag renewal) (IsReadyFor renewal) old read new h.in_turn same)
+    (still_in_turn (λ bag. reads_payload bag renewal) (IsReadyFor renewal old) old read new h.in_turn same)
 
 -- ---- of further manifests
 

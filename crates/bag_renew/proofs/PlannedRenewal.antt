@@ -31,13 +31,12 @@ module _ (renewal : Renewal) (old new : TreeState) (facts : Facts) (summed : Lis
       (is : IfBagRead facts (λ bag. (files : List File) → AreSummed (new_algs bag renewal) files summed
       → is_some info ≡ writes_info bag renewal → made ≡ changes_from bag renewal files info)) where
     -- over any tree they are of the files that were read
-    compared : ChangesCompared renewal made
+    compared : ChangesCompared renewal old new made
     compared =
         let bag = has.seen.0 in
         let far = deep renewal old new facts summed read has in
         let after = is_info bag has.seen.2 far in record {
           bag = bag;
-          is_bag = has.seen.1;
           files = has.files;
           compared = has.compared;
           old_info = read;

@@ -30,9 +30,14 @@ use Rattle.bag_renew.specs.Compared.{AreCompared}
 use Rattle.bag_renew.specs.FirstFaults.{HasNoneBefore, IsFirst, IsFoundFirst, IsLookedFor}
 use Rattle.bag_renew.specs.NewInfo.{IsInfoRefusal}
 use Rattle.bag_renew.specs.NewManifests.{HasChecked, OpensRead}
-use Rattle.bag_renew.specs.Obstacles.{HasNoObstacle, IsObstacle}
-use Rattle.bag_renew.specs.Reading.{AllowsRenewal, HasNoEarlyFault, HasReadBag, IsRefusalOf, IsRefusalOfStop}
-use Rattle.bag_renew.specs.Reading.{IsRefusedByFacts, MayRefuseReading, MayStopReadingBag}
+use Rattle.bag_renew.proofs.Openings.{all_still}
+use Rattle.bag_renew.proofs.ReservedNames.{reserved_in_base}
+use Rattle.bag_renew.specs.Folders.{IsRefusedLook, OpensNothing}
+use Rattle.bag_renew.specs.Obstacles.{CanNameFiles, HasNoObstacle, IfOwn, IsFreeToChange, IsHindered, IsInTheWay}
+use Rattle.bag_renew.specs.Obstacles.{IsObstacle}
+use Rattle.bag_renew.specs.Reading.{AllowsRenewal, HasNoEarlyFault, HasReadBag, IsNotReady, IsOfLook, IsRefusalOf}
+use Rattle.bag_renew.specs.Reading.{IsRefusalOfStop, MayRefuseReading, MayStopReadingBag}
+use Rattle.bag_renew.specs.Reserved.{IsOutOfTheWay, reserved_names}
 use Rattle.bag_renew.specs.Renewed.{reads_payload}
 use Rattle.bag_renew.specs.Stops.{AreOpened, IsOfFile, IsRefusedAmong, MayStop, MayStopUnchecked, StopsAtFile}
 use Rattle.bag_renew.specs.Stops.{StopsChecking}
@@ -103,9 +108,10 @@ unchecked_for_memory old new (checked.Faulty fault) memory calm = absurd memory
 
 refused_path : (with_payload : Bag → Bool) (old new : TreeState) (stop : Stop) → (IsOutOfMemory stop → ⊥)
     → IsOutOfMemory stop ⊎ IsOfListing old new stop ⊎ IsOfFile with_payload old new stop
-    → IsOfListing old new stop ⊎ IsOfFile with_payload old new stop
+    → IsOfListing old new stop ⊎ IsOfLook old new stop ⊎ IsOfFile with_payload old new stop
 refused_path with_payload old new stop not (inl memory) = absurd (not memory)
-refused_path with_payload old new stop not (inr other) = other
+refused_path with_payload old new stop not (inr (inl listing)) = inl listing
+refused_path with_payload old new stop not (inr (inr of_file)) = inr (inr of_file)
 
 pub refused_stop : (renewal : Renewal) (old new : TreeState) (stop : Stop) (fault : RenewFault)
     → MayStop (λ bag. reads_payload bag renewal) old new stop → IsRefusalOfStop stop fault
@@ -130,9 +136,10 @@ refused_stop renewal old new stop (why.RemoveRefused n q) h is = absurd is
 
 -- ---- what is known allows no renewal
 
-module _ (renewal : Renewal) (facts : Facts) where
-  pub refused_by_obstacle : (fault : RenewFault) → HasNoneBefore facts 7
-      → IfBagRead facts (λ bag. IsObstacle bag renewal fault) → IsRefusedByFacts facts renewal fault
+module _ (renewal : Renewal) (facts : Facts) (old new : TreeState) where
+  -- an obstacle was found
+  pub refused_by_obstacle : (fault : RenewFault) → HasNoneBefore facts 7 → IsHindered facts renewal old new fault
+      → IsNotReady facts renewal old new fault
   refused_by_obstacle (why.Faulty f) none h = λ deep bag of. absurd (h bag of deep)
   refused_by_obstacle why.BadValue none h = (none, λ bag of deep. absurd (h bag of deep))
   refused_by_obstacle why.NoAlgorithm none h = (none, h)
@@ -140,47 +147,55 @@ module _ (renewal : Renewal) (facts : Facts) where
   refused_by_obstacle (why.Unnameable p) none h = (none, h)
   refused_by_obstacle (why.Unlisted p) none h = (none, h)
   refused_by_obstacle why.Fetch none h = (none, h)
-  refused_by_obstacle (why.ReadStopped s) none h = (none, h)
-  refused_by_obstacle why.Memory none h = tt
+  refused_by_obstacle (why.ReadStopped s) none h = h
+  refused_by_obstacle why.Memory none h = h
   refused_by_obstacle (why.PutRefused n q) none h = (none, h)
   refused_by_obstacle (why.RemoveRefused n q) none h = (none, h)
 
   -- an element can't be written
   pub refused_by_info : (fault : RenewFault) → HasNoneBefore facts 7
-      → IfBagRead facts (λ bag. HasNoObstacle bag renewal)
+      → IfBagRead facts (λ bag. IsFreeToChange bag renewal) → (IsTrue old.honest → IsOutOfTheWay old.bag)
+      → IfBagRead facts (λ bag. CanNameFiles bag renewal)
       → IfBagRead facts (λ bag. IsInfoRefusal bag renewal (lines_in bag bag_info_txt) fault)
-      → IsRefusedByFacts facts renewal fault
-  refused_by_info why.BadValue none free h = (none, λ bag of deep. (free bag of deep, h bag of deep))
-  refused_by_info why.Memory none free h = tt
-  refused_by_info (why.Faulty f) none free h = λ deep bag of. absurd (h bag of deep).1
-  refused_by_info why.NoAlgorithm none free h = (none, λ bag of deep. absurd (h bag of deep).1)
-  refused_by_info (why.InTheWay n) none free h = (none, λ bag of deep. absurd (h bag of deep).1)
-  refused_by_info (why.Unnameable p) none free h = (none, λ bag of deep. absurd (h bag of deep).1)
-  refused_by_info (why.Unlisted p) none free h = (none, λ bag of deep. absurd (h bag of deep).1)
-  refused_by_info why.Fetch none free h = (none, λ bag of deep. absurd (h bag of deep).1)
-  refused_by_info (why.ReadStopped s) none free h = (none, λ bag of deep. absurd (h bag of deep).1)
-  refused_by_info (why.PutRefused n q) none free h = (none, λ bag of deep. absurd (h bag of deep).1)
-  refused_by_info (why.RemoveRefused n q) none free h = (none, λ bag of deep. absurd (h bag of deep).1)
+      → NothingFailed old new → IsNotReady facts renewal old new fault
+  refused_by_info (why.Faulty f) none free way names h calm = λ deep bag of. absurd (h bag of deep).1
+  refused_by_info why.BadValue none free way names h calm =
+      (none, λ bag of deep. (free bag of deep, way, names bag of deep, h bag of deep))
+  refused_by_info why.NoAlgorithm none free way names h calm = (none, λ bag of deep. absurd (h bag of deep).1)
+  refused_by_info (why.InTheWay n) none free way names h calm =
+      (none, λ honest of deep. absurd (h old.bag of deep).1)
+  refused_by_info (why.Unnameable p) none free way names h calm = (none, λ bag of deep. absurd (h bag of deep).1)
+  refused_by_info (why.Unlisted p) none free way names h calm = (none, λ bag of deep. absurd (h bag of deep).1)
+  refused_by_info why.Fetch none free way names h calm = (none, λ bag of deep. absurd (h bag of deep).1)
+  refused_by_info (why.ReadStopped s) none free way names h calm = λ bag of deep. absurd (h bag of deep).1
+  refused_by_info why.Memory none free way names h calm = inr calm
+  refused_by_info (why.PutRefused n q) none free way names h calm = (none, λ bag of deep. absurd (h bag of deep).1)
+  refused_by_info (why.RemoveRefused n q) none free way names h calm = (none, λ bag of deep. absurd (h bag of deep).1)
 
-  memory_by_stage : (stop : Stop) (fault : RenewFault) → IsOutOfMemory stop → IsRefusalOfStop stop fault
-      → IsRefusedByFacts facts renewal fault
-  memory_by_stage stop why.Memory memory is = tt
-  memory_by_stage stop (why.ReadStopped s) memory is = absurd (is.1 memory.0)
-  memory_by_stage stop (why.Faulty f) memory is = absurd is
-  memory_by_stage stop why.BadValue memory is = absurd is
-  memory_by_stage stop why.NoAlgorithm memory is = absurd is
-  memory_by_stage stop (why.InTheWay n) memory is = absurd is
-  memory_by_stage stop (why.Unnameable p) memory is = absurd is
-  memory_by_stage stop (why.Unlisted p) memory is = absurd is
-  memory_by_stage stop why.Fetch memory is = absurd is
-  memory_by_stage stop (why.PutRefused n q) memory is = absurd is
-  memory_by_stage stop (why.RemoveRefused n q) memory is = absurd is
+  memory_by_stage : (fault : RenewFault) (stop : Stop) → IsOutOfMemory stop → IsRefusalOfStop stop fault
+      → NothingFailed old new → IsNotReady facts renewal old new fault
+  memory_by_stage (why.Faulty f) stop memory is calm = absurd is
+  memory_by_stage why.BadValue stop memory is calm = absurd is
+  memory_by_stage why.NoAlgorithm stop memory is calm = absurd is
+  memory_by_stage (why.InTheWay n) stop memory is calm = absurd is
+  memory_by_stage (why.Unnameable p) stop memory is calm = absurd is
+  memory_by_stage (why.Unlisted p) stop memory is calm = absurd is
+  memory_by_stage why.Fetch stop memory is calm = absurd is
+  memory_by_stage (why.ReadStopped s) stop memory is calm = absurd (is.1 memory.0)
+  memory_by_stage why.Memory stop memory is calm = inr calm
+  memory_by_stage (why.PutRefused n q) stop memory is calm = absurd is
+  memory_by_stage (why.RemoveRefused n q) stop memory is calm = absurd is
 
   pub refused_by_stage : (e : Unchecked) (fault : RenewFault) → IsFoundFirst facts e → IsRefusalOf e fault
-      → IsRefusedByFacts facts renewal fault
-  refused_by_stage (checked.Stopped stop) fault h is = memory_by_stage stop fault h is
-  refused_by_stage (checked.Faulty found) fault h is =
-      subst (IsRefusedByFacts facts renewal) (sym is) (λ deep. h)
+      → NothingFailed old new → IsNotReady facts renewal old new fault
+  refused_by_stage (checked.Stopped stop) fault h is calm = memory_by_stage fault stop h is calm
+  refused_by_stage (checked.Faulty found) fault h is calm =
+      subst (IsNotReady facts renewal old new) (sym is) (λ deep. h)
+
+-- of an honest tree's own bag, from what it was when the facts had been read
+pub own_way : (old mid : TreeState) → Keeps old mid → (IsTrue mid.honest → IsOutOfTheWay mid.bag) → IsTrue old.honest
+    → IsOutOfTheWay old.bag
+own_way old mid keeps way honest = subst IsOutOfTheWay keeps.bag (way (keeps.honest ∙ honest))
 
 -- ---- after the facts were read
 
@@ -294,24 +309,32 @@ module _ (renewal : Renewal) (facts : Facts) (old mid new : TreeState) (options 
   deep : facts.options.depth ≢ Declaration
   deep e = let at : full.depth ≡ Declaration = sym (ap (λ (o : Options). o.depth) options) ∙ e in cc
 
+  no_obstacle : (algs : List Alg) → AllowsRenewal facts renewal algs → (IsTrue old.honest → IsOutOfTheWay old.bag)
+      → IsTrue old.honest → HasNoObstacle old.bag renewal
+  no_obstacle algs allows way honest = record {
+    free = allows.free old.bag (of honest) deep;
+    way = way honest;
+    names = allows.names old.bag (of honest) deep;
+  }
+
   -- a file was refused, or has another digest
   pub refused_by_check : OpensAll full facts.listing.files old mid → (algs : List Alg)
-      → AllowsRenewal facts renewal algs → (with_payload : Bool)
+      → AllowsRenewal facts renewal algs → (IsTrue old.honest → IsOutOfTheWay old.bag) → (with_payload : Bool)
       → IfBagRead facts (λ bag. with_payload ≡ reads_payload bag renewal)
       → (e : Unchecked) (fault : RenewFault) → StopsChecking (to_read with_payload facts.listing.files) mid new e
       → IsFaultyFile facts (to_read with_payload facts.listing.files) mid e → IsRefusalOf e fault
       → MayRefuseReading renewal old new fault
-  refused_by_check tags algs allows with_payload reads (checked.Stopped stop) fault stops faulty is =
+  refused_by_check tags algs allows way with_payload reads (checked.Stopped stop) fault stops faulty is =
       refused_stop renewal old new stop fault
       (stop_at_file facts old mid new seen of keeps calm tags (λ bag. reads_payload bag renewal) with_payload
       (λ bag is. reads bag is deep) stop stops)
       is
-  refused_by_check tags algs allows with_payload reads (checked.Faulty found) fault stops faulty is =
+  refused_by_check tags algs allows way with_payload reads (checked.Faulty found) fault stops faulty is =
       subst (MayRefuseReading renewal old new) (sym is)
       (λ honest. (
         subst (λ b. IsFirst (IsLookedFor old.bag b) found) (reads old.bag (of honest) deep)
             (first_looked_for facts algs old mid new options of keeps allows.none with_payload found faulty honest),
-        λ seventh. allows.no_obstacle old.bag (of honest) deep,
+        λ seventh. no_obstacle algs allows way honest,
       ))
 
   its_obstacle : (fault : RenewFault)
@@ -320,27 +343,59 @@ module _ (renewal : Renewal) (facts : Facts) (old mid new : TreeState) (options 
   its_obstacle fault h honest =
       (none_early facts old.bag (of honest) options h.0, h.1 old.bag (of honest) deep)
 
-  -- what is known allows no renewal
-  pub refused_by_facts : (fault : RenewFault) → IsRefusedByFacts facts renewal fault
-      → MayRefuseReading renewal old mid fault
-  refused_by_facts (why.Faulty f) h = λ honest. let found = h deep old.bag (of honest) in (
-    first_early facts old.bag (of honest) options (reads_payload old.bag renewal) f found.0 found.1,
-    λ seventh. absurd (omega (arith, seventh, found.0)),
-  )
-  refused_by_facts why.Memory h = inr calm
-  refused_by_facts why.BadValue h = inr (λ honest. let is = h.1 old.bag (of honest) deep in
-      (none_early facts old.bag (of honest) options h.0, is.0, is.1.0, is.1.1))
-  refused_by_facts (why.ReadStopped s) h = absurd (h.1 seen.0 seen.2 deep)
-  refused_by_facts (why.PutRefused n q) h = absurd (h.1 seen.0 seen.2 deep)
-  refused_by_facts (why.RemoveRefused n q) h = absurd (h.1 seen.0 seen.2 deep)
-  refused_by_facts why.NoAlgorithm h = its_obstacle why.NoAlgorithm h
-  refused_by_facts (why.InTheWay n) h = its_obstacle (why.InTheWay n) h
-  refused_by_facts (why.Unnameable p) h = its_obstacle (why.Unnameable p) h
-  refused_by_facts (why.Unlisted p) h = its_obstacle (why.Unlisted p) h
-  refused_by_facts why.Fetch h = its_obstacle why.Fetch h
+  -- what is known allows no renewal, or a folder
+  module _ (now : TreeState) (still : OpensNothing mid now) (tags : OpensAll full facts.listing.files old mid) where
+    folder_there : (name : List ℕ) → HasNoneBefore facts 7 × IfOwn facts mid (IsInTheWay mid.bag name)
+        → IsTrue old.honest → HasNoEarlyFault old.bag × IsInTheWay old.bag name
+    folder_there name h honest = (
+      none_early facts old.bag (of honest) options h.0,
+      subst (λ (bag : Bag). IsInTheWay bag name) keeps.bag
+          (h.1 (keeps.honest ∙ honest) (subst (λ (bag : Bag). IsFactsOf bag facts) (sym keeps.bag) (of honest)) deep),
+    )
+
+    look_stopped : (stop : Stop) → IsRefusedLook reserved_names mid now stop → MayStopReadingBag renewal old now stop
+    look_stopped stop look =
+        let is_one = (and_parts _ _ (reserved_in_base stop.path look.named)).0 in record {
+          cause = later_refusal old mid now stop.cause keeps look.cause;
+          not_memory = look.not_memory;
+          answered = inr (inr (path_some stop.path is_one, look.answered));
+          path =
+              inr (inl (record {
+                named = look.named;
+                in_turn = (
+                  facts.listing,
+                  seen.2.ordered,
+                  (λ honest. (of honest).listing),
+                  all_still facts.listing.files old mid now tags still.openings,
+                );
+              }));
+        }
+
+    pub refused_by_facts : (fault : RenewFault) → IsNotReady facts renewal mid now fault
+        → MayRefuseReading renewal old now fault
+    refused_by_facts (why.Faulty f) h = λ honest. let found = h deep old.bag (of honest) in (
+      first_early facts old.bag (of honest) options (reads_payload old.bag renewal) f found.0 found.1,
+      λ seventh. absurd (omega (arith, seventh, found.0)),
+    )
+    refused_by_facts why.Memory h = memory_then old mid now calm h
+    refused_by_facts why.BadValue h = inr (λ honest. let is = h.1 old.bag (of honest) deep in (
+      none_early facts old.bag (of honest) options h.0,
+      record { free = is.0; way = own_way old mid keeps is.1 honest; names = is.2 },
+      is.3.0,
+      is.3.1,
+    ))
+    refused_by_facts (why.ReadStopped s) h = look_stopped s (h seen.0 seen.2 deep)
+    refused_by_facts (why.PutRefused n q) h = absurd (h.1 seen.0 seen.2 deep)
+    refused_by_facts (why.RemoveRefused n q) h = absurd (h.1 seen.0 seen.2 deep)
+    refused_by_facts (why.InTheWay n) h = folder_there n h
+    refused_by_facts why.NoAlgorithm h = its_obstacle why.NoAlgorithm h
+    refused_by_facts (why.Unnameable p) h = its_obstacle (why.Unnameable p) h
+    refused_by_facts (why.Unlisted p) h = its_obstacle (why.Unlisted p) h
+    refused_by_facts why.Fetch h = its_obstacle why.Fetch h
 
   -- all was read and checked
-  module _ (algs : List Alg) (allows : AllowsRenewal facts renewal algs) (with_payload : Bool)
+  module _ (algs : List Alg) (allows : AllowsRenewal facts renewal algs)
+      (way : IsTrue old.honest → IsOutOfTheWay old.bag) (with_payload : Bool)
       (reads : IfBagRead facts (λ bag. with_payload ≡ reads_payload bag renewal))
       (summed : List SummedFile) (info : List ℕ) (h : HasChecked facts with_payload algs old new summed info) where
     pub has_read_bag : IsBag old.bag → Keeps old new → NothingFailed old new
@@ -351,20 +406,20 @@ module _ (renewal : Renewal) (facts : Facts) (old mid new : TreeState) (options 
         no_failure = never;
         opened = λ honest. subst (λ b. OpensRead b old new) (reads old.bag (of honest) deep)
             (opens_read facts with_payload algs old new summed info h honest);
-        can = λ honest. let free = allows.no_obstacle old.bag (of honest) deep in record {
+        can = λ honest. let none = no_obstacle algs allows way honest in record {
           is_bag = is_bag;
           damaged = damaged facts with_payload algs old new summed info h honest;
-          fetch = free.fetch;
-          nameable = free.nameable;
-          listed = free.listed;
-          some_alg = free.some_alg;
+          fetch = none.free.fetch;
+          nameable = none.names.nameable;
+          listed = none.names.listed;
+          some_alg = none.free.some_alg;
         };
         valid = λ honest all.
             none_at_all facts with_payload algs old new summed info h honest (reads old.bag (of honest) deep ∙ all);
-        no_obstacle = λ honest. allows.no_obstacle old.bag (of honest) deep;
+        no_obstacle = no_obstacle algs allows way;
       };
       options = options;
-      seen = seen;
+      seen = (h.bag, h.is_bag, h.of_it);
       of_bag = of;
       sums = λ honest.
           subst (λ some. AreSummed some (files_to_read (reads_payload old.bag renewal) (files_of old.bag)) summed)
@@ -372,8 +427,8 @@ module _ (renewal : Renewal) (facts : Facts) (old mid new : TreeState) (options 
           (subst (λ b. AreSummed algs (files_to_read b (files_of old.bag)) summed) (reads old.bag (of honest) deep)
           (sums_are facts with_payload algs old new summed info h honest));
       files = h.checked.files;
-      compared = subst (λ b. AreCompared seen.0 b h.checked.files) (reads seen.0 seen.2 deep)
-          (compared facts with_payload algs old new summed info h seen.0 seen.2);
+      compared = subst (λ b. AreCompared h.bag b h.checked.files old new) (reads h.bag h.of_it deep)
+          (compared facts with_payload algs old new summed info h);
       summed_of = λ bag is.
           subst (λ some. AreSummed some h.checked.files summed) (allows.new bag is deep) h.checked.sums;
       info_of = h.checked.info_of;

@@ -20,7 +20,8 @@ use Rattle.bag_renew.specs.Checked.{IsKeptOf, IsUnchecked}
 use Rattle.bag_renew.specs.declared.checked.Unchecked.{Unchecked}
 use Rattle.bag_renew.specs.declared.checked.Unchecked.TheVariants.{Faulty, Stopped}
 use Rattle.bag_renew.specs.Renewed.{File}
-use Rattle.bag_renew.specs.Summed.{AreChecked, AreSummed, HasItsSums, IsCheckedFile, IsFaultyFile, IsGivenFor}
+use Rattle.bag_renew.specs.Summed.{AreChecked, AreGivenAndChecked, AreSummed, HasItsSums, IsCheckedFile}
+use Rattle.bag_renew.specs.Summed.{IsFaultyFile, IsGivenFor}
 use Rattle.bag_renew.specs.Summed.{IsInfoAmong, IsNoMemory, IsRight, is_to_read, to_read}
 use Rattle.bag_tree.specs.Listing.{entry_of_file}
 use Rattle.bag_tags.specs.declared.summed.SummedFile.{SummedFile}
@@ -53,13 +54,28 @@ info_more files info e (Some bytes) so_far (path, same) =
     inl (subst (Contains (files ++ e ∷ [])) (λ i. (path i, sym same i))
     (contains_back files (e ∷ []) e (contains_first e [])))
 
+-- the same files were, where the entries are the same
+abbrev of_entries : (old : TreeState) (facts : Facts) (entries others : List FileEntry) (algs : List Alg)
+    (sums : List SummedFile) (info : List ℕ) → entries ≡ others → AreChecked old facts entries algs sums info
+    → AreChecked old facts others algs sums info
+of_entries old facts entries others algs sums info same h = record {
+  files = h.files;
+  info_of = h.info_of;
+  listed = h.listed ∙ same;
+  right = h.right;
+  sums = h.sums;
+  honest = h.honest;
+}
+
 -- the first of the listed files were checked and summed
 pub record ChecksFirst (facts : Facts) (files : List FileEntry) (count : ℕ) (with_payload : Bool) (algs : List Alg)
     (old new : TreeState) (sums : List SummedFile) (info : List ℕ) : Type 0 where
   pub keeps : Keeps old new
   pub no_failure : NothingFailed old new
   pub opened : new.openings ≡ old.openings ++ paths_of (to_read with_payload (take count files))
+  pub listed : new.listed ≡ old.listed
   pub checked : AreChecked old facts (to_read with_payload (take count files)) algs sums info
+  pub gave : new.gave ≡ old.gave ++ checked.files
 
 pub checks_none : (facts : Facts) (files : List FileEntry) (with_payload : Bool) (algs : List Alg) (old : TreeState)
     → ChecksFirst facts files 0 with_payload algs old old [] []
@@ -67,6 +83,8 @@ checks_none facts files with_payload algs old = record {
   keeps = keeps_itself old;
   no_failure = nothing_asked old;
   opened = sym (append-nil old.openings);
+  listed = refl;
+  gave = sym (append-nil old.gave);
   checked = record {
     files = [];
     info_of = inr (refl, λ x c. absurd (contains_nothing x c));
@@ -96,7 +114,9 @@ module _ (facts : Facts) (files : List FileEntry) (i : ℕ) (entry : FileEntry) 
         keeps = before.keeps;
         no_failure = before.no_failure;
         opened = before.opened ∙ ap (λ xs. old.openings ++ paths_of xs) (sym same);
-        checked = subst (λ xs. AreChecked old facts xs algs summed info) (sym same) before.checked;
+        listed = before.listed;
+        checked = of_entries old facts _ _ algs summed info (sym same) before.checked;
+        gave = before.gave;
       }
 
 module _ (facts : Facts) (files : List FileEntry) (i : ℕ) (entry : FileEntry) (with_payload : Bool) (algs : List Alg)
@@ -107,7 +127,7 @@ module _ (facts : Facts) (files : List FileEntry) (i : ℕ) (entry : FileEntry) 
   pub next : to_read with_payload (take (i + 1) files) ≡ to_read with_payload (take i files) ++ entry ∷ []
   next = listed_next facts files i entry with_payload algs old mid new summed info lt is before true read
 
-  added : (one : SummedFile) (kept : Option (List ℕ)) → IsCheckedFile mid facts entry algs one kept
+  abbrev added : (one : SummedFile) (kept : Option (List ℕ)) → IsCheckedFile mid new facts entry algs one kept
       → AreChecked old facts (to_read with_payload (take (i + 1) files)) algs (summed ++ one ∷ []) (unwrap_or kept info)
   added one kept e =
       let so_far = before.checked in
@@ -133,9 +153,20 @@ module _ (facts : Facts) (files : List FileEntry) (i : ℕ) (entry : FileEntry) 
   -- one more was
   pub checks_one_more : (after : List SummedFile) (one : SummedFile) (kept : Option (List ℕ))
       → after ≡ summed ++ one ∷ [] → Keeps mid new → NothingFailed mid new
-      → new.openings ≡ mid.openings ++ entry.path ∷ [] → IsCheckedFile mid facts entry algs one kept
+      → new.openings ≡ mid.openings ++ entry.path ∷ [] → new.listed ≡ mid.listed
+      → IsCheckedFile mid new facts entry algs one kept
       → ChecksFirst facts files (i + 1) with_payload algs old new after (unwrap_or kept info)
-  checks_one_more after one kept e k no_failure once s = grind (arith, keeps_on, nothing_then, opened_more, added)
+  checks_one_more after one kept e k no_failure once still s =
+      subst (λ sums. ChecksFirst facts files (i + 1) with_payload algs old new sums (unwrap_or kept info)) (sym e)
+      (record {
+        keeps = keeps_on old mid new before.keeps k;
+        no_failure = nothing_then old mid new before.no_failure no_failure;
+        opened = opened_more once;
+        listed = still ∙ before.listed;
+        checked = added one kept s;
+        gave = s.gave ∙ ap (λ so_far. so_far ++ (entry.path, s.content) ∷ []) before.gave
+            ∙ append_assoc old.gave before.checked.files ((entry.path, s.content) ∷ []);
+      })
 
 -- a path in a list of one
 pub only_path : (path other : List ℕ) → Contains (path ∷ []) other → other ≡ path
@@ -143,9 +174,9 @@ only_path path other c =
     elim (contains_cases path [] other c) [ inl same ↦ sym same | inr none ↦ absurd (contains_nothing other none) ]
 
 -- a file was found to have another digest, or was refused
-module _ (facts : Facts) (state : TreeState) where
+module _ (facts : Facts) (state new : TreeState) where
   pub faulty_file : (entry : FileEntry) (expected : List Expected) (e : Unchecked)
-      → IsGivenFor facts entry.path expected → IsUnchecked state entry expected e
+      → IsGivenFor facts entry.path expected → IsUnchecked state new entry expected e
       → IsFaultyFile facts (entry ∷ []) state e
   faulty_file entry expected (Stopped stop) given h = tt
   faulty_file entry expected (Faulty fault) given (content, rest, read, same) = λ honest of deep up.
@@ -171,9 +202,11 @@ module _ (facts : Facts) (files : List FileEntry) (count : ℕ) (with_payload : 
   pub opens_all : new.openings ≡ old.openings ++ paths_of (to_read with_payload files)
   opens_all = all.opened ∙ ap (λ xs. old.openings ++ paths_of (to_read with_payload xs)) (take_all count files le)
 
-  pub checks_all : AreChecked old facts (to_read with_payload files) algs summed info
-  checks_all =
-      subst (λ xs. AreChecked old facts (to_read with_payload xs) algs summed info) (take_all count files le) all.checked
+  pub checks_all : AreGivenAndChecked old new facts (to_read with_payload files) algs summed info
+  checks_all = record {
+    are = of_entries old facts _ _ algs summed info (ap (to_read with_payload) (take_all count files le)) all.checked;
+    gave = all.gave;
+  }
 
 -- for the checking of files, and of one of them
 pub ruleset summing = (

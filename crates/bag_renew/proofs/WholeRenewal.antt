@@ -99,10 +99,10 @@ module _ (renewal : Renewal) (old new : TreeState) where
     refused = told_before fault keeps h;
     opens = opens;
     opens_before = before;
-    any_moment = λ honest noted way.
+    any_moment = λ honest noted.
         nothing_asked (IsAfterFirst begun_file (changes old.bag renewal) old.bag) old.bag old.trail new.trail
         keeps.trail;
-    no_new_fault = λ honest noted way size.
+    no_new_fault = λ honest noted size.
         nothing_asked (HasNoNewFault old.bag) old.bag old.trail new.trail keeps.trail;
     lasting = tt;
   }
@@ -117,7 +117,10 @@ module _ (renewal : Renewal) (old read new : TreeState) (planned : List FileChan
   untouched : is_bad_request renewal.elements ≡ true → new ≡ old
   untouched bad = absurd (false≢true (sym plan.asked ∙ bad))
 
-  module _ (honest : IsTrue old.honest) (way : IsOutOfTheWay old.bag) where
+  module _ (honest : IsTrue old.honest) where
+    way : IsOutOfTheWay old.bag
+    way = (plan.read.bag.no_obstacle honest).way
+
     can_all : CanChangeAll begun_file planned read.bag
     can_all =
         rw (keeps.bag, plan.changes_are honest)
@@ -144,10 +147,10 @@ module _ (renewal : Renewal) (old read new : TreeState) (planned : List FileChan
     no_new_one noted size outlasts =
         let in_place : CanRenewInPlace old.bag renewal = record {
           can = plan.read.bag.can honest;
-          spelled = (plan.read.bag.no_obstacle honest).spelled;
+          spelled = (plan.read.bag.no_obstacle honest).names.spelled;
           info = good_info size;
           way = way;
-          begun = λ alg named. (plan.read.bag.no_obstacle honest).own (alg, named);
+          begun = λ alg named. (plan.read.bag.no_obstacle honest).free.own (alg, named);
         } in
         each_then (IsAfterFirst begun_file (changes old.bag renewal) old.bag) (HasNoNewFault old.bag) old.bag old.trail
         new.trail (λ left after f is. (each_cut_has_old_faults old.bag renewal left in_place after f is).1)
@@ -189,16 +192,16 @@ module _ (renewal : Renewal) (old read new : TreeState) (planned : List FileChan
       read = read;
       plan = plan;
       changed = changed;
-      bag = λ honest way. renewed_bag honest way changed;
+      bag = λ honest. renewed_bag honest changed;
     };
-    valid = λ honest way size. its_faults honest way changed size;
+    valid = λ honest size. its_faults honest changed size;
     dropped = plan.dropped;
     refused = tt;
     opens = for_renewal_still renewal old read new opens changed.openings;
     opens_before = tt;
-    any_moment = λ honest noted way. at_any_moment honest way noted outlasts;
-    no_new_fault = λ honest noted way size. no_new_one honest way noted size outlasts;
-    lasting = λ honest noted way. lasts honest way noted lasting;
+    any_moment = λ honest noted. at_any_moment honest noted outlasts;
+    no_new_fault = λ honest noted size. no_new_one honest noted size outlasts;
+    lasting = λ honest noted. lasts honest noted lasting;
   }
 
   told_stopped : (fault : RenewFault) → HasStoppedAt planned read new fault
@@ -233,8 +236,8 @@ module _ (renewal : Renewal) (old read new : TreeState) (planned : List FileChan
         refused = told_stopped fault h;
         opens = for_renewal_still renewal old read new opens (left.3 ∙ so_far.openings);
         opens_before = none_before_it fault h;
-        any_moment = λ honest noted way. at_any_moment honest way noted outlasts;
-        no_new_fault = λ honest noted way size. no_new_one honest way noted size outlasts;
+        any_moment = λ honest noted. at_any_moment honest noted outlasts;
+        no_new_fault = λ honest noted size. no_new_one honest noted size outlasts;
         lasting = tt;
       }
 

@@ -1,6 +1,6 @@
 -- Files that were read once, to compare their digests and to compute new ones.
-use Rattle.std.specs.Prelude.{ℕ, ◌≡◌, ◌≢◌, List, [], ◌∷◌, Option, Some, Contains, IsTrue, length}
-use Rattle.std.specs.Prelude.{MatchOption}
+use Rattle.std.specs.Prelude.{ℕ, ◌≡◌, ◌≢◌, List, [], ◌∷◌, ◌++◌, Option, Some, Contains, IsTrue}
+use Rattle.std.specs.Prelude.{MatchOption, length}
 use Rattle.bag_text.specs.Bytes.{Content}
 use Rattle.bag_text.specs.declared.alg.Alg.{Alg}
 use Rattle.bag_tree.specs.Bag.{file}
@@ -16,24 +16,26 @@ use Rattle.bag_tree.specs.Stop.{IsOutOfMemory}
 use Rattle.bag_renew.specs.declared.checked.Unchecked.{Unchecked}
 use Rattle.bag_renew.specs.declared.checked.Unchecked.TheVariants.{Stopped, Faulty}
 
--- bytes that were read of a file, as many as were listed; those of the bag, where the tree is honest
-pub record IsRead (state : TreeState) (entry : FileEntry) (content : Content) : Type 0 where
+-- the bytes that the tree gave of a file, which was read once: as many as were listed; those of the
+-- bag, where the tree is honest
+pub record IsRead (old new : TreeState) (entry : FileEntry) (content : Content) : Type 0 where
+  pub gave : new.gave ≡ old.gave ++ (entry.path, content) ∷ []
   pub size : length content ≡ entry.size
-  pub honest : IsTrue state.honest → file state.bag entry.path ≡ Some content
+  pub honest : IsTrue old.honest → file old.bag entry.path ≡ Some content
 
 -- Of these bytes of a file all digests that are given are right, and these are those that are to be
 -- given.
-pub record IsCheckedAs (state : TreeState) (entry : FileEntry) (expected : List Expected)
+pub record IsCheckedAs (old new : TreeState) (entry : FileEntry) (expected : List Expected)
     (algs : List Alg) (content : Content) (sums : List (Option (List ℕ))) : Type 0 where
-  pub read : IsRead state entry content
+  pub read : IsRead old new entry content
   pub right : faults_of_bytes entry.path content expected ≡ []
   pub sums_of : (alg : Alg) → Contains algs alg → sum_at sums alg ≡ Some (digest alg content)
 
--- So it is of some bytes.
-abbrev pub IsChecked : TreeState → FileEntry → List Expected → List Alg
+-- So it is of the bytes that the tree gave.
+abbrev pub IsChecked : TreeState → TreeState → FileEntry → List Expected → List Alg
     → List (Option (List ℕ)) → Type 0
-IsChecked state entry expected algs sums =
-    (content : List ℕ) × IsCheckedAs state entry expected algs content sums
+IsChecked old new entry expected algs sums =
+    (content : List ℕ) × IsCheckedAs old new entry expected algs content sums
 
 -- the bytes that are kept of a file: those of bag-info.txt, and of no other
 abbrev pub IsKeptOf : List ℕ → List ℕ → Option (List ℕ) → Type 0
@@ -42,10 +44,10 @@ IsKeptOf path content kept =
     (λ bytes. (path ≡ bag_info_txt) × (bytes ≡ content))
 
 -- A file was checked, and these bytes of it are kept.
-pub record IsCheckedAndKept (state : TreeState) (entry : FileEntry) (expected : List Expected)
+pub record IsCheckedAndKept (old new : TreeState) (entry : FileEntry) (expected : List Expected)
     (algs : List Alg) (sums : List (Option (List ℕ))) (kept : Option (List ℕ)) : Type 0 where
   pub content : List ℕ
-  pub checked : IsCheckedAs state entry expected algs content sums
+  pub checked : IsCheckedAs old new entry expected algs content sums
   pub kept_of : IsKeptOf entry.path content kept
 
 -- Memory ran out; or of bytes that have these digests this is the first fault.
@@ -55,9 +57,9 @@ DiffersFirst path expected sums (Faulty fault) =
     (content : List ℕ) → AreSumsBy expected content sums
     → (rest : List Fault) × (faults_of_bytes path content expected ≡ fault ∷ rest)
 
--- A file was stopped at; or of the bytes that were read this is the first fault.
-abbrev pub IsUnchecked : TreeState → FileEntry → List Expected → Unchecked → Type 0
-IsUnchecked state entry expected (Stopped stop) = Unit {0}
-IsUnchecked state entry expected (Faulty fault) =
-    (content : List ℕ) × (rest : List Fault) × IsRead state entry content
+-- A file was stopped at; or of the bytes that the tree gave this is the first fault.
+abbrev pub IsUnchecked : TreeState → TreeState → FileEntry → List Expected → Unchecked → Type 0
+IsUnchecked old new entry expected (Stopped stop) = Unit {0}
+IsUnchecked old new entry expected (Faulty fault) =
+    (content : List ℕ) × (rest : List Fault) × IsRead old new entry content
     × (faults_of_bytes entry.path content expected ≡ fault ∷ rest)

@@ -1,24 +1,18 @@
 -- Laws about renewals.
-use Rattle.std.specs.Prelude.{ℕ, ◌≡◌, false, List}
+use Rattle.std.specs.Prelude.{ℕ, ◌≡◌, List}
 use Rattle.bag_text.specs.Bytes.{Name, Path}
 use Rattle.bag_text.specs.Alg.{name}
 use Rattle.bag_text.specs.Path.{under}
 use Rattle.bag_text.specs.declared.alg.Alg.{Alg}
-use Rattle.bag_read.specs.ManifestName.{tag_path}
 use Rattle.bag_read.specs.declared.kind.Kind.{Kind}
-use Rattle.bag_read.specs.declared.tag_name.TagName.{TagName}
-use Rattle.bag_tree.specs.Bag.{Bag, IsBag, file, has_folder}
+use Rattle.bag_tree.specs.Bag.{Bag, IsBag, file}
 use Rattle.bag_tree.specs.FileChanges.{CanChangeAll, after_changes}
 use Rattle.bag_stages.specs.Payload.{payload}
 use Rattle.bag_stages.specs.TagFiles.{HasManifest}
 use Rattle.bag_renew.specs.Changes.{after, changes}
 use Rattle.bag_renew.specs.Renewed.{begun_file, renewed}
+use Rattle.bag_renew.specs.Reserved.{IsOutOfTheWay}
 use Rattle.bag_renew.specs.declared.renewal.Renewal.{Renewal}
-
--- no folder has the name of a tag file, or of one that is begun
-pub record IsOutOfTheWay (bag : Bag) : Type 0 where
-  pub begun : has_folder bag begun_file ≡ false
-  pub tags : (tag : TagName) → has_folder bag (tag_path tag) ≡ false
 
 -- its manifests are of supported algorithms alone, as those of a bag without a fault are
 abbrev pub HasKnownManifests : Bag → Type 0

@@ -9,6 +9,7 @@ pub mod Contents
 pub mod ElementLaws
 pub mod Elements
 pub mod FirstFaults
+pub mod Folders
 pub mod Laws
 pub mod NewInfo
 pub mod NewManifests
@@ -21,6 +22,7 @@ pub mod Reading
 pub mod Renew
 pub mod Renewed
 pub mod Request
+pub mod Reserved
 pub mod Stops
 pub mod Summed
 pub mod Telling

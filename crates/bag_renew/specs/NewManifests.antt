@@ -1,6 +1,7 @@
 -- The payload manifests of further algorithms.
-use Rattle.std.specs.Prelude.{ℕ, ◌≡◌, ◌++◌, All, Bool, IsTrue, List, map, true}
+use Rattle.std.specs.Prelude.{ℕ, ◌≡◌, ◌++◌, All, Bool, IsTrue, List, Some, map, true}
 use Rattle.std.specs.List.Sorted.{IsStrictlySortedBy}
+use Rattle.std.specs.Option.{option_map}
 use Rattle.bag_text.specs.Bytes.{Path}
 use Rattle.bag_text.specs.Text.{text_cmp}
 use Rattle.bag_text.specs.declared.alg.Alg.{Alg}
@@ -10,6 +11,7 @@ use Rattle.bag_read.specs.declared.kind.Kind.TheVariants.{Payload}
 use Rattle.bag_read.specs.declared.tag_name.TagName.TheVariants.{Manifest}
 use Rattle.bag_facts.specs.Facts.{rules_in}
 use Rattle.bag_facts.specs.FactsOfBag.{IsFactsOf}
+use Rattle.bag_facts.specs.Given.{AreTagFiles}
 use Rattle.bag_facts.specs.Wanted.{IsWanted, paths_of}
 use Rattle.bag_facts.specs.declared.facts.Facts.{Facts}
 use Rattle.bag_report.specs.Valid.{IsFaultOf, full}
@@ -43,23 +45,27 @@ OpensTwice old new =
     (tags : List (List ℕ)) × IsStrictlySortedBy text_cmp tags × All (IsWanted full) tags
     × (new.openings ≡ (old.openings ++ tags) ++ map (λ e. e.0) (files_of old.bag))
 
--- Over any tree: there is a bag that has the files that were listed, and whose tag files say what
--- was read first; these manifests, written by its rules, give the digests of the very bytes of which
--- the digests that the bag's manifests give were compared.
-pub record AreOfSameBytes (algs : List Alg) (made : List File) : Type 0 where
+-- Over any tree: these manifests give the digests of the very bytes that the tree gave of the files
+-- that it listed, and of which the digests were compared that its manifests, as it gave them first,
+-- give. They are written by the rules of the bag that has these tag files.
+pub record AreOfSameBytes (algs : List Alg) (old new : TreeState) (made : List File) : Type 0 where
   pub bag : Bag
-  pub is_bag : IsBag bag
   pub files : List File
-  pub compared : AreCompared bag true files
+  pub compared : AreCompared bag true files old new
   pub made_of : made ≡ manifests_for (rules_in bag) algs (payload_of files)
 
 -- All was read and checked: the tag files, of what they say no fault of stages 1 to 6 was found, and
--- each listed file that is to be read, which has the digests that manifests give for it. Of an
--- honest tree this is of its bag.
+-- each listed file that is to be read, which has the digests that manifests give for it. Over any
+-- tree this is what it gave, and of an honest one it is of its bag.
 pub record HasChecked (facts : Facts) (with_payload : Bool) (algs : List Alg) (old new : TreeState)
     (summed : List SummedFile) (info : List ℕ) : Type 0 where
   pub options : facts.options ≡ full
-  pub seen : (bag : Bag) × IsBag bag × IsFactsOf bag facts
+  pub bag : Bag
+  pub is_bag : IsBag bag
+  pub of_it : IsFactsOf bag facts
+  pub listed : option_map (λ listing. listing.files) new.listed ≡ Some facts.listing.files
+  pub given : List File
+  pub given_are : AreTagFiles full bag given
   pub none : HasNoneBefore facts 7
   pub tags : List Path
   pub ascend : IsStrictlySortedBy text_cmp tags
@@ -68,6 +74,7 @@ pub record HasChecked (facts : Facts) (with_payload : Bool) (algs : List Alg) (o
       ≡ (old.openings ++ tags) ++ paths_of (to_read with_payload facts.listing.files)
   pub of_bag : IsTrue old.honest → IsFactsOf old.bag facts
   pub checked : AreChecked old facts (to_read with_payload facts.listing.files) algs summed info
+  pub gave : new.gave ≡ (old.gave ++ given) ++ checked.files
 
 -- the rules of each bag whose facts these are
 abbrev pub AreRulesOf : Facts → Rules → Type 0

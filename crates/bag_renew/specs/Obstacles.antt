@@ -1,56 +1,42 @@
 -- What keeps a bag without faults from being renewed (RFC 8493, 2).
-use Rattle.std.specs.Prelude.{ℕ, ◌≡◌, ◌≢◌, ◌⊎◌, ◌==◌, ◌&&◌, ◌||◌, Bool, true, false, not, List, [], ◌∷◌}
-use Rattle.std.specs.Prelude.{◌++◌, Option, None, Some, Contains, bytes_eq, find, map, nat_eq}
+use Rattle.std.specs.Prelude.{◌≡◌, ◌≢◌, ◌⊎◌, ◌==◌, ◌&&◌, ◌||◌, Bool, true, false, not, IsTrue, List}
+use Rattle.std.specs.Prelude.{[], Option, None, Some, Contains, bytes_eq, find, map}
 use Rattle.std.specs.Prelude.{if◌then◌else◌}
-use Rattle.std.specs.List.{list_any, starts_with}
+use Rattle.std.specs.List.{list_any}
 use Rattle.bag_text.specs.Bytes.{Name, Path}
 use Rattle.bag_text.specs.Alg.{algs}
-use Rattle.bag_text.specs.Path.{is_payload_path, under}
+use Rattle.bag_text.specs.Path.{is_payload_path}
 use Rattle.bag_text.specs.Spelling.{percent}
 use Rattle.bag_text.specs.declared.alg.Alg.{Alg}
 use Rattle.bag_text.specs.declared.rules.Rules.{Rules}
 use Rattle.bag_read.specs.ManifestName.{tag_path}
-use Rattle.bag_read.specs.declared.kind.Kind.{Kind}
 use Rattle.bag_read.specs.declared.kind.Kind.TheVariants.{Payload, Tag}
-use Rattle.bag_read.specs.declared.tag_name.TagName.TheVariants.{Declaration, Fetch, Info, Manifest}
-use Rattle.bag_facts.specs.FactsOfBag.{IsByV097}
+use Rattle.bag_read.specs.declared.tag_name.TagName.TheVariants.{Fetch}
+use Rattle.bag_facts.specs.FactsOfBag.{IfBagRead, IsByV097, IsFactsOf}
+use Rattle.bag_facts.specs.declared.facts.Facts.{Facts}
+use Rattle.bag_facts.specs.declared.options.Depth.TheVariants as depth_of
 use Rattle.bag_stages.specs.TagFiles.{Names, named_in}
 use Rattle.bag_tags.specs.Writable as by_rules
-use Rattle.bag_tree.specs.Bag.{Bag, HasFile, LacksFile, files_of}
+use Rattle.bag_tree.specs.Bag.{Bag, HasFile, LacksFile, files_of, has_folder}
+use Rattle.bag_tree.specs.Tree.{MayReportMemory, TreeState}
+use Rattle.bag_renew.specs.Folders.{IsRefusedLook}
 use Rattle.bag_renew.specs.Renewed.{begun_file, is_kept_alg, keeps, new_algs, new_rules}
 use Rattle.bag_renew.specs.Renewed.{writes_payload_manifest}
+use Rattle.bag_renew.specs.Reserved.{IsOutOfTheWay, reserved_names}
 use Rattle.bag_renew.specs.Telling.{AreNameable, AreStillListed}
 use Rattle.bag_renew.specs.declared.fault.RenewFault.{RenewFault}
 use Rattle.bag_renew.specs.declared.fault.RenewFault.TheVariants as why
 use Rattle.bag_renew.specs.declared.renewal.Renewal.{Renewal}
 
--- the names of the manifests of a kind, of each supported algorithm
-unfoldable pub manifest_names : Kind → List Name
-manifest_names kind = map (λ alg. tag_path (Manifest kind alg)) algs
-
--- the names of the tag files that a renewal puts or removes, and of one that is begun
-abbrev pub reserved_names : List Name
-reserved_names =
-    tag_path Declaration ∷ tag_path Info ∷ begun_file
-    ∷ (manifest_names Payload ++ manifest_names Tag)
-
--- some file of the bag stands below the name
-abbrev pub HasBelow : Bag → Name → Type 0
-HasBelow bag name = (rest : List ℕ) × HasFile bag (under name rest)
-
--- no file stands below a reserved name
-abbrev pub AreFree : Bag → Type 0
-AreFree bag = (name : List ℕ) → Contains reserved_names name → ¬ (HasBelow bag name)
-
 -- a tag manifest names the path
 abbrev pub IsNamedAsTag : Bag → Path → Type 0
 IsNamedAsTag bag path = (alg : Alg) × Names bag Tag alg path
 
--- A reserved name below which files stand; or that of a begun file, where a tag manifest names it:
--- so it's a user's own, and not what a renewal that was cut off has begun.
+-- A reserved name that a folder has, be it empty; or that of a begun file, where a tag manifest
+-- names it: so it's a user's own, and not what a renewal that was cut off has begun.
 abbrev pub IsInTheWay : Bag → Name → Type 0
 IsInTheWay bag name =
-    (Contains reserved_names name × HasBelow bag name)
+    (Contains reserved_names name × (has_folder bag name ≡ true))
     ⊎ ((name ≡ begun_file) × IsNamedAsTag bag begun_file)
 
 abbrev pub has_percent : Path → Bool
@@ -94,16 +80,31 @@ first_unlisted bag renewal =
     if writes_payload_manifest bag renewal then None
     else find (is_unlisted bag renewal) (paths_of bag)
 
--- nothing keeps the bag from being renewed
-pub record HasNoObstacle (bag : Bag) (renewal : Renewal) : Type 0 where
+-- an algorithm is left; a bag of 0.97 that becomes one of 1.0 fetches nothing; and what has the
+-- name of a begun file is one
+pub record IsFreeToChange (bag : Bag) (renewal : Renewal) : Type 0 where
   pub fetch : (keeps bag renewal ≡ true) ⊎ LacksFile bag (tag_path Fetch)
   pub some_alg : new_algs bag renewal ≢ []
-  pub free : AreFree bag
   pub own : ¬ (IsNamedAsTag bag begun_file)
+
+-- manifests of the renewed bag can name its files, and name its payload
+pub record CanNameFiles (bag : Bag) (renewal : Renewal) : Type 0 where
   pub nameable : AreNameable (new_rules bag renewal) bag
   pub spelled : (keeps bag renewal ≡ true)
       ⊎ ((path : Path) → HasFile bag path → has_percent path ≡ false)
   pub listed : AreStillListed bag renewal
+
+-- nothing keeps the bag from being renewed
+pub record HasNoObstacle (bag : Bag) (renewal : Renewal) : Type 0 where
+  pub free : IsFreeToChange bag renewal
+  pub way : IsOutOfTheWay bag
+  pub names : CanNameFiles bag renewal
+
+-- of an honest tree's bag, where these are its facts, which were read beyond the declaration
+abbrev pub IfOwn : Facts → TreeState → Type 0 → Type 0
+IfOwn facts state IsSo =
+    IsTrue state.honest → IsFactsOf state.bag facts → facts.options.depth ≢ depth_of.Declaration
+    → IsSo
 
 -- the fault is one for which the bag isn't renewed, though it may have no fault itself; memory may
 -- run out at any bag
@@ -117,11 +118,12 @@ IsObstacle bag renewal (why.Unlisted path) =
 IsObstacle bag renewal why.Memory = Unit {0}
 IsObstacle bag renewal fault = ⊥
 
--- the path is below the name
-abbrev pub is_below : Name → Path → Bool
-is_below name path = starts_with nat_eq path (under name [])
-
--- a path that isn't of the payload, and is below one of these names
-abbrev pub is_below_some : List Name → Path → Bool
-is_below_some names path =
-    not (is_payload_path path) && list_any (λ name. is_below name path) names
+-- An obstacle was found: a folder, of an honest tree's own bag, or one that the facts tell; or a
+-- look was refused, or memory ran out.
+abbrev pub IsHindered : Facts → Renewal → TreeState → TreeState → RenewFault → Type 0
+IsHindered facts renewal old new (why.InTheWay name) =
+    IfOwn facts old (IsInTheWay old.bag name)
+IsHindered facts renewal old new (why.ReadStopped stop) =
+    IfBagRead facts (λ bag. IsRefusedLook reserved_names old new stop)
+IsHindered facts renewal old new why.Memory = MayReportMemory old new
+IsHindered facts renewal old new fault = IfBagRead facts (λ bag. IsObstacle bag renewal fault)

@@ -9,7 +9,7 @@ use Rattle.bag_tree.specs.Bag.{Bag, HasFile}
 use Rattle.bag_tree.specs.FileChanges.{IsAfterFirst}
 use Rattle.bag_report.specs.Valid.{HasNoFault, IsFaultOf}
 use Rattle.bag_renew.specs.Changes.{after, changes}
-use Rattle.bag_renew.specs.Laws.{IsOutOfTheWay}
+use Rattle.bag_renew.specs.Reserved.{IsOutOfTheWay}
 use Rattle.bag_renew.specs.Obstacles.{has_percent}
 use Rattle.bag_renew.specs.Renewed.{begun_file, keeps}
 use Rattle.bag_renew.specs.Valid.{CanRenew, HasGoodInfo, IsDamage}

@@ -14,9 +14,10 @@ use Rattle.bag_tree.specs.Tree.{TreeState}
 use Rattle.bag_tree.specs.declared.listing.FileEntry.{FileEntry}
 use Rattle.bag_report.specs.Valid.{full}
 use Rattle.bag_renew.specs.NewInfo.{CanWriteInfo}
-use Rattle.bag_renew.specs.Obstacles.{HasNoObstacle}
+use Rattle.bag_renew.specs.Obstacles.{CanNameFiles, IsFreeToChange}
 use Rattle.bag_renew.specs.Reading.{HasNoEarlyFault}
 use Rattle.bag_renew.specs.Renewed.{reads_payload}
+use Rattle.bag_renew.specs.Reserved.{IsOutOfTheWay}
 use Rattle.bag_renew.specs.Summed.{files_to_read, to_read}
 use Rattle.bag_renew.specs.declared.checked.Unchecked.{Unchecked}
 use Rattle.bag_renew.specs.declared.checked.Unchecked.TheVariants.{Faulty, Stopped}
@@ -68,17 +69,20 @@ OpensNoPayload old new =
     (paths : List (List ℕ)) × (new.openings ≡ old.openings ++ paths)
     × All (λ path. is_payload_path path ≡ false) paths
 
--- a bag has no fault of an earlier stage, no obstacle, and no element that can't be written
-pub record IsReadyFor (renewal : Renewal) (bag : Bag) : Type 0 where
+-- a bag has no fault of an earlier stage, no obstacle, and no element that can't be written; whether
+-- a folder is in the way is known of an honest tree
+pub record IsReadyFor (renewal : Renewal) (state : TreeState) (bag : Bag) : Type 0 where
   pub none_early : HasNoEarlyFault bag
-  pub no_obstacle : HasNoObstacle bag renewal
+  pub free : IsFreeToChange bag renewal
+  pub way : IsTrue state.honest → IsOutOfTheWay state.bag
+  pub names : CanNameFiles bag renewal
   pub info : CanWriteInfo bag renewal
 
 -- Over any tree, and however a renewal ends: each payload file was opened once at most, and in path
 -- order; none where nothing is asked for which it is read, and none of a bag that has a fault of an
 -- earlier stage, an obstacle, or an element that can't be written.
 pub record OpensForRenewal (renewal : Renewal) (old new : TreeState) : Type 0 where
-  pub in_turn : OpensInTurn (λ bag. reads_payload bag renewal) (IsReadyFor renewal) old new
+  pub in_turn : OpensInTurn (λ bag. reads_payload bag renewal) (IsReadyFor renewal old) old new
   pub no_payload : AsksNoReading renewal → OpensNoPayload old new
 
 -- the refusals that come before any file is opened a second time

@@ -4,7 +4,8 @@ use Rattle.bag_text.specs.Lines.{lines_of_file}
 use Rattle.bag_read.specs.ManifestName.{tag_path}
 use Rattle.bag_read.specs.declared.kind.Kind.TheVariants.{Tag}
 use Rattle.bag_read.specs.declared.tag_name.TagName.TheVariants.{Info, Manifest}
-use Rattle.bag_tree.specs.Bag.{Bag, IsBag}
+use Rattle.bag_tree.specs.Bag.{Bag}
+use Rattle.bag_tree.specs.Tree.{TreeState}
 use Rattle.bag_tree.specs.declared.file_change.FileChange.{FileChange}
 use Rattle.bag_renew.specs.Changes.{clearing, dropping, opening, put}
 use Rattle.bag_renew.specs.Compared.{AreCompared}
@@ -46,15 +47,15 @@ module _ (bag : Bag) (renewal : Renewal) (files : List File) (info : Option (Lis
       ++ (dropping bag renewal
       ++ (map put (last_files bag renewal) ++ map put tag_manifests_from))))
 
--- Over any tree: there is a bag that has the files that were listed, and whose tag files say what
--- was read of them first. The changes are of bytes that were read then, and of which each digest
--- that this bag's manifests give was compared: of these are the elements of bag-info.txt that stay,
--- and the digests in new manifests.
-pub record ChangesCompared (renewal : Renewal) (planned : List FileChange) : Type 0 where
+-- Over any tree: the changes are those of the bag that has the files that the tree listed and the
+-- tag files that it gave first, made of the bytes that it gave then and of which each digest was
+-- compared that this bag's manifests give: of these are the elements of bag-info.txt that stay, and
+-- the digests in new manifests.
+pub record ChangesCompared (renewal : Renewal) (old new : TreeState) (planned : List FileChange)
+    : Type 0 where
   pub bag : Bag
-  pub is_bag : IsBag bag
   pub files : List File
-  pub compared : AreCompared bag (reads_payload bag renewal) files
+  pub compared : AreCompared bag (reads_payload bag renewal) files old new
   pub old_info : List ℕ
   pub old_info_is : IsInfoAmong files old_info
   pub info : Option (List ℕ)

@@ -1,11 +1,13 @@
 -- How a bag is read that is to be renewed.
-use Rattle.std.specs.Prelude.{ℕ, ◌≡◌, ◌≢◌, ◌⊎◌, ◌<◌, ◌^◌, true, IsTrue, List}
+use Rattle.std.specs.Prelude.{ℕ, ◌≡◌, ◌≢◌, ◌⊎◌, ◌<◌, ◌^◌, true, Contains, IsTrue, List}
 use Rattle.std.specs.List.{list_any}
 use Rattle.bag_text.specs.Code.{stage}
 use Rattle.bag_text.specs.Lines.{lines_of_file}
 use Rattle.bag_text.specs.declared.alg.Alg.{Alg}
 use Rattle.bag_facts.specs.FactsOfBag.{IfBagRead, IsFactsOf}
 use Rattle.bag_facts.specs.Stops.{IsOfListing, MayRefuseFacts, ReportsAnswer}
+use Rattle.bag_facts.specs.TagReader.{OpensAll}
+use Rattle.bag_facts.specs.Wanted.{ForListing}
 use Rattle.bag_facts.specs.declared.facts.Facts.{Facts}
 use Rattle.bag_facts.specs.declared.fault.Fault.{Fault}
 use Rattle.bag_facts.specs.declared.options.Depth.TheVariants.{Declaration}
@@ -20,11 +22,14 @@ use Rattle.bag_tree.specs.declared.tree_fault.TreeFault.TheVariants as cause_of
 use Rattle.bag_report.specs.Valid.{HasNoFault, IsFaultOf, full}
 use Rattle.bag_renew.specs.Compared.{AreCompared}
 use Rattle.bag_renew.specs.FirstFaults.{HasNoneBefore, IsFirst, IsFoundFirst, IsLookedFor}
+use Rattle.bag_renew.specs.Folders.{IsRefusedLook}
 use Rattle.bag_renew.specs.NewInfo.{CanWriteInfo, IsInfoRefusal}
 use Rattle.bag_renew.specs.NewManifests.{OpensRead}
-use Rattle.bag_renew.specs.Obstacles.{HasNoObstacle, IsObstacle}
+use Rattle.bag_renew.specs.Obstacles.{CanNameFiles, HasNoObstacle, IfOwn, IsFreeToChange}
+use Rattle.bag_renew.specs.Obstacles.{IsInTheWay, IsObstacle}
 use Rattle.bag_renew.specs.Renewed.{File, new_algs, new_elements, reads_payload, writes_info}
 use Rattle.bag_renew.specs.Request.{is_bad_request}
+use Rattle.bag_renew.specs.Reserved.{IsOutOfTheWay, reserved_names}
 use Rattle.bag_renew.specs.Stops.{IsOfFile}
 use Rattle.bag_renew.specs.Summed.{AreSummed, IsInfoAmong, files_to_read}
 use Rattle.bag_renew.specs.Valid.{CanRenew, HasGoodElements}
@@ -62,7 +67,7 @@ pub record HasReadBag (renewal : Renewal) (old new : TreeState) (facts : Facts)
       (files_to_read (reads_payload old.bag renewal) (files_of old.bag)) summed
   -- over any tree these files were read, of which digests were compared and computed
   pub files : List File
-  pub compared : AreCompared seen.0 (reads_payload seen.0 renewal) files
+  pub compared : AreCompared seen.0 (reads_payload seen.0 renewal) files old new
   pub summed_of : (bag : Bag) → IsFactsOf bag facts
       → AreSummed (new_algs bag renewal) files summed
   pub info_of : IsInfoAmong files info
@@ -74,13 +79,20 @@ pub record IsReadForRenewal (renewal : Renewal) (old new : TreeState) : Type 0 w
   pub elements : IsTrue old.honest → writes_info old.bag renewal ≡ true → HasKnownSize old.bag
       → HasGoodElements old.bag renewal
 
--- A stop names the cause, which is the tree's own answer, and the file that was refused; none where
--- it was the listing.
+-- The tree refused to look for a folder of a reserved name, when each tag file that is wanted had
+-- been read, and no other file.
+pub record IsOfLook (old new : TreeState) (stop : Stop) : Type 0 where
+  pub named : Contains reserved_names stop.path
+  pub in_turn : ForListing old (λ files. OpensAll full files old new)
+
+-- A stop names the cause, which is the tree's own answer, and the file that was refused, or the
+-- name of which a folder was looked for; none where it was the listing.
 pub record MayStopReadingBag (renewal : Renewal) (old new : TreeState) (stop : Stop) : Type 0 where
   pub cause : MayRefuseFacts old new stop.cause
   pub not_memory : stop.cause ≢ cause_of.Memory
   pub answered : ReportsAnswer new stop
-  pub path : IsOfListing old new stop ⊎ IsOfFile (λ bag. reads_payload bag renewal) old new stop
+  pub path : IsOfListing old new stop ⊎ IsOfLook old new stop
+      ⊎ IsOfFile (λ bag. reads_payload bag renewal) old new stop
 
 -- the bag has no fault of the stages that open no payload file
 abbrev pub HasNoEarlyFault : Bag → Type 0
@@ -113,21 +125,28 @@ MayRefuseReading renewal old new fault =
 -- its new manifests.
 pub record AllowsRenewal (facts : Facts) (renewal : Renewal) (algs : List Alg) : Type 0 where
   pub none : HasNoneBefore facts 7
-  pub no_obstacle : IfBagRead facts (λ bag. HasNoObstacle bag renewal)
+  pub free : IfBagRead facts (λ bag. IsFreeToChange bag renewal)
+  pub names : IfBagRead facts (λ bag. CanNameFiles bag renewal)
   pub info : IfBagRead facts (λ bag. CanWriteInfo bag renewal)
   pub new : IfBagRead facts (λ bag. algs ≡ new_algs bag renewal)
 
--- Or it doesn't: by the first fault; where there is none, by an obstacle; and else by an element
--- that can't be written. Or memory ran out.
-abbrev pub IsRefusedByFacts : Facts → Renewal → RenewFault → Type 0
-IsRefusedByFacts facts renewal (why.Faulty fault) =
+-- Or it doesn't: by the first fault; where there is none, by an obstacle, as a folder is that is in
+-- the way; and else by an element that can't be written. Or a look for a folder was refused, or
+-- memory ran out.
+abbrev pub IsNotReady : Facts → Renewal → TreeState → TreeState → RenewFault → Type 0
+IsNotReady facts renewal old new (why.Faulty fault) =
     facts.options.depth ≢ Declaration → IsFoundFirst facts (checked.Faulty fault)
-IsRefusedByFacts facts renewal why.Memory = Unit {0}
-IsRefusedByFacts facts renewal why.BadValue =
+IsNotReady facts renewal old new (why.InTheWay name) =
+    HasNoneBefore facts 7 × IfOwn facts old (IsInTheWay old.bag name)
+IsNotReady facts renewal old new (why.ReadStopped stop) =
+    IfBagRead facts (λ bag. IsRefusedLook reserved_names old new stop)
+IsNotReady facts renewal old new why.Memory = MayReportMemory old new
+IsNotReady facts renewal old new why.BadValue =
     HasNoneBefore facts 7
-    × IfBagRead facts (λ bag. HasNoObstacle bag renewal
+    × IfBagRead facts (λ bag. IsFreeToChange bag renewal
+    × (IsTrue old.honest → IsOutOfTheWay old.bag) × CanNameFiles bag renewal
     × IsInfoRefusal bag renewal (lines_in bag bag_info_txt) why.BadValue)
-IsRefusedByFacts facts renewal fault =
+IsNotReady facts renewal old new fault =
     HasNoneBefore facts 7 × IfBagRead facts (λ bag. IsObstacle bag renewal fault)
 
 -- the refusal that a stop is: out of memory is one of its own

@@ -15,7 +15,6 @@ use Rattle.bag_tree.specs.declared.tree_fault.TreeFault.{TreeFault}
 use Rattle.bag_facts.specs.declared.fault.Fault.{Fault}
 use Rattle.bag_report.specs.Valid.{IsFaultOf}
 use Rattle.bag_renew.specs.Changes.{changes}
-use Rattle.bag_renew.specs.Laws.{IsOutOfTheWay}
 use Rattle.bag_renew.specs.Openings.{OpensBefore, OpensForRenewal}
 use Rattle.bag_renew.specs.Planned.{ChangesCompared}
 use Rattle.bag_renew.specs.Reading.{HasKnownSize, IsReadForRenewal, MayRefuseReading}
@@ -35,7 +34,7 @@ pub record HasPlanned (renewal : Renewal) (old new : TreeState) (planned : List 
     pub dropped : IsTrue old.honest → DropsCompared old.bag renewal
     pub changes_are : IsTrue old.honest → planned ≡ changes old.bag renewal
     pub of_files : All (IsOfFile begun_file) planned
-    pub compared : ChangesCompared renewal planned
+    pub compared : ChangesCompared renewal old new planned
 
 -- The bag was renewed: all was read for it, and then the changes were made. Of an honest tree it is
 -- the renewed bag then.
@@ -44,7 +43,7 @@ pub record HasRenewed (renewal : Renewal) (old new : TreeState) : Type 0 where
   pub read : TreeState
   pub plan : HasPlanned renewal old read planned
   pub changed : HasChanged begun_file planned read new
-  pub bag : IsTrue old.honest → IsOutOfTheWay old.bag → new.bag ≡ renewed old.bag renewal
+  pub bag : IsTrue old.honest → new.bag ≡ renewed old.bag renewal
 
 -- what a refused change is told as
 abbrev pub told_as : FileChange → TreeFault → RenewFault
@@ -96,7 +95,7 @@ pub record IsRenewal (renewal : Renewal) (old new : TreeState)
   pub is_renewed : OnOk result (HasRenewed renewal old new)
   -- a fault of the renewed bag is damage of the payload that the bag had, by a manifest that is
   -- kept; it has none where the payload was read
-  pub valid : OnOk result (IsTrue old.honest → IsOutOfTheWay old.bag → HasKnownSize old.bag
+  pub valid : OnOk result (IsTrue old.honest → HasKnownSize old.bag
       → (f : Fault) → IsFaultOf new.bag f → IsOldDamage old.bag renewal f)
   -- no manifest is dropped that tells damage: the bag had no fault then, unless that was asked for
   -- unchecked
@@ -108,13 +107,12 @@ pub record IsRenewal (renewal : Renewal) (old new : TreeState)
   -- A power cut at any moment leaves what the first of the changes made, or what it could have left
   -- before them. The bag need only be durable once the base folder is synced, but for the bytes of
   -- `.bagit-begun`: so it is where an earlier renewal was killed.
-  pub any_moment : IsTrue old.honest → IsTrue old.noted → IsOutOfTheWay old.bag
+  pub any_moment : IsTrue old.honest → IsTrue old.noted
       → EachResumedCut begun_file old.trail new.trail old.bag
       (IsAfterFirst begun_file (changes old.bag renewal) old.bag)
   -- and that has no fault that the bag hadn't
-  pub no_new_fault : IsTrue old.honest → IsTrue old.noted → IsOutOfTheWay old.bag
-      → HasKnownSize old.bag
+  pub no_new_fault : IsTrue old.honest → IsTrue old.noted → HasKnownSize old.bag
       → EachResumedCut begun_file old.trail new.trail old.bag (HasNoNewFault old.bag)
   -- and after Ok a power cut leaves the renewed bag, and nothing else
-  pub lasting : OnOk result (IsTrue old.honest → IsTrue old.noted → IsOutOfTheWay old.bag
+  pub lasting : OnOk result (IsTrue old.honest → IsTrue old.noted
       → LeavesRenewed old.trail new.trail old.bag (renewed old.bag renewal))

@@ -1,6 +1,6 @@
 -- Files of a bag that were checked, with the digests that manifests are to give.
-use Rattle.std.specs.Prelude.{◌≡◌, ◌≢◌, ◌∷◌, [], ⊤, All, Contains, IsTrue, List, Some, filter, length}
-use Rattle.std.specs.Prelude.{◌||◌, ◌⊎◌, Bool, Option, map, not}
+use Rattle.std.specs.Prelude.{◌≡◌, ◌≢◌, ◌∷◌, ◌++◌, [], ⊤, All, Contains, IsTrue, List, Some, filter}
+use Rattle.std.specs.Prelude.{◌||◌, ◌⊎◌, Bool, Option, length, map, not}
 use Rattle.std.specs.List.Sorted.{IsStrictlySortedBy}
 use Rattle.bag_text.specs.Bytes.{Content, Path}
 use Rattle.bag_text.specs.Order.{IsListOf}
@@ -71,14 +71,15 @@ AreSummed algs [] [] = ⊤
 AreSummed algs (e ∷ files) (one ∷ summed) = HasItsSums algs e one × AreSummed algs files summed
 AreSummed algs files summed = ⊥
 
--- A listed file was read: as many bytes as were listed, of which all digests that are given are
--- right, and these the new ones. Of an honest tree they are those of the bag's file.
-pub record IsCheckedFile (state : TreeState) (facts : Facts) (entry : FileEntry) (algs : List Alg)
-    (one : SummedFile) (kept : Option Content) : Type 0 where
+-- A listed file was read: the tree gave as many bytes as were listed, of which all digests that are
+-- given are right, and these the new ones. Of an honest tree they are those of the bag's file.
+pub record IsCheckedFile (old new : TreeState) (facts : Facts) (entry : FileEntry)
+    (algs : List Alg) (one : SummedFile) (kept : Option Content) : Type 0 where
   pub content : Content
+  pub gave : new.gave ≡ old.gave ++ (entry.path, content) ∷ []
   pub kept_of : IsKeptOf entry.path content kept
   pub size : length content ≡ entry.size
-  pub honest : IsTrue state.honest → file state.bag entry.path ≡ Some content
+  pub honest : IsTrue old.honest → file old.bag entry.path ≡ Some content
   pub right : IsRight facts (entry.path, content)
   pub sums : HasItsSums algs (entry.path, content) one
 
@@ -97,6 +98,12 @@ pub record AreChecked (state : TreeState) (facts : Facts) (entries : List FileEn
   pub right : All (IsRight facts) files
   pub sums : AreSummed algs files summed
   pub honest : IsTrue state.honest → All (λ e. file state.bag e.0 ≡ Some e.1) files
+
+-- And these bytes of them are what the tree gave, file by file.
+pub record AreGivenAndChecked (old new : TreeState) (facts : Facts) (entries : List FileEntry)
+    (algs : List Alg) (summed : List SummedFile) (info : Content) : Type 0 where
+  pub are : AreChecked old facts entries algs summed info
+  pub gave : new.gave ≡ old.gave ++ are.files
 
 -- that memory ran out
 abbrev pub IsNoMemory : Unchecked → Type 0

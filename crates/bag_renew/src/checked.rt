@@ -48,10 +48,13 @@ pub fn check_and_sum<T: Tree>(
     ensures no_failure { OnOk result (NothingFailed (T.state tree.old) (T.state tree.new)) }
     ensures opened { OnOk result
         ((T.state tree.new).openings ≡ (T.state tree.old).openings ++ file.now.path ∷ []) }
+    ensures listed { OnOk result ((T.state tree.new).listed ≡ (T.state tree.old).listed) }
     ensures opens { OnErr result
         (OpensAtMost (T.state tree.old) (T.state tree.new) file.now.path) }
-    ensures checked { IfOk result (IsChecked (T.state tree.old) file.now expected.now algs) }
-    ensures unchecked { IfErr result (IsUnchecked (T.state tree.old) file.now expected.now) }
+    ensures checked { IfOk result
+        (IsChecked (T.state tree.old) (T.state tree.new) file.now expected.now algs) }
+    ensures unchecked { IfErr result
+        (IsUnchecked (T.state tree.old) (T.state tree.new) file.now expected.now) }
     ensures stopped { IfErr result
         (StopsChecking (file.now ∷ []) (T.state tree.old) (T.state tree.new)) }
 {
@@ -82,11 +85,14 @@ pub(crate) fn check_or_keep<T: Tree>(
     ensures no_failure { OnOk result (NothingFailed (T.state tree.old) (T.state tree.new)) }
     ensures opened { OnOk result
         ((T.state tree.new).openings ≡ (T.state tree.old).openings ++ file.now.path ∷ []) }
+    ensures listed { OnOk result ((T.state tree.new).listed ≡ (T.state tree.old).listed) }
     ensures opens { OnErr result
         (OpensAtMost (T.state tree.old) (T.state tree.new) file.now.path) }
     ensures checked { IfOk result (λ checked.
-        IsCheckedAndKept (T.state tree.old) file.now expected.now algs checked.0 checked.1) }
-    ensures unchecked { IfErr result (IsUnchecked (T.state tree.old) file.now expected.now) }
+        IsCheckedAndKept (T.state tree.old) (T.state tree.new) file.now expected.now algs
+        checked.0 checked.1) }
+    ensures unchecked { IfErr result
+        (IsUnchecked (T.state tree.old) (T.state tree.new) file.now expected.now) }
     ensures stopped { IfErr result
         (StopsChecking (file.now ∷ []) (T.state tree.old) (T.state tree.new)) }
 {
@@ -117,11 +123,14 @@ fn check_and_keep<T: Tree>(
     ensures no_failure { OnOk result (NothingFailed (T.state tree.old) (T.state tree.new)) }
     ensures opened { OnOk result
         ((T.state tree.new).openings ≡ (T.state tree.old).openings ++ file.now.path ∷ []) }
+    ensures listed { OnOk result ((T.state tree.new).listed ≡ (T.state tree.old).listed) }
     ensures opens { OnErr result
         (OpensAtMost (T.state tree.old) (T.state tree.new) file.now.path) }
     ensures checked { IfOk result (λ kept.
-        IsCheckedAs (T.state tree.old) file.now expected.now algs kept.1.items kept.0) }
-    ensures unchecked { IfErr result (IsUnchecked (T.state tree.old) file.now expected.now) }
+        IsCheckedAs (T.state tree.old) (T.state tree.new) file.now expected.now algs
+        kept.1.items kept.0) }
+    ensures unchecked { IfErr result
+        (IsUnchecked (T.state tree.old) (T.state tree.new) file.now expected.now) }
     ensures stopped { IfErr result
         (StopsChecking (file.now ∷ []) (T.state tree.old) (T.state tree.new)) }
 {

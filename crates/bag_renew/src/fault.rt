@@ -1,4 +1,7 @@
 //! Why a bag isn't renewed.
+ghost use Rattle.bag_renew.specs.Reading.{IsRefusalOf, IsRefusalOfStop};
+
+use crate::Unchecked;
 use bag_facts::Fault;
 use bag_text::Text;
 use bag_tree::{Stop, TreeFault};
@@ -12,7 +15,8 @@ pub enum RenewFault {
     BadValue,
     /// No algorithm would be left.
     NoAlgorithm,
-    /// A folder has the name of a tag file or of a begun one, or what has that name isn't one.
+    /// A folder, be it empty, has the name of a tag file or of a begun one; or what has the name of
+    /// a begun file isn't one.
     InTheWay(Text),
     /// No manifest can name the file with this path.
     Unnameable(Text),
@@ -22,7 +26,8 @@ pub enum RenewFault {
     /// The bag of version 0.97 is to become one of 1.0, which spells the paths of its `fetch.txt`
     /// otherwise.
     Fetch,
-    /// The tree refused to list its files, or to read one.
+    /// The tree refused to list its files, to read one, or to look for a folder that has the name
+    /// of a tag file.
     ReadStopped(Stop),
     /// Memory ran out.
     Memory,
@@ -30,4 +35,25 @@ pub enum RenewFault {
     PutRefused(Text, TreeFault),
     /// The tree refused to remove the file of this name. All changes before it were made.
     RemoveRefused(Text, TreeFault),
+}
+
+/// The refusal for which a file isn't known to have its digests.
+pub(crate) fn refusal(unchecked: Unchecked) -> RenewFault
+    ensures { IsRefusalOf unchecked result }
+{
+    match unchecked {
+        Unchecked::Faulty(fault) => RenewFault::Faulty(fault),
+        Unchecked::Stopped(stop) => stopped(stop),
+    }
+}
+
+/// The refusal that a stop is. Out of memory is one of its own, the tree's too.
+pub(crate) fn stopped(stop: Stop) -> RenewFault
+    ensures { IsRefusalOfStop stop result }
+{
+    if stop.cause == TreeFault::Memory {
+        RenewFault::Memory
+    } else {
+        RenewFault::ReadStopped(stop)
+    }
 }

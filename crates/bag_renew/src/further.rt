@@ -39,7 +39,8 @@ pub fn new_manifests<T: Tree>(
     ensures no_failure { OnOk result ((T.state tree.new).failures ≡ (T.state tree.old).failures) }
     ensures opened { OnOk result
         (IsTrue (T.state tree.old).honest → OpensTwice (T.state tree.old) (T.state tree.new)) }
-    ensures same_bytes { IfOk result (λ made. AreOfSameBytes algs made.items) }
+    ensures same_bytes { IfOk result (λ made.
+        AreOfSameBytes algs (T.state tree.old) (T.state tree.new) made.items) }
     ensures valid { OnOk result
         (IsTrue (T.state tree.old).honest → HasNoFault (T.state tree.old).bag) }
     ensures manifests { IfOk result (λ made. IsTrue (T.state tree.old).honest

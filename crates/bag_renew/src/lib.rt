@@ -27,6 +27,7 @@ mod checked;
 mod composing;
 mod elements;
 mod fault;
+mod folders;
 mod further;
 mod info;
 pub mod laws;

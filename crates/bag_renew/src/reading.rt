@@ -1,20 +1,22 @@
 //! Reading a bag that is to be renewed.
-ghost use Rattle.std.specs.Prelude.{IfErr, IfOk};
-ghost use Rattle.bag_tree.specs.Tree.{Keeps};
+ghost use Rattle.std.specs.Prelude.{IfErr, IfOk, IsTrue, OnOk};
+ghost use Rattle.bag_tree.specs.Tree.{Keeps, NothingFailed};
+ghost use Rattle.bag_renew.specs.Folders.{OpensNothing};
 ghost use Rattle.bag_renew.specs.Openings.{OpensBefore, OpensForRenewal};
-ghost use Rattle.bag_renew.specs.Reading.{AllowsRenewal, IsRefusedByFacts};
-ghost use Rattle.bag_renew.specs.Reading.{HasReadBag, IsRefusalOf, IsRefusalOfStop};
+ghost use Rattle.bag_renew.specs.Reading.{AllowsRenewal, HasReadBag, IsNotReady};
 ghost use Rattle.bag_renew.specs.Reading.{MayRefuseReading};
+ghost use Rattle.bag_renew.specs.Reserved.{IsOutOfTheWay};
 
 use crate::algorithms::{new_algs, reads_payload};
+use crate::fault::{refusal, stopped};
 use crate::info::check_info;
 use crate::obstacles::check_obstacles;
 use crate::stages::check_stages;
 use crate::summed::{CheckedFiles, check_files};
-use crate::{RenewFault, Renewal, Unchecked};
+use crate::{RenewFault, Renewal};
 use bag_facts::{Depth, Facts, Options};
 use bag_text::AlgSet;
-use bag_tree::{Stop, Tree, TreeFault};
+use bag_tree::ReplaceTree;
 use std::alloc::Global;
 
 /// Everything is checked, but for names that clash.
@@ -26,11 +28,11 @@ pub(crate) const FULL: Options = Options {
 /// Reads a bag, which can be renewed, and the digests by the algorithms of its new manifests.
 ///
 /// It is refused with the first of its faults of the stages that open no file; then for what stands
-/// in the way of a renewal; then for an element that can't be written; and then for the first file
-/// that has another digest than a manifest gives. The tag files are read first. Then each file is
-/// opened once, but the payload only where a payload manifest is written, or dropped and not
-/// unchecked; and the bytes of `bag-info.txt` are kept, as its digests are compared then.
-pub(crate) fn read_bag<T: Tree>(
+/// in the way of a renewal, as a folder may; then for an element that can't be written; and then for
+/// the first file that has another digest than a manifest gives. The tag files are read first. Then
+/// each file is opened once, but the payload only where a payload manifest is written, or dropped and
+/// not unchecked; and the bytes of `bag-info.txt` are kept, as its digests are compared then.
+pub(crate) fn read_bag<T: ReplaceTree>(
     alloc: Global,
     tree: &mut T,
     renewal: &Renewal,
@@ -48,7 +50,7 @@ pub(crate) fn read_bag<T: Tree>(
         Ok(facts) => facts,
         Err(stop) => return Err(stopped(stop)),
     };
-    let algs = match check_facts(alloc, &facts, renewal) {
+    let algs = match check_facts(alloc, tree, &facts, renewal) {
         Ok(algs) => algs,
         Err(fault) => return Err(fault),
     };
@@ -59,42 +61,31 @@ pub(crate) fn read_bag<T: Tree>(
     }
 }
 
-/// Whether what is known of a bag allows that it is renewed; and the algorithms of its new
-/// manifests.
+/// Whether what is known of a bag allows that it is renewed, and no folder is in the way; and the
+/// algorithms of its new manifests.
 #[tactic(auto, using(crate::proofs::ReadBag::refusing))]
-fn check_facts(alloc: Global, facts: &Facts, renewal: &Renewal) -> Result<AlgSet, RenewFault>
+fn check_facts<T: ReplaceTree>(
+    alloc: Global,
+    tree: &mut T,
+    facts: &Facts,
+    renewal: &Renewal,
+) -> Result<AlgSet, RenewFault>
+    ensures still { OpensNothing (T.state tree.old) (T.state tree.new) }
+    ensures no_failure { OnOk result (NothingFailed (T.state tree.old) (T.state tree.new)) }
     ensures algs { IfOk result (AllowsRenewal facts.now renewal.now) }
-    ensures refused { IfErr result (IsRefusedByFacts facts.now renewal.now) }
+    ensures way { OnOk result
+        (IsTrue (T.state tree.old).honest → IsOutOfTheWay (T.state tree.old).bag) }
+    ensures refused { IfErr result
+        (IsNotReady facts.now renewal.now (T.state tree.old) (T.state tree.new)) }
 {
     if let Err(unchecked) = check_stages(alloc, facts) {
         return Err(refusal(unchecked));
     }
-    if let Err(fault) = check_obstacles(alloc, facts, renewal) {
+    if let Err(fault) = check_obstacles(alloc, tree, facts, renewal) {
         return Err(fault);
     }
     if let Err(fault) = check_info(alloc, facts, renewal) {
         return Err(fault);
     }
     Ok(new_algs(facts, renewal))
-}
-
-/// The refusal for which a file isn't known to have its digests.
-fn refusal(unchecked: Unchecked) -> RenewFault
-    ensures { IsRefusalOf unchecked result }
-{
-    match unchecked {
-        Unchecked::Faulty(fault) => RenewFault::Faulty(fault),
-        Unchecked::Stopped(stop) => stopped(stop),
-    }
-}
-
-/// The refusal that a stop is. Out of memory is one of its own, the tree's too.
-fn stopped(stop: Stop) -> RenewFault
-    ensures { IsRefusalOfStop stop result }
-{
-    if stop.cause == TreeFault::Memory {
-        RenewFault::Memory
-    } else {
-        RenewFault::ReadStopped(stop)
-    }
 }

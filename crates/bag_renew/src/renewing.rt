@@ -18,19 +18,20 @@ use crate::reading::read_bag;
 use crate::summed::CheckedFiles;
 use crate::{RenewFault, Renewal};
 use bag_text::Items;
-use bag_tree::{FileChange, RefusedChange, ReplaceTree, Tree, change_files};
+use bag_tree::{FileChange, RefusedChange, ReplaceTree, change_files};
 use std::alloc::{AllocError, Global};
 
 /// Renews a bag in place: one tag file after the other is put or removed, each whole and durable
 /// before the next (RFC 8493, 2.1.1, 2.1.3, 2.2.1 and 2.2.2).
 ///
 /// All is read first. A bag is refused with the first of its faults of the stages that open no
-/// payload file; else for what stands in the way of a renewal; else for an element that can't be
-/// written; and else with the first file that has another digest than a manifest gives. Where a
-/// payload manifest is written or dropped, each payload file is opened once, and the digests of all
-/// manifests, also of those that go, are compared with those of the very bytes of which the new ones
-/// are computed. Where none is written, and none dropped but unchecked, no payload file is opened.
-/// The elements of `bag-info.txt` that stay are those of the bytes that were compared.
+/// payload file; else for what stands in the way of a renewal, as a folder does that has the name of
+/// a tag file; else for an element that can't be written; and else with the first file that has
+/// another digest than a manifest gives. Where a payload manifest is written or dropped, each payload
+/// file is opened once, and the digests of all manifests, also of those that go, are compared with
+/// those of the very bytes of which the new ones are computed. Where none is written, and none
+/// dropped but unchecked, no payload file is opened. The elements of `bag-info.txt` that stay are
+/// those of the bytes that were compared.
 ///
 /// The tag manifests are removed first, and put last; a file of the name `.bagit-begun`, which a
 /// renewal that was cut off may leave, is removed. Each bag on the way has the payload, and after a
@@ -48,7 +49,7 @@ pub fn renew<T: ReplaceTree>(
 }
 
 /// The changes in which a bag would be renewed, in their order. The bag stays as it is.
-pub fn plan_renewal<T: Tree>(
+pub fn plan_renewal<T: ReplaceTree>(
     alloc: Global,
     tree: &mut T,
     renewal: &Renewal,
@@ -65,7 +66,7 @@ pub fn plan_renewal<T: Tree>(
 }
 
 /// Reads all, and composes the changes.
-fn read_and_plan<T: Tree>(
+fn read_and_plan<T: ReplaceTree>(
     alloc: Global,
     tree: &mut T,
     renewal: &Renewal,

@@ -4,9 +4,9 @@ ghost use Rattle.bag_tree.specs.FileReads.{OpensAtMost};
 ghost use Rattle.bag_tree.specs.Tree.{Keeps, NothingFailed};
 ghost use Rattle.bag_facts.specs.Wanted.{paths_of};
 ghost use Rattle.bag_renew.specs.Openings.{IsOfSeventh, OpensFirstToRead};
-ghost use Rattle.bag_renew.specs.Summed.{AreChecked, IsCheckedFile, IsFaultyFile, IsGivenFor};
+ghost use Rattle.bag_renew.specs.Summed.{AreGivenAndChecked, IsCheckedFile, IsFaultyFile};
 ghost use Rattle.bag_renew.specs.Stops.{StopsChecking};
-ghost use Rattle.bag_renew.specs.Summed.{IsNoMemory, is_to_read, to_read};
+ghost use Rattle.bag_renew.specs.Summed.{IsGivenFor, IsNoMemory, is_to_read, to_read};
 
 use crate::Unchecked;
 use crate::checked::check_or_keep;
@@ -52,11 +52,12 @@ pub(crate) fn check_files<T: Tree>(
     ensures opened { OnOk result ((T.state tree.new).openings
         ≡ (T.state tree.old).openings
         ++ paths_of (to_read with_payload facts.now.listing.files)) }
+    ensures listed { OnOk result ((T.state tree.new).listed ≡ (T.state tree.old).listed) }
     ensures opens { OpensFirstToRead
         with_payload facts.now.listing.files (T.state tree.old) (T.state tree.new) }
     ensures checked { IfOk result (λ checked.
-        AreChecked (T.state tree.old) facts.now (to_read with_payload facts.now.listing.files) algs
-        checked.summed.items checked.info) }
+        AreGivenAndChecked (T.state tree.old) (T.state tree.new) facts.now
+        (to_read with_payload facts.now.listing.files) algs checked.summed.items checked.info) }
     ensures faulty { IfErr result (IsFaultyFile facts.now
         (to_read with_payload facts.now.listing.files) (T.state tree.old)) }
     ensures seventh { IfErr result IsOfSeventh }
@@ -94,11 +95,12 @@ fn check_each<T: Tree>(
     ensures opened { OnOk result
         ((T.state tree.new).openings
         ≡ (T.state tree.old).openings ++ paths_of (to_read with_payload files.now)) }
+    ensures listed { OnOk result ((T.state tree.new).listed ≡ (T.state tree.old).listed) }
     ensures opens { OpensFirstToRead
         with_payload files.now (T.state tree.old) (T.state tree.new) }
     ensures checked { IfOk result (λ checked.
-        AreChecked (T.state tree.old) facts.now (to_read with_payload files.now) algs
-        checked.summed.items checked.info) }
+        AreGivenAndChecked (T.state tree.old) (T.state tree.new) facts.now
+        (to_read with_payload files.now) algs checked.summed.items checked.info) }
     ensures faulty { IfErr result
         (IsFaultyFile facts.now (to_read with_payload files.now) (T.state tree.old)) }
     ensures seventh { IfErr result IsOfSeventh }
@@ -148,10 +150,12 @@ fn check_file<T: Tree>(
     ensures no_failure { OnOk result (NothingFailed (T.state tree.old) (T.state tree.new)) }
     ensures opened { OnOk result
         ((T.state tree.new).openings ≡ (T.state tree.old).openings ++ entry.now.path ∷ []) }
+    ensures listed { OnOk result ((T.state tree.new).listed ≡ (T.state tree.old).listed) }
     ensures opens { OnErr result
         (OpensAtMost (T.state tree.old) (T.state tree.new) entry.now.path) }
     ensures checked { IfOk result (λ checked.
-        IsCheckedFile (T.state tree.old) facts.now entry.now algs checked.0 checked.1) }
+        IsCheckedFile (T.state tree.old) (T.state tree.new) facts.now entry.now algs
+        checked.0 checked.1) }
     ensures faulty { IfErr result
         (IsFaultyFile facts.now (entry.now ∷ []) (T.state tree.old)) }
     ensures seventh { IfErr result IsOfSeventh }

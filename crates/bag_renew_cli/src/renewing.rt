@@ -7,7 +7,7 @@ use crate::planned_lines::put_planned;
 use crate::{put_renewal, renewal_status};
 use bag_renew::{RenewFault, Renewal, plan_renewal, renew};
 use bag_text::Items;
-use bag_tree::{FileChange, Out, Refused, ReplaceTree, Tree};
+use bag_tree::{FileChange, Out, Refused, ReplaceTree};
 use std::alloc::Global;
 
 /// Renews a bag in place, as `renew`, and writes a line about it under a name: `NAME renewed`,
@@ -45,7 +45,7 @@ fn tell<W: Out>(
 
 /// Checks a bag, and writes a line for each file that would be put or removed, in their order, or
 /// why it can't be renewed. The bag stays as it is.
-pub fn plan_and_report<T: Tree, W: Out>(
+pub fn plan_and_report<T: ReplaceTree, W: Out>(
     alloc: Global,
     tree: &mut T,
     name: &str,

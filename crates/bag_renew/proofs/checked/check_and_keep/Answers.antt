@@ -9,9 +9,10 @@ pub returns-in-Ok-compare-clause-checked : goal.returns-in-Ok-compare-clause-che
 returns-in-Ok-compare-clause-checked g c =
     let bytes = c.in-Ok-read_whole.bytes in
     let asked = c.with_given.result in
-    is_checked (g.T.Tree.state c.args.tree.now) c.args.file.now c.args.expected.now c.args.algs asked bytes.items
-    c.sums_of-found.result
-    (record { size = sym bytes.ok.0 ∙ c.in-Ok-read_whole.ensures.size; honest = c.in-Ok-read_whole.ensures.whole })
+    let read = c.in-Ok-read_whole.ensures in
+    is_checked (g.T.Tree.state c.args.tree.now) (g.T.Tree.state c.read_whole.new.tree) c.args.file.now
+    c.args.expected.now c.args.algs asked bytes.items c.sums_of-found.result
+    (record { gave = read.gave; size = sym bytes.ok.0 ∙ read.size; honest = read.whole })
     (subst (λ some. AreSumsOf asked some c.sums_of-found.result) c.deref.ensures.value c.sums_of-found.ensures)
     c.with_given.ensures.given c.with_given.ensures.kept c.in-Ok-compare.sums c.in-Ok-compare.ensures.same
     c.in-Ok-compare.ensures.right
@@ -20,9 +21,10 @@ pub returns-clause-unchecked : goal.returns-clause-unchecked
 returns-clause-unchecked g c =
     let bytes = c.in-Ok-read_whole.bytes in
     let asked = c.with_given.result in
-    is_unchecked (g.T.Tree.state c.args.tree.now) c.args.file.now c.args.expected.now c.args.algs asked bytes.items
-    c.sums_of-found.result
-    (record { size = sym bytes.ok.0 ∙ c.in-Ok-read_whole.ensures.size; honest = c.in-Ok-read_whole.ensures.whole })
+    let read = c.in-Ok-read_whole.ensures in
+    is_unchecked (g.T.Tree.state c.args.tree.now) (g.T.Tree.state c.read_whole.new.tree) c.args.file.now
+    c.args.expected.now c.args.algs asked bytes.items c.sums_of-found.result
+    (record { gave = read.gave; size = sym bytes.ok.0 ∙ read.size; honest = read.whole })
     (subst (λ some. AreSumsOf asked some c.sums_of-found.result) c.deref.ensures.value c.sums_of-found.ensures)
     c.with_given.ensures.given c.with_given.ensures.kept c.in-Err-compare.unchecked c.in-Err-compare.ensures.differs
 

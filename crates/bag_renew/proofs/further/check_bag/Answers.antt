@@ -1,4 +1,5 @@
 use Rattle.bag_renew.proofs.Common.{true}
+use Rattle.bag_renew.proofs.CheckedBag.{has_checked}
 use Rattle.bag_renew.proofs.Openings.{all_of_files, all_of_tags}
 use Rattle.bag_renew.proofs.ReadBag.{stop_of_check, stop_of_facts}
 use Rattle.bag_renew.proofs.further.check_bag.Goals as goal
@@ -38,3 +39,17 @@ returns-clause-opens g c =
     (g.T.Tree.state c.check_files.new.tree) (g.met.T.Tree.is_bag c.args.tree.now) c.in-Ok.facts
     c.in-Ok.ensures.options c.in-Ok.ensures.seen c.in-Ok.ensures.facts c.read.ensures.opens c.in_default.ensures.none
     c.check_files.ensures.opens
+
+pub returns-in-Ok-check_files-clause-checked : goal.returns-in-Ok-check_files-clause-checked
+returns-in-Ok-check_files-clause-checked g c =
+    let ok = c.in-Ok.ensures in
+    let then = c.in-Ok-check_files.ensures in
+    let summed = c.in-Ok-check_files.checked.summed.items in
+    let info = c.in-Ok-check_files.checked.info in (
+      c.in-Ok.facts,
+      info,
+      has_checked c.in-Ok.facts c.args.algs (g.T.Tree.state c.args.tree.now) (g.T.Tree.state c.read.new.tree)
+          (g.T.Tree.state c.check_files.new.tree) ok.options ok.facts c.read.ensures.keeps c.in_default.ensures.none
+          true summed info ok.gave ok.opened then.opened then.listed then.checked,
+      c.rules.ensures,
+    )

@@ -1,6 +1,7 @@
 use Rattle.bag_renew.proofs.Common.{◌∙◌, ◌+◌, inr, subst, sym}
 use Rattle.bag_renew.proofs.FirstOpened.{faulty_at, opens_at, opens_each, stops_at}
-use Rattle.bag_renew.proofs.Summing.{ChecksFirst, checks_none, checks_one_more, opens_all}
+use Rattle.bag_renew.proofs.Summing.{ChecksFirst, checks_all, checks_none, checks_one_more, opens_all}
+use Rattle.bag_renew.proofs.Summing.{passes_over}
 use Rattle.bag_renew.proofs.summed.check_each.Goals as goal
 
 pub loop-entry-init : goal.loop-entry-init
@@ -17,7 +18,21 @@ loop-entry-preserved g c =
     (checks_one_more _ _ _ _ _ _ _ _ (g.T.Tree.state c.check_file.new.tree) _ _ c.loop-entry-test.true c.entry-item.is
     c.loop-entry.invariant (sym c.is_read.ensures ∙ c.if-not-is_read.false) c.push.new.self.items c.in-Ok.checked.0
     c.in-Ok.checked.1 c.in-Ok-push.ensures.items c.check_file.ensures.keeps c.in-Ok.ensures.no_failure
-    c.in-Ok.ensures.opened c.in-Ok.ensures.checked)
+    c.in-Ok.ensures.opened c.in-Ok.ensures.listed c.in-Ok.ensures.checked)
+
+pub loop-entry-preserved-then-not-is_read : goal.loop-entry-preserved-then-not-is_read
+loop-entry-preserved-then-not-is_read g c =
+    let state = g.T.Tree.state in
+    passes_over c.args.facts.now c.args.files.now c.loop-entry.entry-index _ c.args.with_payload c.args.algs
+    (state c.args.tree.now) (state c.loop-entry.tree) (state c.loop-entry.tree) c.loop-entry.summed.items
+    c.loop-entry.info c.loop-entry-test.true c.entry-item.is c.loop-entry.invariant
+    (sym c.is_read.ensures ∙ c.if-not-is_read.true)
+
+pub returns-clause-checked : goal.returns-clause-checked
+returns-clause-checked g c =
+    checks_all c.args.facts.now c.args.files.now c.loop-entry.entry-index c.args.with_payload c.args.algs
+    (g.T.Tree.state c.args.tree.now) (g.T.Tree.state c.loop-entry.tree) c.loop-entry.summed.items c.loop-entry.info
+    c.loop-entry-test.false c.loop-entry.invariant
 
 pub returns-in-Err-clause-stopped : goal.returns-in-Err-clause-stopped
 returns-in-Err-clause-stopped g c =

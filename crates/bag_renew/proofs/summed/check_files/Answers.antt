@@ -2,13 +2,14 @@ use Rattle.bag_renew.proofs.Common.{subst}
 use Rattle.std.specs.Prelude.{IfErr, IfOk}
 use Rattle.bag_renew.specs.Openings.{OpensFirstToRead}
 use Rattle.bag_renew.specs.Stops.{StopsChecking}
-use Rattle.bag_renew.specs.Summed.{AreChecked, IsFaultyFile, to_read}
+use Rattle.bag_renew.specs.Summed.{AreGivenAndChecked, IsFaultyFile, to_read}
 use Rattle.bag_renew.proofs.summed.check_files.Goals as goal
 
 pub returns-clause-checked : goal.returns-clause-checked
 returns-clause-checked g c =
     subst (λ files. IfOk c.check_each.result (λ checked.
-    AreChecked (g.T.Tree.state c.args.tree.now) c.args.facts.now (to_read c.args.with_payload files) c.args.algs
+    AreGivenAndChecked (g.T.Tree.state c.args.tree.now) (g.T.Tree.state c.check_each.new.tree) c.args.facts.now
+    (to_read c.args.with_payload files) c.args.algs
     checked.summed.items checked.info))
     c.files.ensures c.check_each.ensures.checked
 

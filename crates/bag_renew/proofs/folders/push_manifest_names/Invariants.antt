@@ -1,5 +1,5 @@
 use Rattle.bag_renew.proofs.Common.{◌≡◌, ◌++◌, map, take, tag_path, Manifest}
-use Rattle.bag_renew.proofs.obstacles.push_manifest_names.Given as goal
+use Rattle.bag_renew.proofs.folders.push_manifest_names.Given as goal
 
 abbrev pub invariant-loop-alg : goal.invariant-loop-alg
 invariant-loop-alg l =

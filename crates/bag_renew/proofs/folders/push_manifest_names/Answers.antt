@@ -1,7 +1,7 @@
 use Rattle.bag_renew.proofs.Common.{◌∙◌, ◌++◌, ap, map, algs, tag_path, Manifest}
 use Rattle.std.proofs.lemmas.List.{take_all}
-use Rattle.bag_renew.specs.Obstacles.{manifest_names}
-use Rattle.bag_renew.proofs.obstacles.push_manifest_names.Goals as goal
+use Rattle.bag_renew.specs.Reserved.{manifest_names}
+use Rattle.bag_renew.proofs.folders.push_manifest_names.Goals as goal
 
 pub returns : goal.returns
 unfolding manifest_names
