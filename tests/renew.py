@@ -419,7 +419,7 @@ def refusals(folder, files, options):
     if becomes_1_0(files, options) and FETCH in files:
         yield "fetch.txt"
     for name in (BEGUN, DECLARATION, INFO, *map(manifest_path, ALGORITHMS), *map(tag_manifest_path, ALGORITHMS)):
-        if any(path.startswith(name + b"/") for path in files) or name == BEGUN and is_named(files, name):
+        if os.path.isdir(os.path.join(os.fsencode(folder), name)) or name == BEGUN and is_named(files, name):
             yield f"{name.decode()} in the way"
     yield from (f"{field(path)} can't be named" for path in unnameable(files, options)[:1])
     yield from (f"{field(path)} would be in no manifest" for path in unlisted(files, options)[:1])

@@ -255,13 +255,17 @@ put .bagit-begun mine
 (cd d && md5sum bagit.txt manifest-md5.txt .bagit-begun >tagmanifest-md5.txt)
 valid d
 leaves renews 3 --add sha512 d <<<'d not renewed: .bagit-begun in the way'
-# (Folders without files aren't seen before: the bag is valid then, and the same command renews it.)
+# (Folders without files, which no listing shows, are looked for; a dry run says the same.)
 md5_bag
-mkdir d/manifest-sha512.txt
-renews 3 --add sha512 d <<<'d not renewed: put manifest-sha512.txt exists'
-valid d
-rmdir d/manifest-sha512.txt
+for name in .bagit-begun manifest-sha512.txt tagmanifest-sha512.txt; do
+    mkdir "d/$name"
+    leaves renews 3 --add sha512 d <<<"d not renewed: $name in the way"
+    leaves renews 3 --dry-run --add sha512 d <<<"d not renewed: $name in the way"
+    rmdir "d/$name"
+done
+mkdir d/fetch.txt
 renews 0 --add sha512 d <<<'d renewed'
+rmdir d/fetch.txt
 valid d
 md5_bag
 for name in '*star' ' blank' $'\ttab'; do

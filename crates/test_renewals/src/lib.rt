@@ -5,6 +5,8 @@
 #[cfg(test)]
 mod bags;
 #[cfg(test)]
+mod looked;
+#[cfg(test)]
 mod renewals;
 #[cfg(test)]
 mod stopped;

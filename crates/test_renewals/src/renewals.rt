@@ -11,12 +11,12 @@ use std::collections::BTreeMap;
 use std::process::Abort;
 use test_disk::{MemoryDisk, Node};
 
-fn text(stop: &impl Abort, alloc: Global, text: &str) -> Text {
+pub(crate) fn text(stop: &impl Abort, alloc: Global, text: &str) -> Text {
     Text::from_str(alloc, text).expect(stop, "succeeds")
 }
 
 /// Has each kind of tag file put or removed: SHA-1 comes in place of MD5, and an element is set.
-fn renewal(stop: &impl Abort, alloc: Global, to_1_0: bool) -> Renewal {
+pub(crate) fn renewal(stop: &impl Abort, alloc: Global, to_1_0: bool) -> Renewal {
     let mut renewal = Renewal::nothing(alloc);
     renewal.added = AlgSet::empty().with(Alg::Sha1);
     renewal.dropped = AlgSet::empty().with(Alg::Md5);
