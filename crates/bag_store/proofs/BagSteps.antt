@@ -181,6 +181,11 @@ pub folder_seen : (nodes : Nodes) (name : List ℕ) → is_base_name name ≡ tr
     → IsStanding nodes name (Some standing.Folder) → has_folder (bag_of nodes) name ≡ true
 folder_seen nodes name is there = grind (arith, folder_of_disk nodes name is)
 
+pub folder_standing : (nodes : Nodes) (name : List ℕ) (o : Option Standing) (seen : Standing)
+    → is_base_name name ≡ true → o ≡ Some seen → seen ≡ standing.Folder → IsStanding nodes name o
+    → has_folder (bag_of nodes) name ≡ true
+folder_standing nodes name o seen is some folder there = grind (arith, folder_of_disk nodes name is)
+
 pub none_is_no_file : (nodes : Nodes) (name : List ℕ) → IsStanding nodes name None → LacksFile (bag_of nodes) name
 none_is_no_file nodes name there = grind (arith, file_of_disk)
 

@@ -1,5 +1,6 @@
+use Rattle.bag_store.proofs.BagSteps.{folder_standing}
 use Rattle.bag_store.proofs.BaseNames.{base_reached}
-use Rattle.bag_store.proofs.Common.{HasSpecial, IsReachedByFolders, IsTrue, arith, due_for, err_from_is_err_and, folder_of_disk}
+use Rattle.bag_store.proofs.Common.{HasSpecial, IsReachedByFolders, IsTrue, arith, due_for, err_from_is_err_and, folder_of_disk, sym}
 use Rattle.bag_store.proofs.standing.has_folder_named.Goals as goal
 
 pub returns-in_err-standing_at-clause-refused : goal.returns-in_err-standing_at-clause-refused
@@ -12,7 +13,10 @@ returns-in_err-standing_at-clause-refused g c =
     (λ never. absurd never) (λ never. never) c.in_err-standing_at.ensures.refused)
 
 pub returns-in-Some-Folder-clause-found : goal.returns-in-Some-Folder-clause-found
-returns-in-Some-Folder-clause-found g c = λ honest. grind (arith, folder_of_disk, base_reached)
+returns-in-Some-Folder-clause-found g c = λ honest.
+    sym (folder_standing _ _ c.in_ok-standing_at.field-0 c.in-Some-Folder.field-0 c.requires c.in-Some-Folder.is
+    c.in-Some-Folder.field-0-is
+    (c.in_ok-standing_at.ensures.found honest (base_reached _ _ c.requires)))
 
 pub returns-in-None-clause-found : goal.returns-in-None-clause-found
 returns-in-None-clause-found g c = λ honest. grind (arith, folder_of_disk, base_reached)
