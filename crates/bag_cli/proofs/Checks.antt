@@ -73,7 +73,7 @@ pub tar_status_is : (plan : Plan) (profile : Option Profile) (archive : ArchiveS
     (before after : OutState) (visits : List Event) (n : ℕ)
     → IsWholeTarCheck plan profile archive name before after visits n → n ≤ 3
 tar_status_is plan profile archive name before after visits n (own, e, inl tree) =
-    check_status_is plan profile tree.0 name before after own n tree.2.1
+    check_status_is plan profile tree.0 name before after own n tree.2
 tar_status_is plan profile archive name before after visits n (own, e, inr none) = omega (arith, none.tells.tells.0)
 
 -- what checks of tar files give is a status

@@ -1,11 +1,23 @@
 -- Checks of tar files.
-use Rattle.bag_cli.proofs.Common.{◌≡◌, inl, inr, ◌∷◌, ℕ, List, Option, refl, subst, sym, Result, Ok, Err, OutState}
+use Rattle.bag_cli.proofs.Common.{◌≡◌, ◌⊎◌, tree_state, inl, inr, ◌∷◌, ℕ, List, Option, refl, subst, sym, Result, Ok, Err, OutState}
 use Rattle.bag_cli.proofs.Common.{ArchiveState, DiskState, Event, IsTreeOf, Opened, Plan, Profile, TreeState, Refused}
 use Rattle.bag_arguments.specs.declared.plan.Action.{Action}
+use Rattle.bag_arguments.specs.declared.plan.Action.TheVariants.{Sample, Help, Check, Make}
+use Rattle.bag_text.specs.declared.text.Text.{Text}
 use Rattle.bag_tar.specs.declared.tar_fault.TarStop.{TarStop}
 use Rattle.bag_cli.specs.CheckedAs.{ChecksAs}
 use Rattle.bag_cli.specs.Checking.{ChecksFolder}
 use Rattle.bag_cli.specs.TarChecked.{ChecksTar, IsLastTarCheck, IsWholeTarCheck, MakesNoTree, TellsUnopened}
+
+-- what is said of an archive is said of another one that is the same
+pub tree_of_same : (one other : ArchiveState) (tree : TreeState) → one ≡ other → IsTreeOf one tree
+    → IsTreeOf other tree
+tree_of_same one other tree same of_one = subst (λ (archive : ArchiveState). IsTreeOf archive tree) same of_one
+
+pub no_tree_of_same : (one other new : ArchiveState) (stop : TarStop) → one ≡ other → MakesNoTree one new stop
+    → MakesNoTree other new stop
+no_tree_of_same one other new stop same none =
+    subst (λ (archive : ArchiveState). MakesNoTree archive new stop) same none
 
 -- the tree of a tar file was checked
 pub tree_checked : {E : Type 0} (plan : Plan) (profile : Option Profile) (archive : ArchiveState) (tree : TreeState)
@@ -38,3 +50,19 @@ pub checked_as : {E : Type 0} (action was : Action) (below : List ℕ → DiskSt
     → ChecksAs action below archived plan profile name before after own answer
 checked_as action was below archived plan profile name before after own answer is checks =
     subst (λ (a : Action). ChecksAs a below archived plan profile name before after own answer) (sym is) checks
+
+-- A plan with another action than that of tar files has its folders checked.
+pub folder_as : {E : Type 0} (action : Action) (below : List ℕ → DiskState) (archived : List ℕ → ArchiveState)
+    (plan : Plan) (profile : Option Profile) (name : List ℕ) (before after : OutState) (own : List Event)
+    (answer : Result ℕ E)
+    → (action ≡ Sample) ⊎ (((text : Text) × (action ≡ Help text)) ⊎ ((action ≡ Check) ⊎ (action ≡ Make)))
+    → ChecksFolder plan profile (tree_state (below name) 0) name before after own answer
+    → ChecksAs action below archived plan profile name before after own answer
+folder_as action below archived plan profile name before after own answer (inl is) checks =
+    checked_as action Sample below archived plan profile name before after own answer is checks
+folder_as action below archived plan profile name before after own answer (inr (inl help)) checks =
+    checked_as action (Help help.0) below archived plan profile name before after own answer help.1 checks
+folder_as action below archived plan profile name before after own answer (inr (inr (inl is))) checks =
+    checked_as action Check below archived plan profile name before after own answer is checks
+folder_as action below archived plan profile name before after own answer (inr (inr (inr is))) checks =
+    checked_as action Make below archived plan profile name before after own answer is checks

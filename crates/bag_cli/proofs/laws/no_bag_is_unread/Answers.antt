@@ -1,7 +1,7 @@
 -- What is reported of an honest tar file that holds no one bag.
 use Rattle.bag_cli.proofs.Common.{◌≡◌, ◌⊎◌, ◌∙◌, [], ◌∷◌, ◌++◌, ℕ, inl, inr, IsTrue, List, Option, arith, ap, subst, sym}
 use Rattle.bag_cli.proofs.Common.{append-nil, ArchiveState, Event, OutState, Plan, Profile, AreTarChecksOf, Result, Err}
-use Rattle.bag_cli.proofs.Common.{IsLastTarCheck, IsWholeTarCheck}
+use Rattle.bag_cli.proofs.Common.{IsLastTarCheck, IsWholeTarCheck, unwrap_or}
 use Rattle.bag_tar.specs.Found.{Contents}
 use Rattle.bag_tar.specs.Walk.{MayStop, contents_of}
 use Rattle.bag_tar.specs.declared.tar_fault.TarFault.{TarFault}
@@ -26,7 +26,12 @@ module _ (plan : Plan) (profile : Option Profile) (archive : ArchiveState) (name
       let bad = sym (tree.1.bag honest).read ∙ none in cc
   whole before after visits n (own, e, inr told) = (
     told.tells.tells.0,
-    (told.stop.cause, _, said_for archive told.new cause told.stop.cause honest none told.no_tree.cause, told.tells.tells.1),
+    (
+      told.stop.cause,
+      unwrap_or told.tells.member [],
+      said_for archive told.new cause told.stop.cause honest none told.no_tree.cause,
+      told.tells.tells.1,
+    ),
   )
 
 by_turn : (plan : Plan) (profile : Option Profile) (archived : List ℕ → ArchiveState) (name : List ℕ)

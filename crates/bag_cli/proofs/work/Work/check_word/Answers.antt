@@ -1,4 +1,4 @@
-use Rattle.bag_cli.proofs.Tars.{checked_as}
+use Rattle.bag_cli.proofs.Tars.{checked_as, folder_as}
 use Rattle.bag_arguments.specs.declared.plan.Action.TheVariants.{CheckTars}
 use Rattle.bag_cli.proofs.work.Work.check_word.Goals as goal
 
@@ -8,4 +8,12 @@ returns-in-CheckTars g c =
       done.0,
       done.1,
       checked_as _ CheckTars _ _ _ _ _ _ _ _ _ c.in-CheckTars.is done.2,
+    )
+
+pub returns-in-Sample : goal.returns-in-Sample
+returns-in-Sample g c =
+    let done = c.check_folder.ensures in (
+      done.0,
+      done.1,
+      folder_as _ _ _ _ _ _ _ _ _ _ c.in-Sample.is done.2,
     )

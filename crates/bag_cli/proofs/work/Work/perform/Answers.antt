@@ -1,4 +1,4 @@
-use Rattle.bag_cli.proofs.Common.{◌≡◌, ℕ, List, Option, [], sym, subst, append-nil, DiskState, OutState, Event, Plan}
+use Rattle.bag_cli.proofs.Common.{◌≡◌, ◌⊎◌, inl, inr, ℕ, List, Option, [], sym, subst, append-nil, DiskState, OutState, Event, Plan}
 use Rattle.bag_cli.proofs.Common.{refl, visits_of, ArchiveState, AreCheckedAs, IsChecked, IsDoneBy, IsPerformed}
 use Rattle.bag_arguments.specs.declared.plan.Action.{Action}
 use Rattle.bag_arguments.specs.declared.plan.Action.TheVariants.{Check, CheckTars}
@@ -21,6 +21,16 @@ module _ (below : List ℕ → DiskState) (archived : List ℕ → ArchiveState)
       subst (λ (action : Action).
       IsChecked (AreCheckedAs action below archived plan) file plan plan.profile before after visits n) is done
 
+  -- so the plan says what was checked
+  checked_by : (before after : OutState) (visits : List Event) (n : ℕ)
+      → (plan.action ≡ Check) ⊎ (plan.action ≡ CheckTars)
+      → IsChecked (AreCheckedAs plan.action below archived plan) file plan plan.profile before after visits n
+      → IsPerformed below archived file plan before after visits n
+  checked_by before after visits n (inl is) done =
+      performed Check before after visits n is (checked Check before after visits n is done)
+  checked_by before after visits n (inr is) done =
+      performed CheckTars before after visits n is (checked CheckTars before after visits n is done)
+
 pub returns-in-Sample : goal.returns-in-Sample
 returns-in-Sample g c = (
   [],
@@ -37,20 +47,8 @@ returns-in-Help g c = (
 
 pub returns-in-Check : goal.returns-in-Check
 returns-in-Check g c =
-    let done = c.check_all.ensures in (
-      done.0,
-      done.1,
-      performed _ _ _ _ Check _ _ _ _ c.in-Check.is (checked _ _ _ _ Check _ _ _ _ c.in-Check.is done.2),
-    )
-
-pub returns-in-CheckTars : goal.returns-in-CheckTars
-returns-in-CheckTars g c =
-    let done = c.check_all.ensures in (
-      done.0,
-      done.1,
-      performed _ _ _ _ CheckTars _ _ _ _ c.in-CheckTars.is
-          (checked _ _ _ _ CheckTars _ _ _ _ c.in-CheckTars.is done.2),
-    )
+    let done = c.check_all.ensures in
+    (done.0, done.1, checked_by _ _ _ c.args.self.now.plan.now _ _ _ _ c.in-Check.is done.2)
 
 pub returns-in-Make : goal.returns-in-Make
 returns-in-Make g c =
