@@ -1,5 +1,5 @@
 -- What a check of an honest tree reports.
-use Rattle.bag_cli.proofs.Common.{◌≡◌, ◌≢◌, ◌∙◌, ℕ, IsTrue, List, Option, None, arith, ap, subst, sym}
+use Rattle.bag_cli.proofs.Common.{◌≡◌, ◌≢◌, ◌∙◌, ℕ, IsTrue, List, Option, None, arith, ap, sym}
 use Rattle.bag_cli.proofs.Common.{Appends, Event, OutState, TreeState, status, Outcome, Plan}
 use Rattle.bag_cli.proofs.Common.{Profile, Request, reported_lines, GivesReport, IsWholeCheck, request_of}
 use Rattle.std.specs.List.{concat}

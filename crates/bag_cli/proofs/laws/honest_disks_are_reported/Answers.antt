@@ -1,5 +1,5 @@
 -- What is reported of a bag on an honest disk.
-use Rattle.bag_cli.proofs.Common.{◌≡◌, ◌∙◌, [], ◌∷◌, ℕ, inl, inr, IsTrue, List, Option, None, arith, subst, sym}
+use Rattle.bag_cli.proofs.Common.{◌≡◌, [], ◌∷◌, ℕ, inl, inr, IsTrue, List, Option, None, arith}
 use Rattle.bag_cli.proofs.Common.{DiskState, Event, OutState, tree_state, Plan, Profile, AreChecksOf, GivesReport}
 use Rattle.bag_store.specs.DiskBag.{bag_of}
 use Rattle.bag_cli.proofs.OverHonest.{check_reported}

@@ -1,7 +1,7 @@
 -- What is reported of a bag in an honest tar file.
 use Rattle.bag_cli.proofs.Common.{◌≡◌, [], ◌∷◌, ℕ, inl, inr, IsTrue, List, Option, None, arith, subst, sym}
-use Rattle.bag_cli.proofs.Common.{ArchiveState, Event, OutState, Plan, Profile, AreTarChecksOf, GivesReport, IsTreeOf}
-use Rattle.bag_cli.proofs.Common.{IsWholeTarCheck, TreeState}
+use Rattle.bag_cli.proofs.Common.{ArchiveState, Event, OutState, Plan, Profile, AreTarChecksOf, GivesReport}
+use Rattle.bag_cli.proofs.Common.{IsWholeTarCheck}
 use Rattle.bag_tar.specs.Tar.{AnArchiveHoldsOneBag, IsTarOf}
 use Rattle.bag_tree.specs.Bag.{Bag}
 use Rattle.bag_cli.proofs.OverHonest.{check_reported}

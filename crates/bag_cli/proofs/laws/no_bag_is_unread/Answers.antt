@@ -1,6 +1,6 @@
 -- What is reported of an honest tar file that holds no one bag.
-use Rattle.bag_cli.proofs.Common.{◌≡◌, ◌⊎◌, ◌∙◌, [], ◌∷◌, ◌++◌, ℕ, inl, inr, IsTrue, List, Option, arith, ap, subst, sym}
-use Rattle.bag_cli.proofs.Common.{append-nil, ArchiveState, Event, OutState, Plan, Profile, AreTarChecksOf, Result, Err}
+use Rattle.bag_cli.proofs.Common.{◌≡◌, ◌⊎◌, ◌∙◌, [], ◌∷◌, ℕ, inl, inr, IsTrue, List, Option, arith, subst, sym}
+use Rattle.bag_cli.proofs.Common.{ArchiveState, Event, OutState, Plan, Profile, AreTarChecksOf, Result, Err}
 use Rattle.bag_cli.proofs.Common.{IsLastTarCheck, IsWholeTarCheck, unwrap_or}
 use Rattle.bag_tar.specs.Found.{Contents}
 use Rattle.bag_tar.specs.Walk.{MayStop, contents_of}
