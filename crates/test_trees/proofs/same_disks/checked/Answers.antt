@@ -1,11 +1,13 @@
-use Rattle.std.proofs.Common.{◌≡◌, ℕ, List, Option, None, refl, subst}
+use Rattle.std.proofs.Common.{◌≡◌, ℕ, List, [], Option, None, refl, subst}
+use Rattle.bag_tar.specs.Archive.{ArchiveState}
+use Rattle.bag_tar.specs.MemoryArchive.{state_of_bytes}
 use Rattle.bag_tree.specs.Tree.{TreeState}
 use Rattle.bag_disk.specs.Disk.{DiskState}
 use Rattle.bag_store.specs.FileTree.{tree_state}
 use Rattle.test_disk.specs.MemoryDisk.{fresh, state_of}
 use Rattle.bag_arguments.specs.declared.plan.Action.{Action}
 use Rattle.bag_cli.specs.Checked.{AreChecksOf}
-use Rattle.bag_cli.specs.Performed.{IsChecked, IsDoneBy, IsPerformed}
+use Rattle.bag_cli.specs.Performed.{AreChecked, IsChecked, IsDoneBy, IsPerformed}
 use Rattle.test_trees.specs.declared.same_disks.SameDisks.{SameDisks}
 use Rattle.test_trees.proofs.same_disks.checked.Goals as goal
 
@@ -13,6 +15,7 @@ pub returns : goal.returns
 returns g c name one =
     let plan = c.args.plan.now in
     let below : List ℕ → DiskState = λ _. fresh (state_of c.args.held.now).nodes in
+    let archived : List ℕ → ArchiveState = λ _. state_of_bytes [] in
     let file : List ℕ → Option (List ℕ) → Type 0 = λ _ bytes. bytes ≡ None in
     let before = g.O.Out.state c.args.out.now in
     let after = g.O.Out.state c.perform.new.out in
@@ -20,10 +23,12 @@ returns g c name one =
     let performed = c.perform.ensures.performed in
     let visits = performed.0 in
     let over : SameDisks → Type 0 = λ disks.
-    IsPerformed (λ _. fresh (state_of disks.held.now).nodes) file plan before after visits n in
+    IsPerformed (λ _. fresh (state_of disks.held.now).nodes) archived file plan before after visits n in
     let done = subst over c.of-visits.ensures.disks performed.2 in
-    let acted = subst (λ (action : Action). IsDoneBy action below file plan before after visits n) one.0 done in
-    let checks = subst (λ (path : Option (List ℕ)). IsChecked below file plan path before after visits n) one.1 acted in
+    let acted = subst (λ (action : Action). IsDoneBy action below archived file plan before after visits n) one.0 done in
+    let checks =
+    subst (λ (path : Option (List ℕ)). IsChecked (AreChecked below plan) file plan path before after visits n) one.1
+    acted in
     let tree_of : List ℕ → TreeState = λ name. tree_state (below name) 0 in
     let check =
     subst (λ (names : List (List ℕ)). AreChecksOf plan None tree_of names before after visits n) one.2 checks in
