@@ -1,13 +1,16 @@
 //! What runs, walks, makings and readers do that no words of the command line and no case file can
 //! ask for: the order of faults and their copies, which files are opened, faults that are taken one
 //! at a time, outputs that refuse at each place, lists and sizes that are not the bag's, thousands
-//! of lines and files, and requests that words can't give.
+//! of lines and files, and requests that words can't give, and what a
+//! profile says of bags in archives.
 #![tactic(auto)]
 
 #[cfg(test)]
 mod checks;
 #[cfg(test)]
 mod faults;
+#[cfg(test)]
+mod forms;
 #[cfg(test)]
 mod large_bags;
 #[cfg(test)]
