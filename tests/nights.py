@@ -126,6 +126,29 @@ def night_renewed():
     news()
 
 
+def night_renewed_while_replaced():
+    """A bag in whose place another valid one comes, before it is renewed or after, isn't taken."""
+    other = work / 'other'
+    for comes_first in True, False:
+        make(other, 'another')
+        instead = f'rm -r "{bag(15)}"; mv "{other}" "{bag(15)}"'
+        renews = f'"{os.environ["BAGIT_RENEW"]}" "$@" || exit 3'
+        script = work / 'replaces'
+        script.write_text('\n'.join(['#!/bin/sh', *([instead, renews] if comes_first else [renews, instead])]) + '\n')
+        script.chmod(0o755)
+        words = ['renew', register, bag(15), '--', '--quiet', '--add', 'md5']
+        run(*words, wanted=3, env={**os.environ, 'BAGIT_RENEW': str(script)})
+        news(altered(15))
+        remake(15, '15')
+        news()
+    run('renew', register, bag(15), '--', '--quiet', '--add', 'md5', '--drop=sha256', wanted=2)
+    for change in ['--add', 'md5,sha1'], ['--drop=sha256,md5', '--set=A=b'], ['--set', 'A=c'], ['--unset=a', '--add=sha256'], ['--drop=sha1']:
+        run('renew', register, bag(15), '--', '--quiet', *change)
+        news()
+    remake(15, '15')
+    run('accept', register, bag(15), *who)
+
+
 def night_renewed_by_another():
     words = [os.environ['BAGIT_RENEW'], '--quiet', '--set', 'Contact-Name=Bob', '--', bag(6)]
     subprocess.run(words, check=True)

@@ -32,6 +32,13 @@ serialization  what a profile says of archive files
 receipts    what came, what was found, what became of it
 fetch       `bagit-keep fetch`: the files that fetch.txt names
 send        `bagit-keep send`: a bag, packed as a .tar that is checked
+register    the memory of an archive's bags, a database
+keeping     the commands that change it, or say what it says
+audit       `bagit-keep audit`: bags of a register are read whole
+news        what of what was found nobody has taken note of
+renewal     `bagit-keep renew`: a bag of a register is renewed
+page        `bagit-keep page`: registers, rounds and reports as pages
+premis      events of a bag as PREMIS 3
 places      folders in which something is made, and names given once
 commands    which commands there are, and how any of them ends
 messages    what they say to people, and how they read their words

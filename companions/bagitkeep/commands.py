@@ -29,7 +29,7 @@ COMMANDS = {
     "accept": ("keeping", "take a bag as it is now for good"),
     "retire": ("keeping", "note that a bag isn't kept any more"),
     "moved": ("keeping", "note that a bag is at another place"),
-    "renew": ("keeping", "renew a bag of a register"),
+    "renew": ("renewal", "renew a bag of a register"),
     "history": ("keeping", "write all that happened to a bag"),
     "dump": ("keeping", "write all that a register says, as JSON"),
     "premis": ("keeping", "write what happened to a bag as PREMIS 3"),

@@ -1,9 +1,8 @@
 """The commands that change a register, or say what it says: `init`, `adopt`,
-`status`, `known`, `accept`, `retire`, `moved`, `renew`, `history`, `dump`."""
+`status`, `known`, `accept`, `retire`, `moved`, `history`, `dump`."""
 import json
 import os
 import shutil
-import subprocess
 from argparse import ArgumentTypeError, Namespace
 from contextlib import closing, nullcontext
 from dataclasses import dataclass
@@ -14,7 +13,7 @@ from typing import Sequence, Tuple
 
 from . import rounds
 from .audit import FULL, bags_in, check, number_of, open_round, tell
-from .checks import now, sealed
+from .checks import now
 from .go_round import absolute, jobs_of
 from .lines import encoded
 from .messages import Parser, Refused, printable, say
@@ -210,15 +209,26 @@ def known(register: Register, read: Namespace, paths: List[bytes]) -> int:
     return 0
 
 
-def accept(register: Register, read: Namespace, paths: List[bytes]) -> int:
+def accepted(register: Register, read: Namespace, paths: List[bytes]) -> int:
     """Takes a bag as it is now for good, by a full check."""
-    said, bag = who_of(read), register.bag_at(paths[0])
-    result = checked(register, paths[:1], None).row(1)
+    return accept(register, paths[0], who_of(read), lambda values: None)
+
+
+def accept(
+    register: Register,
+    path: bytes,
+    said: Dict[str, str],
+    look: Callable[[Row], None],
+) -> int:
+    """Does so if `look`, which is given what is to be noted, lets it."""
+    register.bag_at(path)
+    result = checked(register, [path], None).row(1)
     values = good(result)
     if values is None:
         return result.status or 3
+    look(values)
     with register.changing():
-        bag = register.bag_at(paths[0])
+        bag = register.bag_at(path)
         settle(register, bag, set())
         register.alter("bags", bag, **values)
         register.note("accepted", bag["id"], **said, **values)
@@ -260,33 +270,6 @@ def moved(register: Register, read: Namespace, paths: List[bytes]) -> int:
             **said,
         )
     return 0
-
-
-def renew(words: Sequence[str]) -> int:
-    """Renews a bag by `bagit-renew`, and accepts the seal of this change."""
-    parser = parser_of(
-        "renew", "REGISTER BAG -- OPTIONS OF bagit-renew",
-        "Renews a bag that is as the register has it, checks it, and takes it"
-        " for good.", OF_BAG,
-    )
-    end = words.index("--") if "--" in words else len(words)
-    folder, path = operands(parser.read(words[:end]), 2, 2)
-    options = [os.fsencode(word) for word in words[end:][1:]]
-    program = shutil.which(os.environ.get("BAGIT_RENEW") or "bagit-renew")
-    if program is None:
-        raise Refused("there is no program bagit-renew", 3)
-    with alone(folder, b"asked"), closing(Register(folder)) as register:
-        bag = register.bag_at(path)
-        if sealed(path) != bag["seal"]:
-            text = f"{encoded(path)} isn't as the register has it: see accept"
-            raise Refused(text, 3)
-        asked = [os.fsencode(program), *options, b"--", path]
-        ended = subprocess.run(asked, check=False, stdin=subprocess.DEVNULL)
-        if ended.returncode != 0:
-            return ended.returncode if ended.returncode in (1, 2) else 3
-        why = "renewed by: " + text_of(b" ".join(options))
-        said = Namespace(by="bagit-keep renew", why=why)
-        return accept(register, said, [path])
 
 
 def premis(register: Register, read: Namespace, paths: List[bytes]) -> int:
@@ -346,7 +329,6 @@ WHO = ("by", "why")
 
 COMMANDS: Dict[str, Callable[[Sequence[str]], int]] = {
     "init": init,
-    "renew": renew,
 }
 COMMANDS.update(
     (it.name, it)
@@ -371,7 +353,7 @@ COMMANDS.update(
         Command(
             "accept", "REGISTER BAG",
             "Takes a bag as it is now for good, by a full check.",
-            accept, 2, 2, OF_BAG, WHO, True,
+            accepted, 2, 2, OF_BAG, WHO, True,
         ),
         Command(
             "retire", "REGISTER BAG", "Notes that a bag isn't kept any more.",

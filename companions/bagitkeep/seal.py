@@ -11,7 +11,7 @@ what this writes in the folder of the bag, where `sort` is by bytes:
 import hashlib
 import os
 import stat
-from typing import Iterator, Tuple, Union
+from typing import Dict, Iterator, Tuple, Union
 
 Path = Union[str, bytes]
 PIECE = 1 << 20
@@ -22,11 +22,20 @@ def seal_of(directory: Path) -> str:
 
     An OSError where something can't be read, or is neither file nor folder.
     """
+    return seal_by(sums_of(directory))
+
+
+def sums_of(directory: Path) -> Dict[bytes, str]:
+    """The SHA-512 of each tag file of the bag at a directory, by its path."""
     place = os.path.join(os.fsencode(directory), b"")
+    return {path: sha512_of(place + path) for path in tag_files(place)}
+
+
+def seal_by(sums: Dict[bytes, str]) -> str:
+    """The seal of a bag whose tag files have these digests."""
     seal = hashlib.sha512()
-    for path in sorted(tag_files(place)):
-        line = f"{sha512_of(place + path)}  ".encode() + path
-        seal.update(line + b"\0")
+    for path in sorted(sums):
+        seal.update(f"{sums[path]}  ".encode() + path + b"\0")
     return seal.hexdigest()
 
 
