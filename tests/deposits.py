@@ -720,31 +720,25 @@ def receiving_killed():
     def is_right_with_receipt():
         return is_right() and receipt_in(store, "accepted with remarks")["folder"] == str(store / "deposit")
 
-    killed(["receive", "deposit.tar.gz", store], store / "deposit", new_store, is_right)
-    # At each moment from the check on, which are few: the receipt comes too.
-    new_store()
-    real = receive.accept
-    with open("count", "wb+") as file:
-        def counts():
-            def accept(*words):
-                stops_at(0, file.fileno())()
-                real(*words)
-            receive.accept = accept
-        ends(0, "receive", "deposit.tar.gz", store, before=counts)
-        count = int(os.pread(file.fileno(), 8, 0))
-    assert count > 5, count
-    for moment in range(1, count + 1):
-        def stops():
-            def accept(*words):
-                stops_at(moment)()
-                real(*words)
-            receive.accept = accept
+    def is_in_register():
+        receipt, = Path("register/receipts").glob("*.json")
+        page, = Path("register/receipts").glob("*.html")
+        assert receipt.stem == page.stem and "Receipt " + receipt.stem in page.read_text()
+        said = ends(0, "history", "register", store / "deposit").out
+        assert said.count(" adopted ") == 1 and f"number={receipt.stem} " in said, said
+        ends(0, "audit", "register", says="no news: 2 bags")
+        return is_right()
+
+    def new_register():
         new_store()
-        assert ask("receive", "deposit.tar.gz", store, before=stops).status == -9 or moment == count
-        answer = ask("receive", "deposit.tar.gz", store)
-        assert answer.status == 0 or "is there already" in answer.err, (moment, answer)
-        assert is_right_with_receipt(), (moment, answer)
-        assert sorted(os.listdir(store)) == [".receipts", "deposit", "older"], (moment, os.listdir(store))
+        shutil.rmtree("register", ignore_errors=True)
+        ends(0, "init", "register", store)
+        ends(0, "adopt", "register")
+
+    killed(["receive", "deposit.tar.gz", store], store / "deposit", new_store, is_right)
+    killed_at_the_end(["receive", "deposit.tar.gz", store], new_store, is_right_with_receipt, [".receipts", "deposit", "older"])
+    words = ["receive", "deposit.tar.gz", store, "--register", "register"]
+    killed_at_the_end(words, new_register, is_in_register, ["deposit", "older"])
     # If the bag is damaged before its receipt comes, nothing is called good.
     new_store()
 
@@ -762,6 +756,33 @@ def receiving_killed():
     os.kill(begun[0], signal.SIGTERM)
     answer = end(begun)
     assert answer.status == 3 and os.listdir(store) == ["older"], (answer, os.listdir(store))
+
+
+def killed_at_the_end(words, begin_anew, is_right, names):
+    """Killed at each moment from the check on, which are few, a deposit is received by the same command, with its receipt."""
+    begin_anew()
+    real = receive.accept
+    with open("count", "wb+") as file:
+        def counts():
+            def accept(*words):
+                stops_at(0, file.fileno())()
+                real(*words)
+            receive.accept = accept
+        ends(0, *words, before=counts)
+        count = int(os.pread(file.fileno(), 8, 0))
+    assert count > 5, count
+    for moment in range(1, count + 1):
+        def stops():
+            def accept(*words):
+                stops_at(moment)()
+                real(*words)
+            receive.accept = accept
+        begin_anew()
+        assert ask(*words, before=stops).status == -9 or moment == count
+        answer = ask(*words)
+        assert answer.status == 0 or "is there already" in answer.err or "in the register already" in answer.err, (moment, answer)
+        assert is_right(), (moment, answer)
+        assert sorted(os.listdir(words[2])) == names, (moment, os.listdir(words[2]))
 
 
 def two_at_once():

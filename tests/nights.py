@@ -176,6 +176,49 @@ def night_swapped():
         run('accept', register, bag(number), *who)
 
 
+def night_received():
+    """A deposit that is received is a bag of the register, which keeps its receipt; a bit that changes in one is news."""
+    deposit = work / 'bag-22'
+    make(deposit, '22')
+    run('receive', deposit, store, '--register', register)
+    run('receive', deposit, store, '--register', register, wanted=3)
+    (deposit / 'data/a').write_text('x')
+    run('receive', deposit, store, '--register', register, '--as', 'bag-23', wanted=1)
+    assert run('audit', register)[0].startswith('no news: 21 bags')
+    assert not (store / '.receipts').exists()
+    names = sorted(os.listdir(register / 'receipts'))
+    receipts = [register / 'receipts' / name for name in names if name.endswith('.json')]
+    found = {json.loads(it.read_text())['decision']: it for it in receipts}
+    assert len(names) == 4 and len(found) == 2, names
+    assert any('adopted' in line for line in run('history', register, bag(22)))
+    run('page', register, work / 'pages')
+    pages = {it.name: it.read_text() for it in (work / 'pages').glob('*.html')}
+    assert 'href="receipts.html">Receipts of deposits: 2<' in pages['index.html']
+    assert all(f'href="receipt-{it.stem}.html"' in pages['receipts.html'] for it in receipts)
+    for it, is_flipped in (receipts[0], False), (receipts[0], True), (receipts[1], True):
+        whole = it.read_bytes()
+        it.write_bytes(bytes([whole[0] ^ 1]) + whole[1:]) if is_flipped else it.unlink()
+        said = run('audit', register, wanted=1)
+        assert said[0] == 'news of 1 bag: 1 with an altered receipt', said
+        assert said[1] == f"receipt {it} was altered, or isn't there", said
+        run('page', register, work / 'pages')
+        assert f'receipt-{it.stem}.html' not in os.listdir(work / 'pages')
+        run('known', register, it, '--all', *who)
+        assert run('audit', register)[0].startswith('no news: 21 bags')
+        it.write_bytes(whole)
+        assert run('audit', register)[0].startswith('no news: 21 bags')
+    os.rename(bag(22), work / 'away')
+    (deposit / 'data/a').write_text('22')
+    run('receive', deposit, store, '--register', register, wanted=3)
+    assert not bag(22).exists()
+    run('retire', register, bag(22), *who)
+    run('receive', deposit, store, '--register', register)
+    run('retire', register, bag(22), *who)
+    shutil.rmtree(bag(22))
+    run('receive', deposit, store, '--register', work, wanted=2)
+    run('receive', deposit, store, '--register', register, '--receipt', 'x', wanted=2)
+
+
 def night_moved():
     os.rename(bag(10), store / 'moved')
     run('moved', register, bag(10), store / 'moved', *who)

@@ -30,6 +30,8 @@ members     the files that come: listed, judged by paths, and unpacked
 archives    what a .tar or a .zip has
 serialization  what a profile says of archive files
 receipts    what came, what was found, what became of it
+received    the receipts of a register
+meanings    what the codes of faults mean, by FAULTS.md
 fetch       `bagit-keep fetch`: the files that fetch.txt names
 send        `bagit-keep send`: a bag, packed as a .tar that is checked
 register    the memory of an archive's bags, a database

@@ -17,6 +17,7 @@ from .messages import Parser, Refused, explained, printable, say
 from .news import found_of, is_past, remind, settle, state_of, welcome
 from .program import Asked, Program, find
 from .progress import Progress, bytes_of
+from .received import look
 from .register import Register, Row, alone, path_of
 from .rounds import Round, text_of
 from .rounds import Row as Result
@@ -220,6 +221,7 @@ def take_in(
             if is_cut_off:
                 register.note("cut-off", None, begun=row["begun"])
         welcome(register, there)
+        look(register)
         remind(register)
 
 

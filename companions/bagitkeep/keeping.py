@@ -19,7 +19,7 @@ from .lines import encoded
 from .messages import Parser, Refused, printable, say
 from .news import remind, settle
 from .premis import premis_of
-from .register import Register, Row, alone, make
+from .register import Register, Row, alone, make, take
 from .rounds import Round, text_of
 from .rounds import Row as Result
 
@@ -115,25 +115,10 @@ def adopt(register: Register, read: Namespace, paths: List[bytes]) -> int:
     with register.changing():
         for path, values in found.items():
             if values is not None:
-                take(register, text_of(path), ours, values)
+                take(register, text_of(path), **values)
     count = sum(values is not None for values in found.values())
     print(f"{count} of {len(new)} bags were adopted")
     return max(result.status for result in results)
-
-
-def take(
-    register: Register, path: str, ours: Dict[str, Row], values: Row
-) -> None:
-    """Takes a bag into the register, also one that was retired."""
-    for row in register.rows("findings", "kind = 'new' AND text = ?", path):
-        register.remove("findings", row)
-    row = {**values, "path": path, "is_kept": 1, "adopted": now()}
-    if path in ours:
-        bag: int = ours[path]["id"]
-        register.put("bags", bag, row)
-    else:
-        bag = register.add("bags", **row)
-    register.note("adopted", bag, **values)
 
 
 def status(register: Register, read: Namespace, paths: List[bytes]) -> int:
@@ -193,7 +178,7 @@ def known(register: Register, read: Namespace, paths: List[bytes]) -> int:
         said["until"] = read.until
     text = text_of(paths[0])
     with register.changing():
-        new = register.rows("findings", "kind = 'new' AND text = ?", text)
+        new = register.rows("findings", "bag IS NULL AND text = ?", text)
         bag = {"id": None} if new else register.bag_at(paths[0])
         found = new or register.rows("findings", "bag = ?", bag["id"])
         if not read.all and not new:

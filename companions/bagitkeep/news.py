@@ -21,8 +21,12 @@ KINDS = {
     "unread": "not read",
     "overdue": "overdue",
     "cut-off": "cut off",
+    "receipt": "with an altered receipt",
 }
 """What is found, and how it is counted in a first line."""
+
+OF_PATHS = {"new": "", "receipt": "was altered, or isn't there"}
+"""What is found at paths that are no bag's, and what is said of it."""
 
 Found = Set[Tuple[str, str]]
 """A kind, and a text that says what exactly."""
@@ -98,15 +102,19 @@ def is_past(time: Optional[str], days: float) -> bool:
 def welcome(register: Register, there: List[bytes]) -> None:
     """Finds the bags of these that the register never had."""
     ours = {bag["path"] for bag in register.rows("bags")}
-    new = {text_of(path) for path in there} - ours
-    for row in register.rows("findings", "kind = 'new'"):
-        if row["text"] in new:
-            new.remove(row["text"])
-        else:
+    of_no_bag(register, "new", {text_of(path) for path in there} - ours)
+
+
+def of_no_bag(register: Register, kind: str, paths: Set[str]) -> None:
+    """Has the register say that this is found at these paths, which are no
+    bag's."""
+    for row in register.rows("findings", "kind = ?", kind):
+        if row["text"] not in paths:
             register.remove("findings", row)
-    for text in sorted(new):
+        paths = paths - {row["text"]}
+    for text in sorted(paths):
         register.add(
-            "findings", bag=None, kind="new", text=text, since=now(),
+            "findings", bag=None, kind=kind, text=text, since=now(),
             known=None,
         )
 
@@ -170,7 +178,7 @@ class State:
         lines = [self.first_line()]
         for row in self.news:
             name = self.name_of(row)
-            text = "" if row["kind"] == "new" else row["text"]
+            text = OF_PATHS.get(row["kind"], row["text"])
             lines.append(f"{row['kind']} {name} {text}".rstrip())
         return lines + ([self.counted()] if self.news else [])
 
@@ -179,7 +187,8 @@ class State:
         bag = self.bags.get(row["bag"])
         if bag is not None:
             return encoded(path_of(bag["path"]))
-        return encoded(path_of(row["text"])) if row["kind"] == "new" else "-"
+        is_path = row["kind"] in OF_PATHS
+        return encoded(path_of(row["text"])) if is_path else "-"
 
 
 def state_of(register: Register, cut_off: Optional[Row] = None) -> State:

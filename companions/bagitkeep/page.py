@@ -1,10 +1,9 @@
 """`bagit-keep page`: a register, a round or a report as pages to look at."""
 import json
 import os
-import re
 import shutil
 from collections import Counter, defaultdict
-from contextlib import closing, suppress
+from contextlib import closing
 from dataclasses import dataclass, field
 from datetime import datetime, timedelta, timezone
 from importlib import import_module
@@ -17,8 +16,11 @@ from . import __version__, rounds
 from .checks import now
 from .go_round import absolute
 from .lines import Fault, NotALine, encoded, line_of, report_of
-from .messages import Parser, Refused
+from .meanings import meanings
+from .messages import Parser, Refused, printable
 from .news import MOST_FAULTS, State, state_of
+from .receipts import page_of
+from .received import Noted, noted_in
 from .register import Register, Row, path_of
 from .rounds import sync_folder
 
@@ -39,25 +41,6 @@ MOST_GROUPS = 60
 WEEKS = 53
 AGES = ((7, "0 to 6"), (30, "7 to 29"), (90, "30 to 89"), (365, "90 to 364"))
 LAST_AGE = "365 or more, or never"
-ROW = re.compile(r"^\| (\d{3}) \| `[a-z0-9-]+` \| (.*?) \| (.*?) \|$", re.M)
-MARKS = re.compile(r"\[([^]]*)\]\([^)]*\)|`([^`]*)`|\*\*([^*]*)\*\*")
-
-
-def meanings() -> Dict[int, Tuple[str, str]]:
-    """What each code means and what to do, in the words of FAULTS.md."""
-    here = Path(__file__).resolve()
-    for place in here.parents[2] / "docs", Path("/usr/share/doc/bagit"):
-        with suppress(OSError):
-            text = (place / "FAULTS.md").read_text("utf-8")
-            found = ROW.findall(text)
-            return {int(it[0]): (plain(it[1]), plain(it[2])) for it in found}
-    return {}
-
-
-def plain(text: str) -> str:
-    """A text of a page without its marks."""
-    text = text.replace("\\|", "|")
-    return MARKS.sub(lambda it: it[1] or it[2] or it[3] or "", text)
 
 
 @dataclass(frozen=True)
@@ -85,6 +68,24 @@ class BagView:
     faults: List[Tuple[str, List[FaultView]]] = field(default_factory=list)
     page: str = ""
     is_certified: bool = False
+    receipts: List["ReceiptView"] = field(default_factory=list)
+
+
+@dataclass(frozen=True)
+class ReceiptView:
+    """A receipt as pages show it; `text` is its own page, which is empty
+    where the receipt isn't what was noted."""
+
+    number: str
+    received: str
+    decision: str
+    arrived: str
+    bag: str = ""
+    text: str = ""
+
+    @property
+    def page(self) -> str:
+        return f"receipt-{self.number}.html" if self.text else ""
 
 
 @dataclass
@@ -99,6 +100,7 @@ class Site:
     year: str = ""
     months: List[Dict[str, Any]] = field(default_factory=list)
     lists: List[Dict[str, str]] = field(default_factory=list)
+    receipts: List[ReceiptView] = field(default_factory=list)
 
 
 def by_folder(
@@ -227,6 +229,11 @@ def site_of_register(register: Register) -> Site:
         for bag in kept
     }
     site = Site(state.first_line(), list(views.values()))
+    for it in noted_in(register):
+        view = views.get(it.bag or 0)
+        site.receipts.append(receipt_view(it, view.name if view else ""))
+        if view is not None:
+            view.receipts.append(site.receipts[-1])
     name_pages(site)
     site.news = list(news_of(state, views))
     site.ages = ages_of(kept)
@@ -235,6 +242,17 @@ def site_of_register(register: Register) -> Site:
         site.year, site.months = year_of(kept, ended, events)
         site.weeks = ["shown"]
     return site
+
+
+def receipt_view(it: Noted, bag: str) -> ReceiptView:
+    """A receipt of a register."""
+    if it.says is None:
+        return ReceiptView(it.number, "", "was altered, or isn't there", "")
+    says = it.says
+    return ReceiptView(
+        it.number, says["received"], says["decision"],
+        printable(says["arrived"]["name"]), bag, page_of(says),
+    )
 
 
 def view_of(
@@ -337,9 +355,8 @@ def site_of_report(path: bytes) -> Site:
 def name_pages(site: Site) -> None:
     """Names the pages of the bags that have more to say than a row."""
     for number, bag in enumerate(site.bags, 1):
-        if bag.findings or bag.faults or len(bag.events) > 1 or len(
-            site.bags
-        ) <= MOST_BAGS:
+        says = bag.findings or bag.faults or bag.receipts
+        if says or len(bag.events) > 1 or len(site.bags) <= MOST_BAGS:
             bag.page = f"bag-{number}.html"
     for start in range(0, len(site.bags), MOST_BAGS):
         some = site.bags[start:][:MOST_BAGS]
@@ -368,10 +385,12 @@ def write(site: Site, folder: bytes) -> None:
     pages.globals.update(now=now(), version=__version__)
     os.mkdir(folder)
 
-    def put(name: str, template: str, **values: Any) -> None:
-        text = pages.get_template(template).render(**values)
+    def put_text(name: str, text: str) -> None:
         with open(join(folder, os.fsencode(name)), "xb") as file:
             file.write(text.encode("utf-8", "backslashreplace"))
+
+    def put(name: str, template: str, **values: Any) -> None:
+        put_text(name, pages.get_template(template).render(**values))
 
     put("index.html", "index.html", site=site, title=site.first_line, home=0)
     for number, it in enumerate(site.lists):
@@ -382,6 +401,12 @@ def write(site: Site, folder: bytes) -> None:
     for bag in site.bags:
         if bag.page:
             put(bag.page, "bag.html", bag=bag, title=bag.name, home=1)
+    if site.receipts:
+        put("receipts.html", "receipts.html", site=site, title="Receipts",
+            home=1)
+    for receipt in site.receipts:
+        if receipt.page:
+            put_text(receipt.page, receipt.text)
     with open(join(folder, MARK), "xb"):
         pass
 

@@ -1,31 +1,24 @@
 """The receipt of a deposit: what came, what was found, what became of it."""
+import errno
 import hashlib
 import html
 import os
 import re
-from contextlib import suppress
-from typing import Any, Dict, Iterable, Iterator, List, Tuple
+from typing import Any, Dict, Iterable, Iterator, List, Optional, Tuple
 
 from . import __version__, tags
 from .bagit import Bag
 from .info import description_of
 from .lines import Fault
+from .meanings import meanings
 from .members import Member, folder_content, folders_of, key_of, shown
 from .messages import printable
+from .places import Work, place
 from .program import find
-from .rounds import read_bytes
+from .received import enter
+from .rounds import read_bytes, write_synced
 
 SHOWN = 3
-HERE = os.path.dirname(__file__)
-FAULTS = (
-    os.path.join(HERE, "../../docs/FAULTS.md"),
-    os.path.join(HERE, "../../../../share/doc/bagit/FAULTS.md"),
-)
-"""Where the page on faults is, in a checkout and where it is installed."""
-
-ROW = re.compile(
-    r"^\| ([1-8][0-9]{2}) \| `[a-z0-9-]+` \| (.*) \| (.*) \|$", re.MULTILINE
-)
 WEAK = {"md5", "sha1"}
 DEVICES = "con prn aux nul com[1-9] lpt[1-9]".replace(" ", "|")
 NOT_IN_WINDOWS = re.compile(
@@ -103,21 +96,6 @@ def refused_by_windows(path: str) -> bool:
     return NOT_IN_WINDOWS.search(path.rpartition("/")[2]) is not None
 
 
-def meanings() -> Dict[int, Tuple[str, str]]:
-    """What each code means, and what to do, by the page on faults; nothing
-    where it isn't installed."""
-    for path in FAULTS:
-        with suppress(OSError):
-            with open(path, encoding="utf-8") as file:
-                page = re.sub(r"\[([^]]*)\]\([^)]*\)", r"\1", file.read())
-            rows = ROW.findall(page)
-            return {
-                int(code): (means.replace("`", ""), asks.replace("`", ""))
-                for code, means, asks in rows
-            }
-    return {}
-
-
 def explained_faults(faults: Iterable[Fault]) -> List[Dict[str, str]]:
     """Faults, each with what it means and what to do."""
     known, found = meanings(), []
@@ -165,7 +143,9 @@ def versions() -> Dict[str, Any]:
 
 
 PAGE = """<!DOCTYPE html>
-<html lang="en"><head><meta charset="utf-8"><title>{title}</title><style>
+<html lang="en"><head><meta charset="utf-8"><title>{title}</title>
+<meta name="viewport" content="width=device-width, initial-scale=1"><style>
+:root {{ color-scheme: light dark }}
 body {{ font: 11pt/1.4 serif; margin: 2em auto; max-width: 48em }}
 th {{ text-align: left; vertical-align: top; padding-right: 1em }}
 td {{ overflow-wrap: anywhere }}
@@ -194,3 +174,36 @@ def shown_value(value: Any) -> str:
     if isinstance(value, list):
         return "".join(f"<p>{shown_value(it)}</p>\n" for it in value) or "none"
     return "-" if value is None else html.escape(printable(str(value)))
+
+
+def publish(work: Work, path: str, page: str, register: Optional[str]) -> None:
+    """Gives the receipt in a folder its names, which nothing may have. What a
+    register notes is there by then, and may be there of a killed process."""
+    written = work.at("receipt.json")
+    if os.path.lexists(work.at("receipt.html")):
+        publish_file(work.at("receipt.html"), page)
+    if register is None:
+        publish_file(written, path)
+        return
+    content = read_bytes(os.fsencode(written))
+    if not os.path.lexists(path):
+        publish_copy(content, path)
+    enter(register, content)
+
+
+def publish_file(path: str, target: str) -> None:
+    """Moves a file, also to another file system, onto nothing."""
+    try:
+        place(path, target)
+    except OSError as error:
+        if error.errno != errno.EXDEV:
+            raise
+        publish_copy(read_bytes(os.fsencode(path)), target)
+        os.unlink(path)
+
+
+def publish_copy(content: bytes, target: str) -> None:
+    """Writes a file, whole, onto nothing."""
+    part = f"{target}.{os.urandom(4).hex()}.part"
+    write_synced(os.fsencode(part), content)
+    place(part, target)

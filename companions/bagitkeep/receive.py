@@ -1,17 +1,16 @@
 """`bagit-keep receive`: what somebody sends becomes a bag of a store, once a
 full check of it has found no fault."""
 import argparse
-import errno
 import json
 import os
 import re
 import stat
-from contextlib import ExitStack, suppress
+from contextlib import ExitStack, closing, suppress
 from dataclasses import dataclass, field
 from datetime import datetime, timezone
 from typing import IO, Any, Dict, List, Optional, Sequence, Tuple
 
-from . import tags
+from . import receipts, tags
 from .archives import (
     MOST_TIMES,
     form_of,
@@ -55,6 +54,8 @@ from .receipts import (
     text_of,
     versions,
 )
+from .received import refuse_kept
+from .register import Register
 from .rounds import sync_folder, write_synced
 from .runs import BagReport, check
 from .seal import seal_of
@@ -107,9 +108,19 @@ class Case:
         path = self.asked.receipt
         if path is None:
             folder = os.path.join(self.store, ".receipts")
+            if self.asked.register is not None:
+                folder = os.path.join(self.asked.register, "receipts")
             path = os.path.join(folder, f"{self.number}.json")
         path = absolute(path)
         return path, f"{os.path.splitext(path)[0]}.html"
+
+    def refuse_name(self, name: str) -> None:
+        """Refuses a bag's name that is taken, also of one in the register."""
+        folder = os.path.join(self.store, name)
+        refuse_there(folder)
+        if self.asked.register is not None:
+            with closing(Register(os.fsencode(self.asked.register))) as there:
+                refuse_kept(there, folder)
 
 
 def digest_of(word: str) -> Tuple[str, str]:
@@ -161,6 +172,7 @@ def read_words(words: Sequence[str]) -> argparse.Namespace:
     add_options(parser)
     add("--profile", "check by this BagIt profile too", "FILE")
     add("--receipt", "write the receipt here, not into STORE", "FILE")
+    add("--register", "take the bag and the receipt in here", "REGISTER")
     read = parser.read(words)
     if len(read.operands) != 2 or not all(read.operands):
         raise Refused("it takes a deposit and a store; --help says more")
@@ -168,6 +180,8 @@ def read_words(words: Sequence[str]) -> argparse.Namespace:
         raise Refused("--allow goes with --fetch")
     if read.receipt is not None and read.receipt.endswith(".html"):
         raise Refused("the receipt is JSON, and the page comes beside it")
+    if read.receipt is not None and read.register is not None:
+        raise Refused("the receipt is kept in the register, or by --receipt")
     return read
 
 
@@ -180,6 +194,8 @@ def case_of(asked: argparse.Namespace, stack: ExitStack) -> Case:
         raise Refused("the store lies in the deposit")
     if find() is None:
         raise Refused("there is no program bagit", 3)
+    if asked.register is not None:
+        Register(os.fsencode(asked.register)).close()
     profile = asked.profile and os.path.abspath(asked.profile)
     now = datetime.now(timezone.utc)
     case = Case(
@@ -267,7 +283,7 @@ def take_in(case: Case, work: Work) -> str:
     refuse_twice(content.members, case.file is not None)
     if name.startswith(".") or not name.isprintable():
         raise Unfit(f"{shown(name)} is no name for a bag: --as gives another")
-    refuse_there(os.path.join(case.store, name))
+    case.refuse_name(name)
     os.mkdir(work.at("in"))
     with understood():
         unpack(content, work.at("in"))
@@ -353,29 +369,14 @@ def draft(work: Work, receipt: Dict[str, Any]) -> None:
 
 
 def publish(case: Case, work: Work) -> str:
-    """Gives the receipt its names, which nothing may have."""
+    """Gives the receipt its names; says where it is."""
     path, page = case.receipt_paths()
     if case.asked.receipt is None:
-        os.makedirs(os.path.dirname(path), exist_ok=True)
-        sync_folder(os.fsencode(case.store))
-    for name, target in ("receipt.html", page), ("receipt.json", path):
-        if os.path.lexists(work.at(name)):
-            publish_file(work.at(name), target)
+        folder = os.path.dirname(path)
+        os.makedirs(folder, exist_ok=True)
+        sync_folder(os.fsencode(os.path.dirname(folder)))
+    receipts.publish(work, path, page, case.asked.register)
     return encoded(os.fsencode(path))
-
-
-def publish_file(path: str, target: str) -> None:
-    """Moves a file, also to another file system, onto nothing."""
-    try:
-        place(path, target)
-    except OSError as error:
-        if error.errno != errno.EXDEV:
-            raise
-        part = f"{target}.{os.urandom(4).hex()}.part"
-        with open(path, "rb") as file:
-            write_synced(os.fsencode(part), file.read())
-        place(part, target)
-        os.unlink(path)
 
 
 def receive(case: Case, work: Work) -> int:

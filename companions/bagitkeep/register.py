@@ -3,6 +3,7 @@
     register.sqlite    the bags, what was found of them, what people said
     register.copy      the same, as it was after the last audit
     rounds/000001/     a round, as `bagit-keep round` has it
+    receipts/          those of `bagit-keep receive`, and a page of each
     lock, asked        are locked by who audits, or checks some bags
 
 Each row has the SHA-256 of its values, so that a bit that changes in the
@@ -194,6 +195,22 @@ class Register:
             with suppress(FileNotFoundError):
                 os.unlink(draft)
         sync_folder(self.folder)
+
+
+def take(register: Register, path: str, **values: Any) -> int:
+    """Takes a bag into the register, also one that was retired; gives its
+    number."""
+    for row in register.rows("findings", "kind = 'new' AND text = ?", path):
+        register.remove("findings", row)
+    row_now = {**values, "path": path, "is_kept": 1, "adopted": now()}
+    ours = register.rows("bags", "path = ?", path)
+    if ours:
+        bag: int = ours[0]["id"]
+        register.put("bags", bag, row_now)
+    else:
+        bag = register.add("bags", **row_now)
+    register.note("adopted", bag, **values)
+    return bag
 
 
 def connect(path: bytes) -> sqlite3.Connection:

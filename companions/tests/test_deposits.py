@@ -13,7 +13,8 @@ from bagitkeep.lines import WORDS
 from bagitkeep.members import Content, Member, Unfit
 from bagitkeep.messages import Refused
 from bagitkeep.places import place, place_by_look, work_at, work_path
-from bagitkeep.receipts import meanings, page_of, refused_by_windows, text_of
+from bagitkeep.meanings import meanings
+from bagitkeep.receipts import page_of, refused_by_windows, text_of
 from bagitkeep.receive import Case, arrange, digest_of, read_words
 from bagitkeep.serialization import why_not_so
 

@@ -6,7 +6,7 @@ from importlib.util import find_spec
 from pathlib import Path
 from unittest import mock
 
-from bagitkeep import page
+from bagitkeep import meanings, page
 from bagitkeep.messages import Refused
 from bagitkeep.program import Asked
 from bagitkeep.rounds import Record, Row
@@ -40,7 +40,7 @@ class Views(unittest.TestCase):
     def test_each_code_has_its_meaning(self) -> None:
         if not (Path(page.__file__).parents[2] / "docs").is_dir():
             self.skipTest("the pages aren't here")
-        means = page.meanings()
+        means = meanings.meanings()
         self.assertLess(40, len(means))
         for code in 101, 701, 813:
             self.assertTrue(means[code][0] and means[code][1])
@@ -56,7 +56,7 @@ class Views(unittest.TestCase):
             self.assertEqual(wanted, bag.read is not None)
 
     def test_marks_go(self) -> None:
-        self.assertEqual("a b c d|e", page.plain("[a](x) `b` **c** d\\|e"))
+        self.assertEqual("a b c d|e", meanings.plain("[a](x) `b` **c** d\\|e"))
 
     def test_ages(self) -> None:
         today = page.now()

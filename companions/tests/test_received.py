@@ -1,0 +1,108 @@
+"""Receipts of a register, and the bags that came with them."""
+import json
+import os
+import tempfile
+import unittest
+from contextlib import closing
+from pathlib import Path
+from typing import Any, Dict, List
+
+from bagitkeep import received, register
+from bagitkeep.messages import Refused
+from bagitkeep.places import Work
+from bagitkeep.receipts import publish
+
+SEAL = "0" * 128
+
+
+class OfRegister(unittest.TestCase):
+    def setUp(self) -> None:
+        room = tempfile.TemporaryDirectory()
+        self.addCleanup(room.cleanup)
+        self.room = Path(os.path.realpath(room.name))
+        (self.room / "store").mkdir()
+        (self.room / "link").symlink_to("store")
+        self.folder = str(self.room / "register")
+        stores = [str(self.room / "link")]
+        register.make(os.fsencode(self.folder), {"stores": stores})
+
+    def receipt(self, number: str, name: str = "", seal: str = SEAL) -> bytes:
+        receipt: Dict[str, Any] = {
+            "number": number,
+            "received": "2026-01-01T00:00:00Z",
+            "decision": "accepted" if name else "refused",
+            "folder": str(self.room / "store" / name) if name else None,
+            "bag": {"seal": seal, "files": 1, "bytes": 2, "version": "1.0"},
+        }
+        return json.dumps(receipt).encode()
+
+    def enter(self, number: str, name: str = "", seal: str = SEAL) -> None:
+        content = self.receipt(number, name, seal)
+        path = Path(os.fsdecode(
+            received.path_in(os.fsencode(self.folder), number)
+        ))
+        path.parent.mkdir(exist_ok=True)
+        path.write_bytes(content)
+        received.enter(self.folder, content)
+
+    def rows(self, table: str, where: str = "1") -> List[register.Row]:
+        with closing(register.Register(os.fsencode(self.folder))) as opened:
+            return opened.rows(table, where)
+
+    def test_a_bag_is_taken_by_the_name_of_its_store(self) -> None:
+        self.enter("1", "a")
+        (bag,) = self.rows("bags")
+        self.assertEqual(bag["path"], str(self.room / "link" / "a"))
+        self.assertEqual(
+            (bag["seal"], bag["files"], bag["bytes"], bag["read"]),
+            (SEAL, 1, 2, "2026-01-01T00:00:00Z"),
+        )
+
+    def test_a_receipt_is_noted_once(self) -> None:
+        for _ in range(2):
+            self.enter("1", "a")
+            self.enter("2")
+        kinds = [it["kind"] for it in self.rows("events")]
+        self.assertEqual(
+            kinds, ["init", "adopted", "received", "received"]
+        )
+
+    def test_another_bag_is_not_replaced(self) -> None:
+        self.enter("1", "a")
+        with self.assertRaisesRegex(Refused, "in the register already"):
+            self.enter("2", "a", "1" * 128)
+        self.assertEqual([it["seal"] for it in self.rows("bags")], [SEAL])
+        self.enter("3", "a")
+
+    def test_one_that_is_altered_is_found(self) -> None:
+        self.enter("1", "a")
+        path = Path(self.folder, "receipts", "1.json")
+        whole = path.read_bytes()
+        with closing(register.Register(os.fsencode(self.folder))) as opened:
+            for content, wanted in ((whole, 0), (whole + b" ", 1), (whole, 0)):
+                path.write_bytes(content)
+                with opened.changing():
+                    received.look(opened)
+                found = opened.rows("findings")
+                self.assertEqual(len(found), wanted)
+                (noted,) = received.noted_in(opened)
+                self.assertEqual(noted.says is None, bool(wanted))
+
+    def test_a_killed_process_has_published_a_part(self) -> None:
+        folder = self.room / "work"
+        folder.mkdir()
+        work, content = Work(str(folder)), self.receipt("1", "a")
+        paths = [f"{self.folder}/receipts/1.{it}" for it in ("json", "html")]
+        Path(paths[0]).parent.mkdir()
+        for is_published in False, True:
+            (folder / "receipt.json").write_bytes(content)
+            if not is_published:
+                (folder / "receipt.html").write_text("page")
+            publish(work, paths[0], paths[1], self.folder)
+            self.assertEqual(Path(paths[0]).read_bytes(), content)
+            self.assertEqual(Path(paths[1]).read_text(), "page")
+        self.assertEqual(len(self.rows("events", "kind = 'received'")), 1)
+
+
+if __name__ == "__main__":
+    unittest.main()
