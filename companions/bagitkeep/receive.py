@@ -172,7 +172,8 @@ def read_words(words: Sequence[str]) -> argparse.Namespace:
     add_options(parser)
     add("--profile", "check by this BagIt profile too", "FILE")
     add("--receipt", "write the receipt here, not into STORE", "FILE")
-    add("--register", "take the bag and the receipt in here", "REGISTER")
+    text = "take the bag and its receipt into this register"
+    add("--register", text, "DIRECTORY")
     read = parser.read(words)
     if len(read.operands) != 2 or not all(read.operands):
         raise Refused("it takes a deposit and a store; --help says more")
