@@ -43,7 +43,7 @@ if python3 -m pip --version >/dev/null 2>&1; then
     cp -r . "$work/copy"
     python3 -m pip install --quiet --disable-pip-version-check --no-index --no-compile --target "$work/installed" "$work/copy" \
         >"$work/said" 2>&1 || { cat "$work/said"; give_up 'pip does not install it'; }
-    diff <(cd "$work/installed/bagitkeep" && ls *.py templates) <(cd bagitkeep && ls *.py templates) ||
+    diff <(cd "$work/installed/bagitkeep" && ls *.py* templates) <(cd bagitkeep && ls *.py* templates) ||
         give_up 'what pip has installed lacks a file'
     installed='installed by pip without a network'
 fi

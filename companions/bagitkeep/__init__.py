@@ -43,6 +43,7 @@ page        `bagit-keep page`: registers, rounds and reports as pages
 premis      events of a bag as PREMIS 3
 places      folders in which something is made, and names given once
 commands    which commands there are, and how any of them ends
+supported   refuses a Python that is too old
 messages    what they say to people, and how they read their words
 """
 

@@ -1,11 +1,10 @@
 """The command `bagit-keep`."""
 import sys
 
-if sys.version_info < (3, 9):
-    sys.stderr.write(
-        "bagit-keep: it needs Python 3.9 or newer, and this is %d.%d\n"
-        % sys.version_info[:2]
-    )
+try:
+    from bagitkeep import supported  # noqa: F401
+except ImportError as error:
+    sys.stderr.write("bagit-keep: %s\n" % error)
     sys.exit(3)
 
 from bagitkeep.commands import run  # noqa: E402

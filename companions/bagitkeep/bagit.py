@@ -27,7 +27,7 @@ from typing import (
     Union,
 )
 
-from . import __version__, tags
+from . import __version__, supported, tags  # noqa: F401
 from .elements import (
     elements_in,
     info_of,

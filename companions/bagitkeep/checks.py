@@ -205,32 +205,42 @@ class Checks:
         assert self.program is not None
         if verdict.status == 3 and self.program.is_stopped:
             return
-        files, size = counted(directory)
-        place = b"tries"
-        if verdict.status != 3:
-            place, name = b"reports", self.round.name_of(number) + b".txt"
-        self._records.add(
-            Record(
-                number,
-                text_of(directory),
-                text_of(os.path.realpath(directory)),
-                begun,
-                now(),
-                time.time_ns(),
-                verdict.result if verdict.closing is None else None,
-                __version__,
-                self.digest_of_program(),
-                f"{place.decode()}/{name.decode()}",
-                sha256_of(file),
-                seal,
-                files,
-                size,
-            )
-        )
+        self._records.add(self.record(number, begun, file, verdict, seal))
         if verdict.status != 3:
             file = self.publish(number, file, verdict, is_alone)
         if verdict.status != 0:
             tell(directory, verdict, file)
+
+    def record(
+        self,
+        number: int,
+        begun: str,
+        file: bytes,
+        verdict: Verdict,
+        seal: Optional[str],
+    ) -> Record:
+        """The record of a check whose report is in a file."""
+        directory = self.round.directories[number - 1]
+        files, size = counted(directory)
+        report = b"tries/" + os.path.basename(file)
+        if verdict.status != 3:
+            report = b"reports/" + self.round.name_of(number) + b".txt"
+        return Record(
+            number,
+            text_of(directory),
+            text_of(os.path.realpath(directory)),
+            begun,
+            now(),
+            time.time_ns(),
+            verdict.result if verdict.closing is None else None,
+            __version__,
+            self.digest_of_program(),
+            report.decode(),
+            sha256_of(file),
+            seal,
+            files,
+            size,
+        )
 
     def check(
         self, directory: bytes, out: IO[bytes]

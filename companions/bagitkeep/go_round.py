@@ -67,7 +67,7 @@ DEPTHS = {
 }
 
 
-def read_words(words: Sequence[str]) -> argparse.Namespace:
+def parser_of_words() -> Parser:
     parser = Parser("bagit-keep round", USAGE, ABOUT, END)
     add = parser.option
     add(
@@ -101,7 +101,11 @@ def read_words(words: Sequence[str]) -> argparse.Namespace:
         choices=list(FORMATS),
     )
     add("--since", "add how each bag stood in this earlier round", "DIRECTORY")
-    read = parser.read(words)
+    return parser
+
+
+def read_words(words: Sequence[str]) -> argparse.Namespace:
+    read = parser_of_words().read(words)
     if not read.operands or not read.operands[0]:
         raise Refused(
             "it takes a folder for the round, and directories; --help says"

@@ -369,8 +369,8 @@ def name_pages(site: Site) -> None:
         )
 
 
-def write(site: Site, folder: bytes) -> None:
-    """Writes all pages into a folder that isn't there."""
+def templates() -> Any:
+    """The templates of the pages, by which no text acts."""
     try:
         jinja2: Any = import_module("jinja2")
     except ImportError as error:
@@ -383,6 +383,12 @@ def write(site: Site, folder: bytes) -> None:
         lstrip_blocks=True,
     )
     pages.globals.update(now=now(), version=__version__)
+    return pages
+
+
+def write(site: Site, folder: bytes) -> None:
+    """Writes all pages into a folder that isn't there."""
+    pages = templates()
     os.mkdir(folder)
 
     def put_text(name: str, text: str) -> None:

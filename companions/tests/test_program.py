@@ -7,9 +7,12 @@ import tempfile
 import threading
 import time
 import unittest
+from importlib import reload
 from pathlib import Path
 from typing import Optional
+from unittest import mock
 
+from bagitkeep import supported
 from bagitkeep.lines import Closing, Report
 from bagitkeep.program import (
     Asked,
@@ -207,6 +210,14 @@ class Runs(unittest.TestCase):
             while process.exists() and " Z " not in process.read_text():
                 self.assertLess(time.monotonic(), until, "it goes on")
                 time.sleep(0.01)
+
+
+class Pythons(unittest.TestCase):
+    def test_one_that_is_too_old_is_said(self) -> None:
+        with mock.patch.object(sys, "version_info", (3, 8, 18)):
+            with self.assertRaisesRegex(ImportError, "3.9 or newer, .* 3.8$"):
+                reload(supported)
+        reload(supported)
 
 
 if __name__ == "__main__":
