@@ -6,6 +6,8 @@ usage: tests/bag_life.py
 The variables BAGIT and BAGIT_RENEW name the programs, and SMALL_DISK a small disk that may be filled, if there is one. What
 a bag has to be follows from how it is made here, by digests of Python's hashlib.
 """
+import errno
+import fcntl
 import hashlib
 import io
 import os
@@ -72,8 +74,8 @@ class Life(unittest.TestCase):
 
     # What is run.
 
-    def begin(self, words, user=None, steps=0, **environment):
-        """Begins a command in a process of its own, as another user, or killed before its step of this number."""
+    def begin(self, words, user=None, steps=0, locks=None, **environment):
+        """Begins a command in a process of its own: as another user, killed before its step of this number, or where a lock is this error."""
         out, said = tempfile.TemporaryFile(), tempfile.TemporaryFile()
         sys.stdout.flush()
         number = os.fork()
@@ -92,6 +94,8 @@ class Life(unittest.TestCase):
                         sys.executable = shutil.which("python3", path="/usr/bin:/bin")
                 if steps:
                     self.die_at(steps)
+                if locks:
+                    fcntl.flock = self.refusing(locks)
                 sys.argv = ["bagit-keep", *words]
                 sys.stdout = io.TextIOWrapper(io.FileIO(1, "w", closefd=False), encoding="utf-8")
                 sys.stderr = io.TextIOWrapper(io.FileIO(2, "w", closefd=False), encoding="utf-8")
@@ -115,6 +119,12 @@ class Life(unittest.TestCase):
 
         for name in STEPS:
             setattr(os, name, dying(getattr(os, name)))
+
+    def refusing(self, error):
+        def refused(*words):
+            raise OSError(error, os.strerror(error))
+
+        return refused
 
     def end(self, begun):
         number, *files = begun
@@ -407,6 +417,32 @@ class EachCommand(Life):
                     ended = [self.end(it) for it in begun]
                     self.assertIn(0, [it.status for it in ended], "\n".join(map(str, ended)))
                     scenario.assert_done()
+
+    def test_without_locks(self):
+        """A file that names host and process keeps others out, also once the process was killed."""
+        host = os.uname().nodename
+        for kind, error in zip(COMMANDS, (errno.ENOSYS, errno.ENOLCK, errno.EOPNOTSUPP, errno.ENOLCK)):
+            with self.subTest(kind.__name__, error=error):
+                scenario = kind(self)
+                Path("waits").write_text(f'#!/bin/sh\n: >begun; until [ -e go ]; do sleep 0.02; done\nexec {os.environ["BAGIT"]} "$@"\n')
+                os.chmod("waits", 0o755)
+                first = self.begin(scenario.words, locks=error, BAGIT=f"{self.folder}/waits")
+                while not lexists("begun"):
+                    time.sleep(0.02)
+                said = self.ends(3, *scenario.words, locks=error).said
+                self.assertIn(f"/d.locked: {host} {first[0]}.", said)
+                Path("go").touch()
+                ended = self.end(first)
+                self.assertEqual(ended.status, 0, str(ended))
+                scenario.assert_done()
+                scenario = kind(self)
+                begun = self.begin(scenario.words, steps=4, locks=error)
+                self.assertEqual(self.end(begun).status, -signal.SIGKILL)
+                self.assertIn(f"/d.locked: {host} {begun[0]}.", self.ends(3, *scenario.words, locks=error).said)
+                os.unlink("d.locked")
+                self.assertEqual(self.run_it(*scenario.words, locks=error).status, 0)
+                scenario.assert_done()
+                scenario.assert_kept()
 
     @unittest.skipUnless(os.environ.get("SMALL_DISK"), "there is no small disk")
     def test_full_disk(self):

@@ -139,7 +139,7 @@ class Beside:
             os.mkdir(self.work)
             build(self.work)
             report = checked(self.work)
-            with alone(self.work):
+            with alone(self.work, self.bag):
                 self.put(words)
         finally:
             if lexists(self.bag):
@@ -202,7 +202,7 @@ def replaced(
     place = Beside(bag, command)
     if os.path.ismount(bag):
         raise BagError(f"{shown(bag)} is where a disk is mounted")
-    with alone(bag if lexists(bag) else place.work):
+    with alone(bag if lexists(bag) else place.work, bag):
         try:
             if place.is_done(words):
                 return show(check(bag, Asked()))

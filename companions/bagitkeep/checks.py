@@ -15,10 +15,10 @@ from . import __version__
 from .lines import encoded
 from .messages import explained, say
 from .program import Program, Stopped, Verdict, named
-from .rounds import Record, Round, naming, sha256_of, sync_folder, text_of
+from .rounds import NO_LOCKS, Record, Round, naming, sha256_of, sync_folder
+from .rounds import text_of
 from .seal import payload_of, seal_of
 
-NO_LOCKS = (errno.ENOSYS, errno.ENOLCK, errno.EOPNOTSUPP, errno.EINVAL)
 NO_LINKS = (errno.ENOSYS, errno.EPERM, errno.EOPNOTSUPP, errno.EMLINK)
 
 

@@ -19,10 +19,10 @@ from contextlib import closing, contextmanager, suppress
 from os.path import join
 from typing import Any, Dict, Iterator, List, Optional
 
-from .checks import NO_LOCKS, now
+from .checks import now
 from .lines import encoded
 from .messages import Refused
-from .rounds import sync_folder, text_of
+from .rounds import NO_LOCKS, sync_folder, text_of
 
 FORMAT = 1
 APPLICATION = 0x62616769

@@ -34,6 +34,9 @@ from .messages import Refused
 from .program import Asked, Ended, Verdict, named, verdict_of
 
 FORMAT = 2
+NO_LOCKS = (errno.ENOSYS, errno.ENOLCK, errno.EOPNOTSUPP, errno.EINVAL)
+"""The errors of a file system that has no locks."""
+
 ALTERED = "its record or report was altered: remove it"
 
 

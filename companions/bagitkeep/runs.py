@@ -1,17 +1,19 @@
 """Runs of `bagit` and `bagit-renew` for one bag, with what they answer."""
 import fcntl
 import os
+import socket
 import tempfile
 from concurrent.futures import ThreadPoolExecutor, wait
-from contextlib import contextmanager
+from contextlib import contextmanager, nullcontext
 from dataclasses import dataclass, field
 from typing import IO, Callable, Iterator, List, Optional, Sequence
 
 from .errors import BagError, BagNotChecked, Unread
 from .lines import Fault, Unchecked, encoded, line_of
 from .messages import printable
-from .program import Asked, Ended, Program, Verdict, find, named
+from .program import Asked, Ended, Program, Verdict, find, first_line, named
 from .progress import bytes_of, read_by
+from .rounds import NO_LOCKS, read_bytes, write_synced
 
 MOST_SHOWN = 1 << 16
 SECONDS = 1.0
@@ -146,24 +148,53 @@ def find_renew() -> Optional[str]:
 
 
 @contextmanager
-def alone(path: str) -> Iterator[int]:
-    """Refuses a second one that would write to the bag at a path at the same
-    time, where the system has locks. This is the lock, an open folder."""
+def alone(path: str, bag: Optional[str] = None) -> Iterator[int]:
+    """Refuses a second one that would write to the bag at a path, or to what
+    is to become this bag, at the same time. This is the lock, an open folder.
+    Where the system has no locks a file beside the bag stands for it."""
     folder = os.open(path, os.O_RDONLY | os.O_DIRECTORY)
+    claim = os.path.realpath(bag or path) + ".locked"
     try:
-        lock(folder)
-        if not os.path.samestat(os.fstat(folder), os.stat(path)):
-            raise BagError("another process has replaced this bag")
-        yield folder
+        with nullcontext() if locked(folder) else claimed(claim):
+            if not os.path.samestat(os.fstat(folder), os.stat(path)):
+                raise BagError("another process has replaced this bag")
+            yield folder
     finally:
         os.close(folder)
 
 
-def lock(folder: int) -> None:
-    """Locks an open folder, or raises a BagError where another has."""
+def locked(folder: int) -> bool:
+    """Locks an open folder, or raises a BagError where another has; False
+    where the system has no locks."""
     try:
         fcntl.flock(folder, fcntl.LOCK_EX | fcntl.LOCK_NB)
     except BlockingIOError as error:
         raise BagError("another process is writing this bag") from error
-    except OSError:  # this file system has no locks
-        pass
+    except OSError as error:
+        if error.errno not in NO_LOCKS:
+            raise
+        return False
+    return True
+
+
+@contextmanager
+def claimed(path: str) -> Iterator[None]:
+    """Makes a file that names host and process, unless this process has made
+    it. Nobody can say whether one on another host is at work."""
+    who = f"{socket.gethostname()} {os.getpid()}\n".encode()
+    name = os.fsencode(path)
+    try:
+        write_synced(name, who)
+    except FileExistsError as error:
+        found = read_bytes(name)
+        if found != who:
+            raise BagError(
+                f"another process is writing this bag, by {encoded(name)}:"
+                f" {first_line(found)}. If it isn't, remove that file"
+            ) from error
+        yield
+        return
+    try:
+        yield
+    finally:
+        os.unlink(name)
