@@ -123,7 +123,7 @@ class Beside:
             return False
         if lexists(self.work):
             os.rename(self.work, self.bag)
-            sync(dirname(self.bag))
+        self.sync_both()
         self.clear()
         say(f"the old bag is {shown(record['kept'])}")
         return bool(record["words"] == list(words))
@@ -155,9 +155,14 @@ class Beside:
         sync(dirname(self.bag))
         os.rename(self.work, self.bag)
         os.chmod(self.bag, mode)
-        sync(dirname(self.bag))
+        self.sync_both()
         self.clear()
         say(f"the old bag is {shown(kept)}")
+
+    def sync_both(self) -> None:
+        """Syncs the two folders between which the new bag was moved."""
+        sync(self.path)
+        sync(dirname(self.bag))
 
 
 def by_force(function: Callable[[str], Any], path: str, error: Any) -> None:

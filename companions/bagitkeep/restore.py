@@ -156,6 +156,7 @@ def put(new: str, bag: str, path: str, kept: str) -> None:
     dress(new, like)
     os.rename(new, target)
     sync(dirname(target))
+    sync(dirname(new))
 
 
 def put_all(bag: str, found: Dict[str, Tuple[str, str]], kept: str) -> int:
