@@ -219,6 +219,44 @@ def night_received():
     run('receive', deposit, store, '--register', register, '--receipt', 'x', wanted=2)
 
 
+def night_of_tars():
+    """A bag in a .tar is kept as any other."""
+    helped = subprocess.run([os.environ['BAGIT'], '--help'], capture_output=True, text=True)
+    if ' --tar ' not in helped.stdout:
+        return
+
+    def pack(text):
+        make(work / 'packed/bag', text)
+        subprocess.run(['tar', '-cf', packed, '-C', work / 'packed', 'bag'], check=True)
+        shutil.rmtree(work / 'packed')
+
+    packed, away = store / 'bag.tar', work / 'away.tar'
+    pack('24')
+    news(f'new {packed}')
+    run('adopt', register)
+    assert run('audit', register)[0].startswith('no news: 21 bags')
+    whole = packed.read_bytes()
+    was, now = (hashlib.sha256(it.encode()).hexdigest() for it in ('24', '2x'))
+    for changed, line in (
+        (whole.replace(b'24' + bytes(510), b'2x' + bytes(510)), f'fault {packed} 701 payload-sum-differs data/a sha256 - {was}:{now}'),
+        (whole[:1024], f'unread {packed} {packed} unread '),
+    ):
+        packed.write_bytes(changed)
+        said = run('audit', register, wanted=1)
+        assert len(said) == 3 and said[1].startswith(line), said
+        packed.write_bytes(whole)
+        assert run('audit', register)[0].startswith('no news: 21 bags')
+    pack('another')
+    assert run('audit', register, wanted=1)[0] == 'news of 1 bag: 1 altered'
+    run('accept', register, packed, *who)
+    os.rename(packed, away)
+    news(f'missing {packed}')
+    run('moved', register, packed, away, *who)
+    assert run('audit', register)[0].startswith('no news: 21 bags')
+    run('retire', register, away, *who)
+    away.unlink()
+
+
 def night_moved():
     os.rename(bag(10), store / 'moved')
     run('moved', register, bag(10), store / 'moved', *who)

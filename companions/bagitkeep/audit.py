@@ -15,12 +15,13 @@ from .checks import Checks, now
 from .go_round import jobs_of, set_aside, task_of
 from .messages import Parser, Refused, explained, printable, say
 from .news import found_of, is_past, remind, settle, state_of, welcome
-from .program import Asked, Program, find
+from .program import Asked, Program, find, knows_tar
 from .progress import Progress, bytes_of
 from .received import look
 from .register import Register, Row, alone, path_of
 from .rounds import Round, text_of
 from .rounds import Row as Result
+from .seal import is_tar
 
 USAGE = "bagit-keep audit [OPTIONS] REGISTER"
 ABOUT = """\
@@ -183,12 +184,19 @@ def tell_of(error: OSError) -> None:
 
 def bags_in(stores: List[str]) -> Iterator[bytes]:
     """The bags in some folders, but none within another one, or in a folder
-    of which the name begins with a dot."""
+    of which the name begins with a dot; and each .tar, if `bagit` reads it."""
+    bagit = find()
+    tars = bagit is not None and knows_tar(bagit)
     for store in stores:
         for place, names, files in os.walk(path_of(store), onerror=tell_of):
             if b"bagit.txt" in files:
                 names.clear()
                 yield place
+            elif tars:
+                yield from (
+                    join(place, it) for it in sorted(files)
+                    if it[:1] != b"." and is_tar(join(place, it))
+                )
             names[:] = sorted(it for it in names if it[:1] != b".")
 
 

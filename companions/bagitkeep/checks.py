@@ -17,7 +17,7 @@ from .messages import explained, say
 from .program import Program, Stopped, Verdict, named
 from .rounds import NO_LOCKS, Record, Round, naming, sha256_of, sync_folder
 from .rounds import text_of
-from .seal import payload_of, seal_of
+from .seal import is_tar, payload_of, seal_of
 
 NO_LINKS = (errno.ENOSYS, errno.EPERM, errno.EOPNOTSUPP, errno.EMLINK)
 
@@ -34,7 +34,7 @@ def random_name() -> bytes:
 def obstacle(directory: bytes) -> Optional[str]:
     """Why a check can't even begin."""
     try:
-        if stat.S_ISDIR(os.stat(directory).st_mode):
+        if stat.S_ISDIR(os.stat(directory).st_mode) or is_tar(directory):
             return None
     except FileNotFoundError:
         return "is not there"

@@ -93,7 +93,7 @@ TEXT = (
 )
 CAUSE = (
     "(?P<cause>device|special|name|not-found|too-many|changed|none-open"
-    "|memory|exists)"
+    "|memory|exists|cut-off|damaged|twice|no-base)"
 )
 NUMBER = "[1-9][0-9]{0,39}"
 COUNT = f"(?:0|{NUMBER})"

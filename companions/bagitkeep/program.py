@@ -21,6 +21,7 @@ from types import TracebackType
 from typing import IO, List, Optional, Sequence, Set, Tuple, Type, Union
 
 from .lines import VERDICTS, Closing, Report, encoded, report_of
+from .seal import is_tar
 
 LONGEST_MESSAGE = 500
 LONGEST_STOP = 10
@@ -135,7 +136,23 @@ def named(directory: Path) -> Tuple[str, Optional[bytes]]:
     try:
         return path.decode("utf-8"), None
     except UnicodeDecodeError:
+        if is_tar(path):
+            folder, name = os.path.split(path)
+            return name.decode("utf-8", "replace"), folder
         return ".", path
+
+
+def knows_tar(program: str) -> bool:
+    """Whether `bagit` at a path checks a .tar where it lies."""
+    with suppress(OSError):
+        asked = subprocess.run(
+            [program, "--help"],
+            stdin=subprocess.DEVNULL,
+            capture_output=True,
+            check=False,
+        )
+        return b" --tar " in asked.stdout
+    return False
 
 
 def kill(process: "subprocess.Popen[bytes]") -> None:
@@ -227,10 +244,11 @@ class Program:
         out: IO[bytes],
         seconds: Optional[float] = None,
     ) -> Verdict:
-        """Checks the bag at a directory. The report is left in `out`, a file
-        that is empty, and can be read and written."""
+        """Checks the bag at a directory, or in a .tar. The report is left in
+        `out`, a file that is empty, and can be read and written."""
         name, folder = named(directory)
-        words = [*asked.words(), "--", name]
+        tar = ["--tar"] if is_tar(directory) else []
+        words = [*asked.words(), *tar, "--", name]
         ended = self.run(words, out, folder, seconds)
         out.seek(0)
         return verdict_of(ended, report_of(out), name, asked.depth)

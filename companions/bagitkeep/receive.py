@@ -45,7 +45,7 @@ from .places import (
     work_at,
     work_path,
 )
-from .program import Asked, find
+from .program import Asked, find, knows_tar
 from .receipts import (
     description,
     explained_faults,
@@ -80,6 +80,14 @@ Exit status:
      written"""
 
 ASIDE = ("__MACOSX", ".DS_Store")
+OF_TARS = {
+    "cut-off": "is cut off",
+    "damaged": "is damaged",
+    "twice": "is there twice",
+    "special": "is a link, a device or else no plain file",
+    "name": "has a name that no bag has: --names says its encoding",
+}
+"""Why bagit doesn't read what is in a .tar, and never will."""
 
 
 @dataclass
@@ -242,6 +250,23 @@ def content_of(case: Case, work: Work, limits: Limits) -> Content:
     return tar_content(opened("tar", unpacked, length), names, limits)
 
 
+def look_into(case: Case, work: Work) -> None:
+    """Has bagit check a .tar where it lies, if it can. Faults are those of
+    the bag that is unpacked; what can't be read is Unfit."""
+    bagit = find()
+    is_asked = case.form == "tar" and not case.asked.names
+    if bagit is None or not is_asked or not knows_tar(bagit):
+        return
+    os.symlink(case.path, work.at("came.tar"))
+    unread = check(work.at("came.tar"), Asked()).unread
+    if unread is None or unread.cause == "no-base":
+        return
+    path, why = shown(unread.path), OF_TARS.get(unread.cause)
+    if why is None:
+        raise Refused(f"{case.name}: {path} is unread: {unread.cause}", 3)
+    raise Unfit(f"bagit can't read it: {path} {why}")
+
+
 def arrange(case: Case, content: Content) -> Tuple[str, str]:
     """The bag's name, and which folder of the content is the bag: the empty
     text where that is all. Sets aside what macOS adds."""
@@ -274,6 +299,7 @@ def take_in(case: Case, work: Work) -> str:
         if case.sums[algorithm] != digest:
             found = case.sums[algorithm]
             raise Unfit(f"its {algorithm} is {found}, not {digest}")
+    look_into(case, work)
     limits = room_in(case.store, case.asked.max_files, case.asked.max_bytes)
     with understood():
         content = content_of(case, work, limits)

@@ -7,14 +7,48 @@ what this writes in the folder of the bag, where `sort` is by bytes:
 
     find . -path ./data -type d -prune -o -type f -printf '%P\\0' |
         sort -z | xargs -0r sha512sum -z --
+
+A bag in a .tar has the seal that it has unpacked.
 """
 import hashlib
 import os
 import stat
-from typing import Dict, Iterator, Tuple, Union
+import tarfile
+from contextlib import contextmanager
+from typing import IO, Dict, Iterator, Tuple, Union
 
 Path = Union[str, bytes]
 PIECE = 1 << 20
+
+
+def is_tar(path: Path) -> bool:
+    """Whether a bag is in a .tar, which the name of a file says."""
+    return os.fsencode(path)[-4:] == b".tar" and os.path.isfile(path)
+
+
+File = Tuple[bytes, int, IO[bytes]]
+"""The path of a file in a bag, its size, and what it has."""
+
+
+@contextmanager
+def files_in(path: Path) -> Iterator[Iterator[File]]:
+    """The files of a bag in a .tar. What isn't read is an OSError."""
+    try:
+        with tarfile.open(
+            os.fsdecode(path), "r:", errors="surrogateescape"
+        ) as tar:
+            yield files_of(tar)
+    except (tarfile.TarError, ValueError, EOFError) as error:
+        raise OSError(0, f"it can't be read: {error}", path) from error
+
+
+def files_of(tar: tarfile.TarFile) -> Iterator[File]:
+    while (found := tar.next()) is not None:
+        setattr(tar, "members", [])  # what was read isn't kept
+        content = tar.extractfile(found) if found.isreg() else None
+        if content is not None:
+            name = os.fsencode(found.name.removeprefix("./"))
+            yield name.partition(b"/")[2], found.size, content
 
 
 def seal_of(directory: Path) -> str:
@@ -27,6 +61,13 @@ def seal_of(directory: Path) -> str:
 
 def sums_of(directory: Path) -> Dict[bytes, str]:
     """The SHA-512 of each tag file of the bag at a directory, by its path."""
+    if is_tar(directory):
+        with files_in(directory) as found:
+            return {
+                path: sha512_in(file)
+                for path, _, file in found
+                if not path.startswith(b"data/")
+            }
     place = os.path.join(os.fsencode(directory), b"")
     return {path: sha512_of(place + path) for path in tag_files(place)}
 
@@ -57,18 +98,26 @@ def tag_files(place: bytes) -> Iterator[bytes]:
 def sha512_of(path: bytes) -> str:
     """The SHA-512 of a file. A pipe isn't waited for, nor a link followed."""
     flags = os.O_RDONLY | os.O_NOFOLLOW | os.O_NONBLOCK
-    digest = hashlib.sha512()
     with open(os.open(path, flags), "rb", buffering=0) as file:
         if not stat.S_ISREG(os.fstat(file.fileno()).st_mode):
             raise OSError(0, "neither a file nor a folder", path)
-        while piece := file.read(PIECE):
-            digest.update(piece)
+        return sha512_in(file)
+
+
+def sha512_in(file: IO[bytes]) -> str:
+    digest = hashlib.sha512()
+    while piece := file.read(PIECE):
+        digest.update(piece)
     return digest.hexdigest()
 
 
 def payload_of(directory: Path) -> Tuple[int, int]:
     """How many files, and how many bytes, are listed in `data`."""
     files = count = 0
+    if is_tar(directory):
+        with files_in(directory) as found:
+            sizes = [it[1] for it in found if it[0].startswith(b"data/")]
+        return len(sizes), sum(sizes)
     folders = [os.path.join(os.fsencode(directory), b"data")]
     while folders:
         with os.scandir(folders.pop()) as entries:

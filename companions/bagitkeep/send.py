@@ -1,4 +1,4 @@
-"""`bagit-keep send`: a bag, packed as a .tar that was unpacked and checked."""
+"""`bagit-keep send`: a bag, packed as a .tar that is checked."""
 import os
 import stat
 import tarfile
@@ -28,7 +28,7 @@ from .places import (
     work_at,
     work_path,
 )
-from .program import Asked
+from .program import Asked, find, knows_tar
 from .runs import check
 from .seal import seal_of
 from .serialization import asked_by
@@ -37,10 +37,9 @@ USAGE = "bagit-keep send [OPTIONS] DIRECTORY FILE.tar"
 ABOUT = """\
 Checks the bag at DIRECTORY in full, and packs it as FILE.tar: a .tar in the
 pax format, its files in the order of their names, without names of owners,
-hard links as files. It is unpacked again beside FILE.tar, and what is
-unpacked is checked in full, before the file gets its name; the last line is
-its SHA-256, as sha256sum writes it. No file is replaced. Interrupted, the
-same command begins again."""
+hard links as files. What was packed is checked in full before the file gets
+its name; the last line is its SHA-256, as sha256sum writes it. No file is
+replaced. Interrupted, the same command begins again."""
 END = """\
 Exit status:
   0  FILE.tar is there, and whoever unpacks it has the bag
@@ -53,6 +52,10 @@ def pack(bag: str, path: str) -> None:
     """Writes a .tar of a bag, and syncs it."""
     name = os.path.basename(bag)
     members = folder_content(bag).members
+    try:
+        refuse_twice(members)
+    except Unfit as why:
+        say(f"`bagit-keep receive` won't take it: {why}")
     members.sort(key=lambda it: it.path.encode("utf-8", "surrogateescape"))
     with open(path, "xb") as file:
         with tarfile.open(
@@ -94,24 +97,25 @@ def header_of(name: str, found: os.stat_result) -> tarfile.TarInfo:
 
 def sum_of_checked(work: Work, bag: str, asked: Asked) -> str:
     """The SHA-256 of what was packed, once it is seen to be the bag: it is
-    unpacked, and checked in full."""
-    path, folder = work.at("packed"), work.at("unpacked")
+    checked in full where it lies, or else unpacked and checked."""
+    path, there = work.at("packed.tar"), work.at("packed.tar")
+    if not knows_tar(find() or "bagit"):
+        there = unpacked(path, work.at("unpacked"), os.path.basename(bag))
+    report = check(there, asked)
+    if report.status != 0 or seal_of(there) != seal_of(bag):
+        raise Refused(f"what was packed isn't the bag: {report.result}", 3)
+    with open(path, "rb") as file:
+        return digests_of(file, ["sha256"])["sha256"]
+
+
+def unpacked(path: str, folder: str, name: str) -> str:
+    """Unpacks a .tar into a folder, and gives the bag's there."""
     os.mkdir(folder)
     with open(path, "rb") as file, understood():
-        digest = digests_of(file, ["sha256"])["sha256"]
         stream = opened("tar", file, os.fstat(file.fileno()).st_size)
-        content = tar_content(stream, None, Limits(MANY, MANY))
-        unpack(content, folder)
-    unpacked = os.path.join(folder, os.path.basename(bag))
-    settle_all(unpacked)
-    report = check(unpacked, asked)
-    if report.status != 0 or seal_of(unpacked) != seal_of(bag):
-        raise Refused(f"what was packed isn't the bag: {report.result}", 3)
-    try:
-        refuse_twice(content.members)
-    except Unfit as why:
-        say(f"`bagit-keep receive` won't take it: {why}")
-    return digest
+        unpack(tar_content(stream, None, Limits(MANY, MANY)), folder)
+    settle_all(os.path.join(folder, name))
+    return os.path.join(folder, name)
 
 
 def send(bag: str, path: str, profile: Optional[bytes]) -> int:
@@ -124,9 +128,9 @@ def send(bag: str, path: str, profile: Optional[bytes]) -> int:
         report = check(bag, asked)
         if report.status != 0:
             return write_report(report)
-        pack(bag, work.at("packed"))
+        pack(bag, work.at("packed.tar"))
         digest = sum_of_checked(work, bag, asked)
-        place(work.at("packed"), path)
+        place(work.at("packed.tar"), path)
     print(f"{report.result}\n{digest}  {printable(path)}")
     return 0
 

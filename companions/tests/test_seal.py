@@ -1,11 +1,12 @@
 """The seal of a bag, beside what `sha512sum` says."""
 import os
 import subprocess
+import tarfile
 import tempfile
 import unittest
 from pathlib import Path
 
-from bagitkeep.seal import seal_of
+from bagitkeep.seal import payload_of, seal_of
 
 BY_SHA512SUM = r"""cd "$1"
 find . -path ./data -type d -prune -o -type f -printf '%P\0' | sort -z |
@@ -73,6 +74,22 @@ class Seals(unittest.TestCase):
             place = inner
         os.close(place)
         self.assertRegex(seal_of(self.bag), "^[0-9a-f]{128}$")
+
+    def test_a_bag_in_a_tar_has_the_same(self) -> None:
+        with open(os.fsencode(self.bag) + b"/caf\xe9\n", "wb") as file:
+            file.write(b"x" * 3000)
+        path = self.bag.parent / "x.tar"
+        for form in tarfile.PAX_FORMAT, tarfile.GNU_FORMAT:
+            for name in "bag", "./other name":
+                with tarfile.open(path, "w", format=form) as tar:
+                    tar.add(self.bag, name)
+                self.assertEqual(seal_of(path), self.by_sha512sum())
+                self.assertEqual(payload_of(path), payload_of(self.bag))
+        whole = path.read_bytes()
+        for cut in whole[: whole.index(b"xxx") + 9], b"x" * 600:
+            path.write_bytes(cut)
+            with self.assertRaises(OSError):
+                seal_of(path)
 
 
 if __name__ == "__main__":
