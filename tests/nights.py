@@ -47,7 +47,7 @@ def bag(number):
 def news(*lines):
     """An audit, whose news are these, in any order."""
     said = run('audit', register, wanted=1 if lines else 0)
-    assert said[0].startswith('news of ' if lines else 'no news: 20 bags'), said
+    assert said[0].removeprefix('still ').startswith('news of ' if lines else 'no news: 20 bags'), said
     found = [line for line in said[1:] if not line[:1].isdigit()]
     assert sorted(found) == sorted(lines), (found, lines)
 
@@ -96,7 +96,9 @@ def night_added():
 def night_damaged():
     change(3, 'x')
     news(damaged(3, '3', 'x'))
-    news(damaged(3, '3', 'x'))
+    time.sleep(1)
+    assert run('audit', register, wanted=1)[0] == 'still news of 1 bag: 1 with faults'
+    assert run('status', register, wanted=1)[0] == 'still news of 1 bag: 1 with faults'
     known(3)
 
 
@@ -119,6 +121,15 @@ def night_removed():
     news()
     os.rename(work / 'away', bag(4))
     news()
+
+
+def night_removed_and_not_read():
+    """A bag that is gone is news on its night, though another one is read."""
+    os.rename(bag(4), work / 'away')
+    said = run('audit', register, '--bytes', '1', wanted=1)
+    assert said[:2] == ['news of 1 bag: 1 missing', f'missing {bag(4)}'], said
+    os.rename(work / 'away', bag(4))
+    assert run('audit', register, '--bytes', '1')[0].startswith('no news: 20 bags')
 
 
 def night_renewed():

@@ -14,7 +14,8 @@ from . import rounds
 from .checks import Checks, now
 from .go_round import jobs_of, set_aside, task_of
 from .messages import Parser, Refused, explained, printable, say
-from .news import found_of, is_past, remind, settle, state_of, welcome
+from .news import found_of, is_past, miss, remind, settle, state_of
+from .news import welcome
 from .program import Asked, Program, find, knows_tar
 from .progress import Progress, bytes_of
 from .received import look
@@ -222,6 +223,9 @@ def take_in(
             if bag is not None and path not in late:
                 take_result(register, bag, result)
                 statuses[bag["id"]] = result.status
+        for bag in bags.values():
+            if bag["id"] not in statuses:
+                miss(register, bag, os.path.lexists(path_of(bag["path"])))
         if row is not None:
             register.alter(
                 "rounds", row, ended=now(), results=json.dumps(statuses)

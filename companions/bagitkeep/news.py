@@ -28,6 +28,18 @@ KINDS = {
 OF_PATHS = {"new": "", "receipt": "was altered, or isn't there"}
 """What is found at paths that are no bag's, and what is said of it."""
 
+TO_DO = {
+    "fault": "restore it, and then accept",
+    "altered": "accept, if it was changed on purpose; or else restore it",
+    "new": "adopt",
+    "missing": "moved, or retire; or else restore it",
+    "unread": "see why, and audit again",
+    "overdue": "audit more of the bags each night",
+    "cut-off": "see why it was",
+    "receipt": "put it there from a backup",
+}
+"""What people do then, by commands or else."""
+
 Found = Set[Tuple[str, str]]
 """A kind, and a text that says what exactly."""
 
@@ -87,6 +99,21 @@ def settle(register: Register, bag: Row, found: Found) -> None:
             known=None,
         )
         register.note("found", bag["id"], of=kind, text=text)
+
+
+def miss(register: Register, bag: Row, is_there: bool) -> None:
+    """Notes whether a bag that wasn't to be read is there at all."""
+    where = "bag = ? AND kind = 'missing'"
+    found = register.rows("findings", where, bag["id"])
+    if found and is_there:
+        register.remove("findings", found[0])
+        register.note("gone", bag["id"], of="missing", text="")
+    if not found and not is_there:
+        register.add(
+            "findings", bag=bag["id"], kind="missing", text="", since=now(),
+            known=None,
+        )
+        register.note("found", bag["id"], of="missing", text="")
 
 
 def is_past(time: Optional[str], days: float) -> bool:
@@ -152,9 +179,11 @@ class State:
     news: List[Row]
     known: int
     bags: Dict[int, Row]
+    since: str = ""
 
     def first_line(self) -> str:
-        """How many news there are, and of what."""
+        """How many news there are, and of what; and whether all of them were
+        there before the last audit."""
         if not self.news:
             return f"no news: {self.counted()}"
         of = {(row["kind"], self.name_of(row)) for row in self.news}
@@ -162,7 +191,9 @@ class State:
         kinds = [f"{count[it]} {KINDS[it]}" for it in KINDS if count[it]]
         bags = len({name for _, name in of} - {"-"})
         noun = "bag" if bags == 1 else "bags"
-        return f"news of {bags} {noun}: {', '.join(kinds)}"
+        is_old = all(row.get("since", "~") < self.since for row in self.news)
+        still = "still " if is_old else ""
+        return f"{still}news of {bags} {noun}: {', '.join(kinds)}"
 
     def counted(self) -> str:
         """How many bags there are, and which was read longest ago."""
@@ -201,4 +232,6 @@ def state_of(register: Register, cut_off: Optional[Row] = None) -> State:
     if cut_off is not None:
         text = f"the audit of {cut_off['begun']} was cut off"
         news.insert(0, {"bag": None, "kind": "cut-off", "text": text})
-    return State(news, known, bags)
+    ended = register.rows("rounds", "ended IS NOT NULL")
+    since = ended[-1]["begun"] if ended else ""
+    return State(news, known, bags, since if since <= now() else "")

@@ -18,7 +18,7 @@ from .go_round import absolute
 from .lines import Fault, NotALine, encoded, line_of, report_of
 from .meanings import meanings
 from .messages import Parser, Refused, printable
-from .news import MOST_FAULTS, State, state_of
+from .news import MOST_FAULTS, TO_DO, State, state_of
 from .receipts import page_of
 from .received import Noted, noted_in
 from .register import Register, Row, path_of
@@ -41,6 +41,7 @@ MOST_GROUPS = 60
 WEEKS = 53
 AGES = ((7, "0 to 6"), (30, "7 to 29"), (90, "30 to 89"), (365, "90 to 364"))
 LAST_AGE = "365 or more, or never"
+MOVED = "old", "new"
 
 
 @dataclass(frozen=True)
@@ -275,12 +276,34 @@ def view_of(
         bag["bytes"],
         bag["seal"],
         [
-            {"at": it["at"], "kind": it["kind"], "says": it["data"]}
+            {
+                "at": it["at"],
+                "kind": it["kind"],
+                "says": said_of_event(json.loads(it["data"])),
+            }
             for it in events
         ],
         by_folder(faults, means),
         is_certified=bool(bag["read"]) and not found,
     )
+
+
+def said_of_event(data: Dict[str, Any]) -> str:
+    """What an event says, but for digests."""
+    says = []
+    if "of" in data:
+        row = {"kind": data["of"], "text": data["text"]}
+        says.append(f"{data['of']} {said_of(row)}".strip())
+    if "old" in data:
+        says.append(" to ".join(encoded(path_of(data[it])) for it in MOVED))
+    if "decision" in data:
+        says.append(f"receipt {data['number']}: {data['decision']}")
+    if "seal" in data:
+        says.append(f"files: {data['files']}, bytes: {data['bytes']}")
+    if "by" in data:
+        until = f", until {data['until']}" if "until" in data else ""
+        says.append(f"{data['by']}: {data['why']}{until}")
+    return printable("; ".join(says))
 
 
 def said_of(row: Row) -> str:
@@ -303,6 +326,7 @@ def news_of(
             "bag": state.name_of(row),
             "page": view.page if view is not None else "",
             "says": said_of(row),
+            "todo": TO_DO[row["kind"]],
             "since": row.get("since", "")[:10],
         }
 

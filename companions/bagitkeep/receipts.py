@@ -147,9 +147,11 @@ PAGE = """<!DOCTYPE html>
 <meta name="viewport" content="width=device-width, initial-scale=1"><style>
 :root {{ color-scheme: light dark }}
 body {{ font: 11pt/1.4 serif; margin: 2em auto; max-width: 48em }}
-th {{ text-align: left; vertical-align: top; padding-right: 1em }}
+th {{ text-align: left; padding-right: 1em; overflow-wrap: normal }}
+th, td {{ vertical-align: top }}
 td {{ overflow-wrap: anywhere }}
 </style></head><body><h1>{title}</h1>
+<p>{says}</p>
 {body}
 <p><br><br>Date: ____________________ Signature: ____________________</p>
 </body></html>
@@ -159,7 +161,25 @@ td {{ overflow-wrap: anywhere }}
 def page_of(receipt: Dict[str, Any]) -> str:
     """A receipt as a page to be printed and signed."""
     title = f"Receipt {receipt['number']}: {receipt['decision']}"
-    return PAGE.format(title=html.escape(title), body=shown_value(receipt))
+    known = {key: it for key, it in receipt.items() if it is not None}
+    return PAGE.format(
+        title=html.escape(title),
+        says=html.escape(printable(sentence_of(receipt))),
+        body=shown_value(known),
+    )
+
+
+def sentence_of(receipt: Dict[str, Any]) -> str:
+    """What became of a deposit, for whoever made it."""
+    came = f"{receipt['arrived']['name']} came at {receipt['received']}, and"
+    if receipt["folder"] is None:
+        return f"{came} is refused: {receipt['why']}. It is left as it came."
+    bag = receipt["bag"]
+    return (
+        f"{came} is a valid bag (RFC 8493) of {bag['files']} files and"
+        f" {bag['bytes']} bytes: bagit read each file, and compared it with"
+        " the digests that came with the bag."
+    )
 
 
 def shown_value(value: Any) -> str:

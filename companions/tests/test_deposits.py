@@ -123,10 +123,22 @@ class Receipts(unittest.TestCase):
             self.assertTrue(all(all(it) for it in found.values()))
 
     def test_a_page_obeys_no_name(self) -> None:
-        receipt = {"number": "1", "decision": "refused", "x": ["<b>\x1b", {}]}
-        page = page_of(json.loads(json.dumps(receipt)))
-        self.assertIn("&lt;b&gt;\\x1b", page)
-        self.assertNotIn("<b>", page)
+        odd = "<b>\x1b"
+        receipt: Dict[str, Any] = {
+            "number": "1",
+            "received": "2026-01-01",
+            "decision": odd,
+            "folder": None,
+            "why": odd,
+            "arrived": {"name": odd},
+            "x": [odd, {}],
+        }
+        for found in {}, {"folder": odd, "bag": {"files": 1, "bytes": 2}}:
+            page = page_of(json.loads(json.dumps({**receipt, **found})))
+            self.assertIn("&lt;b&gt;\\x1b", page)
+            self.assertNotIn("<b>", page)
+            is_good = "is a valid bag (RFC 8493) of 1 files and 2 byt" in page
+            self.assertEqual(is_good, bool(found))
 
 
 class Places(unittest.TestCase):

@@ -55,6 +55,24 @@ class Views(unittest.TestCase):
             self.assertEqual(wanted, bag.is_certified)
             self.assertEqual(wanted, bag.read is not None)
 
+    def test_events(self) -> None:
+        why = {"by": "Ada", "why": "<x>"}
+        line = "701 payload-sum-differs data/a sha256 - x:y"
+        counts = {"seal": "0", "files": 1, "bytes": 2}
+        for data, wanted in (
+            (counts, "files: 1, bytes: 2"),
+            ({**counts, **why}, "files: 1, bytes: 2; Ada: <x>"),
+            (
+                {"of": "fault", "text": line, **why, "until": "2026-01-01"},
+                "fault payload-sum-differs, data/a, sha256; Ada: <x>, until"
+                " 2026-01-01",
+            ),
+            ({"of": "missing", "text": ""}, "missing"),
+            ({"old": "/a b", "new": "/c", **why}, "/a%20b to /c; Ada: <x>"),
+            ({"number": "1", "decision": "refused"}, "receipt 1: refused"),
+        ):
+            self.assertEqual(wanted, page.said_of_event(data))
+
     def test_marks_go(self) -> None:
         self.assertEqual("a b c d|e", meanings.plain("[a](x) `b` **c** d\\|e"))
 
@@ -79,7 +97,7 @@ class Written(unittest.TestCase):
         bag.faults = page.by_folder([LINE], {701: (HOSTILE, HOSTILE)})
         self.site = page.Site(HOSTILE, [bag])
         page.name_pages(self.site)
-        names = "what bag says since page".split()
+        names = "what bag says todo since page".split()
         self.site.news = [dict.fromkeys(names, HOSTILE)]
 
     def write(self) -> Path:

@@ -130,6 +130,15 @@ class OfRegister(unittest.TestCase):
         kinds = [row["kind"] for row in opened.rows("events")]
         self.assertEqual(["init", "found", "found", "gone"], kinds)
 
+    def test_a_bag_that_is_missing_comes_back(self) -> None:
+        opened = self.open()
+        for is_there, wanted in ((True, 0), (False, 1), (False, 1), (True, 0)):
+            with opened.changing():
+                news.miss(opened, bag(1, None), is_there)
+            self.assertEqual(wanted, len(opened.rows("findings")))
+        kinds = [row["kind"] for row in opened.rows("events")]
+        self.assertEqual(["init", "found", "gone"], kinds)
+
 
 class OfNews(unittest.TestCase):
     """What is found, and what of it is news."""
@@ -192,6 +201,10 @@ class OfNews(unittest.TestCase):
             "news of 2 bags: 1 with faults, 1 altered", state.first_line()
         )
         self.assertEqual("altered /2 " + OTHER, state.lines()[3])
+        for since, wanted in (("1", False), ("2", False), ("3", True)):
+            of = [{**it, "since": "2"} for it in found]
+            line = news.State(of, 0, bags, since).first_line()
+            self.assertEqual(wanted, line.startswith("still news of 2"))
         self.assertEqual(
             ["no news: 2 bags, each read whole since 2026-01-01T00:00:00Z"],
             news.State([], 0, bags).lines(),
