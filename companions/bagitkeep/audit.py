@@ -81,6 +81,13 @@ def in_order(bags: List[Row]) -> List[Row]:
     )
 
 
+def bags_there(register: Register) -> List[Row]:
+    """The bags that are there, so that none that isn't takes the share of
+    another."""
+    bags = register.rows("bags")
+    return [bag for bag in bags if os.path.lexists(path_of(bag["path"]))]
+
+
 def due(bags: List[Row], asked: argparse.Namespace) -> List[Row]:
     """The bags that an audit is to read."""
     chosen = in_order(bags)
@@ -268,7 +275,7 @@ def audit(register: Register, asked: argparse.Namespace) -> int:
     late: List[bytes] = []
     is_new = there is None
     if there is None:
-        bags = due(register.rows("bags"), asked)
+        bags = due(bags_there(register), asked)
         there = begin_round(register, bags) if bags else None
     if there is not None:
         a_round = rounds.load(folder_of(register, there["name"]))

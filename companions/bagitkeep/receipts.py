@@ -146,7 +146,8 @@ PAGE = """<!DOCTYPE html>
 <html lang="en"><head><meta charset="utf-8"><title>{title}</title>
 <meta name="viewport" content="width=device-width, initial-scale=1"><style>
 :root {{ color-scheme: light dark }}
-body {{ font: 11pt/1.4 serif; margin: 2em auto; max-width: 48em }}
+body {{ font: 11pt/1.4 serif; margin: 2em auto; max-width: 48em;
+padding: 0 1em }}
 th {{ text-align: left; padding-right: 1em; overflow-wrap: normal }}
 th, td {{ vertical-align: top }}
 td {{ overflow-wrap: anywhere }}
@@ -176,9 +177,9 @@ def sentence_of(receipt: Dict[str, Any]) -> str:
         return f"{came} is refused: {receipt['why']}. It is left as it came."
     bag = receipt["bag"]
     return (
-        f"{came} is a valid bag (RFC 8493) of {bag['files']} files and"
-        f" {bag['bytes']} bytes: bagit read each file, and compared it with"
-        " the digests that came with the bag."
+        f"{came} is a valid bag (RFC 8493; files: {bag['files']}, bytes:"
+        f" {bag['bytes']}): bagit read each file, and compared it with the"
+        " digests that came with the bag."
     )
 
 

@@ -137,7 +137,7 @@ class Receipts(unittest.TestCase):
             page = page_of(json.loads(json.dumps({**receipt, **found})))
             self.assertIn("&lt;b&gt;\\x1b", page)
             self.assertNotIn("<b>", page)
-            is_good = "is a valid bag (RFC 8493) of 1 files and 2 byt" in page
+            is_good = "is a valid bag (RFC 8493; files: 1, bytes: 2)" in page
             self.assertEqual(is_good, bool(found))
 
 

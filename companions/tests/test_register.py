@@ -130,6 +130,15 @@ class OfRegister(unittest.TestCase):
         kinds = [row["kind"] for row in opened.rows("events")]
         self.assertEqual(["init", "found", "found", "gone"], kinds)
 
+    def test_a_bag_that_is_missing_takes_no_share(self) -> None:
+        opened = self.open()
+        with opened.changing():
+            for path in "/none", "/":
+                row = dict.fromkeys(register.COLUMNS["bags"])
+                opened.add("bags", **{**row, "path": path})
+        there = [it["path"] for it in audit.bags_there(opened)]
+        self.assertEqual(["/"], there)
+
     def test_a_bag_that_is_missing_comes_back(self) -> None:
         opened = self.open()
         for is_there, wanted in ((True, 0), (False, 1), (False, 1), (True, 0)):
