@@ -9,7 +9,7 @@ import os
 from contextlib import closing
 from dataclasses import dataclass
 from os.path import join
-from typing import Any, Dict, Iterator, Optional
+from typing import Any, Dict, Iterator, Optional, Set
 
 from .lines import encoded
 from .messages import Refused
@@ -42,6 +42,12 @@ def noted_in(register: Register) -> Iterator[Noted]:
         except OSError:
             pass
         yield Noted(data["number"], path, row["bag"], says)
+
+
+def numbers_in(register: Register) -> Set[str]:
+    """The numbers of the receipts that a register has noted."""
+    rows = register.rows("events", "kind = 'received'")
+    return {json.loads(row["data"])["number"] for row in rows}
 
 
 def path_in(folder: bytes, number: str) -> bytes:
@@ -83,7 +89,7 @@ def enter(folder: str, content: bytes) -> None:
     number, bag = receipt["number"], None
     with closing(Register(os.fsencode(folder))) as register:
         with register.changing():
-            if any(it.number == number for it in noted_in(register)):
+            if number in numbers_in(register):
                 return
             if receipt["folder"] is not None:
                 known = receipt["bag"]
