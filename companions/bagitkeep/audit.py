@@ -8,7 +8,7 @@ import time
 from contextlib import closing, suppress
 from functools import cached_property
 from os.path import join
-from typing import Iterator, List, Optional, Sequence, Tuple
+from typing import Dict, Iterator, List, Optional, Sequence, Tuple
 
 from . import rounds
 from .checks import Checks, now
@@ -38,6 +38,7 @@ Exit status:
   3  something couldn't be read or written; nothing is known then"""
 
 FULL = Asked()
+LAST_ROUNDS = 40
 
 
 def number_of(word: str) -> int:
@@ -71,21 +72,31 @@ def read_words(words: Sequence[str]) -> argparse.Namespace:
 
 
 def in_order(bags: List[Row]) -> List[Row]:
-    """The bags that are kept, those first that were read longest ago."""
-    kept = [bag for bag in bags if bag["is_kept"]]
+    """The bags that are kept, those first that were read longest ago, or, as
+    far as is known, were tried in vain."""
     ahead = now()
-    return sorted(
-        kept,
-        key=lambda bag: bag["read"]
-        if bag["read"] and bag["read"] <= ahead else "",
-    )
+
+    def last(bag: Row) -> str:
+        times = [bag["read"] or "", bag.get("tried", "")]
+        return max((it for it in times if it <= ahead), default="")
+
+    return sorted((bag for bag in bags if bag["is_kept"]), key=last)
 
 
 def bags_there(register: Register) -> List[Row]:
-    """The bags that are there, so that none that isn't takes the share of
-    another."""
-    bags = register.rows("bags")
-    return [bag for bag in bags if os.path.lexists(path_of(bag["path"]))]
+    """The bags that are there, with when they were last tried in vain: none
+    of those that can't be read takes the share of another for ever."""
+    tried: Dict[int, str] = {}
+    last = "id > (SELECT max(id) FROM rounds) - ?"
+    for row in register.rows("rounds", last, LAST_ROUNDS):
+        for bag, status in json.loads(row["results"] or "{}").items():
+            if status == 3:
+                tried[int(bag)] = row["begun"]
+    return [
+        {**bag, "tried": tried.get(bag["id"], "")}
+        for bag in register.rows("bags")
+        if os.path.lexists(path_of(bag["path"]))
+    ]
 
 
 def due(bags: List[Row], asked: argparse.Namespace) -> List[Row]:

@@ -33,7 +33,7 @@ TO_DO = {
     "altered": "accept, if it was changed on purpose; or else restore it",
     "new": "adopt",
     "missing": "moved, or retire; or else restore it",
-    "unread": "see why, and audit again",
+    "unread": "see why, and then accept",
     "overdue": "audit more of the bags each night",
     "cut-off": "see why it was",
     "receipt": "put it there from a backup",

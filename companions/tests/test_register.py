@@ -1,4 +1,5 @@
 """The register: its rows, what is news, and which bags are due."""
+import json
 import os
 import sqlite3
 import tempfile
@@ -136,8 +137,11 @@ class OfRegister(unittest.TestCase):
             for path in "/none", "/":
                 row = dict.fromkeys(register.COLUMNS["bags"])
                 opened.add("bags", **{**row, "path": path})
-        there = [it["path"] for it in audit.bags_there(opened)]
-        self.assertEqual(["/"], there)
+            for begun, results in ("1", {"2": 3}), ("2", {"1": 3, "2": 0}):
+                row = {"name": begun, "begun": begun, "ended": begun}
+                opened.add("rounds", **row, results=json.dumps(results))
+        there = [(it["path"], it["tried"]) for it in audit.bags_there(opened)]
+        self.assertEqual([("/", "1")], there)
 
     def test_a_bag_that_is_missing_comes_back(self) -> None:
         opened = self.open()
@@ -236,6 +240,12 @@ class OfAudit(unittest.TestCase):
 
     def test_longest_unread_first(self) -> None:
         self.assertEqual([3, 5, 2, 1], self.due())
+
+    def test_one_that_was_tried_in_vain_waits_for_its_turn(self) -> None:
+        tried = {**self.BAGS[2], "tried": "2026-01-02T00:00:00Z"}
+        bags = [tried, *self.BAGS[:2]]
+        found = [row["id"] for row in audit.due(bags, asked())]
+        self.assertEqual([2, 3, 1], found)
 
     def test_a_share_is_rounded_up(self) -> None:
         self.assertEqual([3, 5], self.due(share=(1, 3)))
