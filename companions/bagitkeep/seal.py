@@ -19,6 +19,7 @@ from typing import IO, Dict, Iterator, Tuple, Union
 
 Path = Union[str, bytes]
 PIECE = 1 << 20
+ANY_BYTES = "surrogateescape"
 
 
 def is_tar(path: Path) -> bool:
@@ -35,7 +36,7 @@ def files_in(path: Path) -> Iterator[Iterator[File]]:
     """The files of a bag in a .tar. What isn't read is an OSError."""
     try:
         with tarfile.open(
-            os.fsdecode(path), "r:", errors="surrogateescape"
+            os.fsdecode(path), "r:", encoding="utf-8", errors=ANY_BYTES
         ) as tar:
             yield files_of(tar)
     except (tarfile.TarError, ValueError, EOFError) as error:
@@ -47,7 +48,7 @@ def files_of(tar: tarfile.TarFile) -> Iterator[File]:
         setattr(tar, "members", [])  # what was read isn't kept
         content = tar.extractfile(found) if found.isreg() else None
         if content is not None:
-            name = os.fsencode(found.name.removeprefix("./"))
+            name = found.name.encode("utf-8", ANY_BYTES).removeprefix(b"./")
             yield name.partition(b"/")[2], found.size, content
 
 
