@@ -845,6 +845,10 @@ def full_disk():
             subprocess.run(["mount", "-o", f"remount,{size}", "disk"], check=True)
             for words in ["receive", "deposit.tar", "disk", "--max-bytes", "9999999", "--max-files", "999"], ["send", bag, "disk/x.tar"]:
                 answer = ask(*words)
+                if words[0] == "send" and "inodes" in size and answer.status == 0:  # by a bagit that reads tars it makes few files
+                    assert by_gnu_tar("disk/x.tar", bag)
+                    os.unlink("disk/x.tar")
+                    continue
                 assert answer.status == 3, (size, words, answer)
                 assert not os.path.exists("disk/deposit") and not os.path.exists("disk/x.tar"), (size, answer)
                 assert [it for it in os.listdir("disk") if it != ".receipts"] == [], (size, os.listdir("disk"), answer)
