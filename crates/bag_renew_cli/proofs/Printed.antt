@@ -26,7 +26,8 @@ one_alg Sha512 = refl
 
 module _ (alg : Alg) (algs : List Alg) (is : algs ≡ alg ∷ []) (old new : TreeState) (before after : OutState)
     (reported : Result ℕ Refused) (made : List File) where
-  pub printed : Keeps old new → OpensAllInTurn old new → AreOfSameBytes algs made → (IsTrue old.honest → HasNoFault old.bag)
+  pub printed : Keeps old new → OpensAllInTurn old new → AreOfSameBytes algs old new made
+      → (IsTrue old.honest → HasNoFault old.bag)
       → (IsTrue old.honest → made ≡ manifests_for (rules_in old.bag) algs (payload old.bag))
       → MatchResult reported (λ n. (n ≡ 0) × Appends before.taken after.taken (flat_map text_of made))
       (λ _. IsCut before.taken after.taken (flat_map text_of made) × (after.has_refused ≡ true))
@@ -36,7 +37,7 @@ module _ (alg : Alg) (algs : List Alg) (is : algs ≡ alg ∷ []) (old new : Tre
     opens = opens;
     printed = inl (record {
       made = made;
-      same_bytes = subst (λ some. AreOfSameBytes some made) is same;
+      same_bytes = subst (λ some. AreOfSameBytes some old new made) is same;
       valid = valid;
       text = λ honest.
           ap (flat_map text_of) (manifests honest ∙ ap (λ some. manifests_for (rules_in old.bag) some (payload old.bag)) is)

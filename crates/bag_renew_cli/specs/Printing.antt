@@ -37,7 +37,7 @@ is_status_of (Stopped stop) status = status ≡ 3
 pub record IsPrinted (alg : Alg) (old new : TreeState) (before after : OutState)
     (reported : Result ℕ Refused) : Type 0 where
   pub made : List File
-  pub same_bytes : AreOfSameBytes (alg ∷ []) made
+  pub same_bytes : AreOfSameBytes (alg ∷ []) old new made
   pub valid : IsTrue old.honest → HasNoFault old.bag
   pub text : IsTrue old.honest
       → flat_map text_of made ≡ manifest (rules_in old.bag) alg (payload old.bag)
