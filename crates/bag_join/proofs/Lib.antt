@@ -1,7 +1,15 @@
 pub mod Ahead
 pub mod Closing
+pub mod Coming
+pub mod Ends
 pub mod Faults
+pub mod Findings
 pub mod Joined
+pub mod LastLine
 pub mod LawsHold
 pub mod OneReport
+pub mod Other
+pub mod Placing
+pub mod Plain
+pub mod Turns
 pub mod Words

@@ -1,12 +1,14 @@
 -- Lines of faults that are written in order, in several reports one after the other.
-use Rattle.std.specs.Prelude.{ℕ, ◌≡◌, List, [], ◌∷◌, Option, None, Some, ⊤, length}
+use Rattle.std.specs.Prelude.{ℕ, ◌≡◌, ◌++◌, List, [], ◌∷◌, Option, None, Some, ⊤, length}
 use Rattle.std.specs.Io.KnownBytes.{Appends}
 use Rattle.std.specs.List.{concat}
 use Rattle.std.specs.declared.cmp.Ordering.TheVariants.{Less}
 use Rattle.bag_tree.specs.Out.{OutState}
 use Rattle.bag_facts.specs.FaultOrder.{fault_cmp}
-use Rattle.bag_facts.specs.LineOf.{IsFault}
+use Rattle.bag_facts.specs.LineOf.{IsFault, IsLineOf}
 use Rattle.bag_facts.specs.declared.fault.Fault.{Fault}
+use Rattle.bag_join.specs.Input.{HasNoEnd, HoldsAhead}
+use Rattle.bag_join.specs.Reports.{ReportsState}
 use Rattle.bag_walk.specs.Ending.{written}
 
 -- a fault stands after the last one, if there is one
@@ -31,3 +33,13 @@ pub record WritesFaults (last new_last : Option Fault) (before after : OutState)
   pub last_is : new_last ≡ last_of last faults
   pub count : n ≡ length faults
   pub wrote : Appends before.taken after.taken (concat (written faults))
+
+-- a line, without its end, that is no fault's
+pub record IsOther (line : List ℕ) : Type 0 where
+  pub plain : HasNoEnd line
+  pub other : (f : Fault) → ¬ (IsLineOf line f)
+
+-- the open report holds the lines of these faults, and then this line and what stands after it
+abbrev pub AreAhead : ReportsState → List ℕ → List Fault → List ℕ → List ℕ → Type 0
+AreAhead state passed faults line rest =
+    HoldsAhead state passed (concat (written faults) ++ (line ++ 10 ∷ rest))

@@ -1,7 +1,10 @@
 -- Reports that are read line by line.
 use Rattle.std.specs.Prelude.{ℕ, ◌≡◌, ◌≢◌, ◌++◌, ◌≤◌, ◌<◌, Bool, true, false, List, [], IsTrue, Some}
-use Rattle.std.specs.Prelude.{codes, if◌then◌else◌, slice_get, slice_range, length, All}
-use Rattle.bag_join.specs.Reports.{ReportsState, SameReports}
+use Rattle.std.specs.Prelude.{codes, if◌then◌else◌, slice_get, slice_range, length, All, ⊤}
+use Rattle.bag_tree.specs.Out.{OutState}
+use Rattle.bag_join.specs.Reports.{HoldsOpen, ReportsState}
+use Rattle.bag_join.specs.declared.refusal.Cause.{Cause}
+use Rattle.bag_join.specs.declared.refusal.Cause.TheVariants.{Memory, Output, Unreadable}
 
 -- The bytes from a place of the buffer to another are those that were given and haven't passed.
 pub record IsAhead (given passed buffer : List ℕ) (at end : ℕ) : Type 0 where
@@ -19,3 +22,24 @@ abbrev pub IsPassed : ReportsState → List ℕ → Type 0
 IsPassed state passed =
     (state.given ≡ passed)
     × (IsTrue state.honest → slice_get state.held state.open_one ≡ Some passed)
+
+-- no line ends within it
+abbrev pub HasNoEnd : List ℕ → Type 0
+HasNoEnd line = All (λ byte. byte ≢ 10) line
+
+-- of honest reports, the open one holds what has passed, and then this
+pub record HoldsAhead (state : ReportsState) (passed rest : List ℕ) : Type 0 where
+  pub honest : IsTrue state.honest
+  pub opened : HoldsOpen state
+  pub ahead : slice_get state.held state.open_one ≡ Some (passed ++ rest)
+
+-- Why reading whole reports may be refused: memory ran out, or a call of the reports was refused.
+abbrev pub MayFail : Cause → ReportsState → Type 0
+MayFail Memory reports = ⊤
+MayFail Unreadable reports = reports.has_failed ≡ true
+MayFail _ reports = ⊥
+
+-- Why joining them may be: also where the output has refused.
+abbrev pub MayRefuse : Cause → ReportsState → OutState → Type 0
+MayRefuse Output reports out = out.has_refused ≡ true
+MayRefuse cause reports out = MayFail cause reports

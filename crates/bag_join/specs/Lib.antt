@@ -1,5 +1,6 @@
 pub mod DoneLine
 pub mod Faults
+pub mod Findings
 pub mod Input
 pub mod Join
 pub mod Laws

@@ -34,8 +34,10 @@ impl DoneLine {
     /// What a line says, with its end, if it is the closing line of a part that is done. Every text
     /// that a run over a part doesn't write so is refused. Fails only where memory runs out.
     pub fn from_line(alloc: Global, line: &str) -> Result<Option<DoneLine>, AllocError>
-        ensures { IfOk result (λ found. MatchOption found
+        ensures is { IfOk result (λ found. MatchOption found
             ((said : DoneLineValue) → ¬ (IsDoneLineOf line.now said)) (IsDoneLineOf line.now)) }
+        ensures reads { (said : DoneLineValue) → IsDoneLineOf line.now said
+            → IfOk result (λ found. found ≡ Some said) }
     {
         let Some(said) = read(alloc, line)? else {
             return Ok(None);

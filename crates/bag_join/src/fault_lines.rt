@@ -1,11 +1,13 @@
 //! The lines of faults at the front of a report.
-ghost use Rattle.std.specs.Prelude.{◌≡◌, ◌↔◌, ◌++◌, IfOk, IfSome, IsTrue, List, OnOk};
+ghost use Rattle.std.specs.Prelude.{◌≡◌, ◌↔◌, ◌++◌, ◌<◌, ◌^◌, codes, IfOk, IsTrue, List, MatchOption};
+ghost use Rattle.std.specs.Prelude.{MatchResult, OnOk, length, ℕ};
 ghost use Rattle.std.specs.List.{concat};
 ghost use Rattle.std.specs.Option.{option_copied};
 ghost use Rattle.bag_facts.specs.LineOf.{IsLineOf};
 ghost use Rattle.bag_facts.specs.declared.fault.Fault.{Fault as FaultValue};
 ghost use Rattle.bag_join.specs.Reports.{ReadsOn};
-ghost use Rattle.bag_join.specs.Faults.{IsAfter, WritesFaults};
+ghost use Rattle.bag_join.specs.Faults.{AreAfter, AreAhead, IsAfter, IsOther, WritesFaults};
+ghost use Rattle.bag_join.specs.Input.{HoldsAhead, MayRefuse};
 ghost use Rattle.bag_walk.specs.Ending.{written};
 
 use crate::input::{Input, LINE_FEED};
@@ -31,6 +33,13 @@ pub(crate) fn write_faults<R: Reports, W: Out>(
         × WritesFaults last.old last.new (W.state out.old) (W.state out.new) n faults
         × (input.new.passed.bytes
         ≡ input.old.passed.bytes ++ (concat (written faults) ++ line.new.items))) }
+    ensures finds { (faults : List FaultValue) (front rest : List ℕ) → IsOther front
+        → AreAhead (R.state input.old.reports) input.old.passed.bytes faults front rest
+        → AreAfter last.old faults → length faults < 2 ^ 63
+        → MatchResult result (λ n. WritesFaults last.old last.new
+        (W.state out.old) (W.state out.new) n faults × (line.new.items ≡ front ++ codes "\n")
+        × HoldsAhead (R.state input.new.reports) input.new.passed.bytes rest)
+        (λ cause. MayRefuse cause (R.state input.new.reports) (W.state out.new)) }
 {
     'lines: for count in 0..u64::MAX {
         if !input.next_line(line)? {
@@ -52,7 +61,8 @@ pub(crate) fn write_faults<R: Reports, W: Out>(
 
 /// The fault whose line this is, without its end, if it is one.
 fn fault_in(alloc: Global, line: &[u8]) -> Result<Option<Fault>, AllocError>
-    ensures { IfOk result (λ found. IfSome found (IsLineOf line.now)) }
+    ensures { IfOk result (λ found. MatchOption found
+        ((f : FaultValue) → ¬ (IsLineOf line.now f)) (IsLineOf line.now)) }
 {
     let Ok(text) = str::from_utf8(line) else {
         return Ok(None);

@@ -1,8 +1,8 @@
 //! Reports, read line by line.
-ghost use Rattle.std.specs.Prelude.{◌≡◌, ◌<◌, ◌++◌, ◌∷◌, [], IfOk, List, MatchBool, MatchOption};
-ghost use Rattle.std.specs.Prelude.{OnOk, vec_len, ℕ};
-ghost use Rattle.bag_join.specs.Input.{IsAhead, IsPassed, ended_line};
-ghost use Rattle.bag_join.specs.Reports.{Opens, ReadsOn};
+ghost use Rattle.std.specs.Prelude.{◌≡◌, ◌<◌, ◌++◌, ◌∷◌, [], IfErr, IfOk, IsTrue, List, MatchBool};
+ghost use Rattle.std.specs.Prelude.{MatchOption, OnErr, OnOk, Some, false, slice_get, true, vec_len, ℕ};
+ghost use Rattle.bag_join.specs.Input.{HasNoEnd, HoldsAhead, IsAhead, IsPassed, MayFail, ended_line};
+ghost use Rattle.bag_join.specs.Reports.{Opens, ReadsOn, SameReports};
 
 use crate::refusal::Cause;
 use crate::reports::{Reports, Unreadable};
@@ -70,18 +70,26 @@ impl<R: Reports> Input<R> {
     }
 
     /// How many reports there are.
-    pub(crate) fn count(&self) -> u64 {
+    pub(crate) fn count(&self) -> u64
+        ensures { result ≡ (R.state self.now.reports).count }
+    {
         self.reports.count()
     }
 
-    /// Opens a report from its beginning.
-    pub(crate) fn open(&mut self, number: u64) -> Result<(), Unreadable>
+    /// Opens a report from its beginning. A report that isn't there is missing.
+    pub(crate) fn open(&mut self, number: u64) -> Result<(), Cause>
+        ensures same { SameReports (R.state self.old.reports) (R.state self.new.reports) }
         ensures opened { OnOk result
             (Opens (R.state self.old.reports) (R.state self.new.reports) number) }
         ensures passed { OnOk result (self.new.passed.bytes ≡ []) }
+        ensures ahead { OnOk result ((text : List ℕ) → IsTrue (R.state self.old.reports).honest
+            → slice_get (R.state self.old.reports).held number ≡ Some text
+            → HoldsAhead (R.state self.new.reports) self.new.passed.bytes text) }
+        ensures refused { number < (R.state self.old.reports).count
+            → IfErr result (λ cause. MayFail cause (R.state self.new.reports)) }
     {
         if self.reports.count() <= number {
-            return Err(Unreadable);
+            return Err(Cause::Missing);
         }
         self.reports.open(number)?;
         self.at = 0;
@@ -97,6 +105,7 @@ impl<R: Reports> Input<R> {
         ensures passed { self.new.passed.bytes ≡ self.old.passed.bytes }
         ensures more { IfOk result (λ more. MatchBool more (self.new.at < self.new.end)
             (IsPassed (R.state self.new.reports) self.old.passed.bytes)) }
+        ensures failed { OnErr result ((R.state self.new.reports).has_failed ≡ true) }
     {
         let count = self.reports.read(self.buffer.as_mut_slice())?;
         self.at = 0;
@@ -110,6 +119,7 @@ impl<R: Reports> Input<R> {
         ensures passed { self.new.passed.bytes ≡ self.old.passed.bytes }
         ensures more { IfOk result (λ more. MatchBool more (self.new.at < self.new.end)
             (IsPassed (R.state self.new.reports) self.old.passed.bytes)) }
+        ensures failed { OnErr result ((R.state self.new.reports).has_failed ≡ true) }
     {
         if self.at == self.end {
             self.refill()
@@ -137,6 +147,7 @@ impl<R: Reports> Input<R> {
             ((self.new.passed.bytes ≡ self.old.passed.bytes)
             × IsPassed (R.state self.new.reports) self.old.passed.bytes)
             (λ byte. self.new.passed.bytes ≡ self.old.passed.bytes ++ byte ∷ [])) }
+        ensures failed { OnErr result ((R.state self.new.reports).has_failed ≡ true) }
     {
         if !self.has_more()? {
             return Ok(None);
@@ -145,12 +156,20 @@ impl<R: Reports> Input<R> {
     }
 
     /// Puts the next line, without its end, in place of what the buffer held, or what stands after
-    /// the last line; and says whether it has an end.
+    /// the last line; and says whether it has an end. Of a line that is too long to be counted there
+    /// is no memory.
     pub(crate) fn next_line(&mut self, line: &mut Vec<u8>) -> Result<bool, Cause>
         ensures reads { OnOk result
             (ReadsOn (R.state self.old.reports) (R.state self.new.reports)) }
         ensures line { IfOk result (λ has_end. self.new.passed.bytes
             ≡ self.old.passed.bytes ++ ended_line line.new.items has_end) }
+        ensures first { (front rest : List ℕ) → HasNoEnd front
+            → HoldsAhead (R.state self.old.reports) self.old.passed.bytes (front ++ 10 ∷ rest)
+            → IfOk result (λ has_end. (has_end ≡ true) × (line.new.items ≡ front)
+            × HoldsAhead (R.state self.new.reports) self.new.passed.bytes rest) }
+        ensures none { HoldsAhead (R.state self.old.reports) self.old.passed.bytes []
+            → IfOk result (λ has_end. (has_end ≡ false) × (line.new.items ≡ [])) }
+        ensures refused { IfErr result (λ cause. MayFail cause (R.state self.new.reports)) }
     {
         line.clear();
         'bytes: for _ in 0..u64::MAX {
@@ -162,7 +181,7 @@ impl<R: Reports> Input<R> {
             }
             line.push(byte).map_err(AllocError::from)?;
         }
-        Err(Cause::NotAReport)
+        Err(Cause::Memory)
     }
 
     /// Sees that the open report has come to its end.
@@ -171,6 +190,9 @@ impl<R: Reports> Input<R> {
             (ReadsOn (R.state self.old.reports) (R.state self.new.reports)) }
         ensures ended { OnOk result
             (IsPassed (R.state self.new.reports) self.old.passed.bytes) }
+        ensures refused { IfErr result (λ cause.
+            HoldsAhead (R.state self.old.reports) self.old.passed.bytes []
+            → MayFail cause (R.state self.new.reports)) }
     {
         match self.next_byte()? {
             None => Ok(()),

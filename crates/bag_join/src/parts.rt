@@ -1,7 +1,11 @@
 //! Reports of parts, written one after the other.
-ghost use Rattle.std.specs.Prelude.{◌≡◌, ◌+◌, IfOk, Option, vec_len, ℕ};
+ghost use Rattle.std.specs.Prelude.{◌≡◌, ◌+◌, ◌<◌, ◌^◌, IfOk, IsTrue, MatchResult, OnOk, Option, vec_len, ⊤, ℕ};
 ghost use Rattle.bag_facts.specs.declared.fault.Fault.{Fault as FaultValue};
-ghost use Rattle.bag_join.specs.Join.{JoinsFirst, JoinsPart};
+ghost use Rattle.bag_join.specs.Faults.{WritesFaults};
+ghost use Rattle.bag_join.specs.Findings.{AreFindings, Findings, IsPlanFor, IsTurnOf, faults_at};
+ghost use Rattle.bag_join.specs.Input.{MayRefuse};
+ghost use Rattle.bag_join.specs.Join.{JoinsFirst, JoinsPart, all_faults};
+ghost use Rattle.bag_join.specs.Reports.{SameReports};
 
 use crate::done_line::is_done_line;
 use crate::fault_lines::write_faults;
@@ -21,10 +25,18 @@ pub(crate) fn write_parts<R: Reports, W: Out>(
     plan: &Plan,
     out: &mut W,
 ) -> Result<u64, Refusal>
-    ensures { IfOk result (λ n. (last : Option FaultValue)
+    ensures joins { IfOk result (λ n. (last : Option FaultValue)
         × JoinsFirst plan.now.name plan.now.listed (vec_len plan.now.places)
         (R.state input.old.reports) (R.state input.new.reports) last
         (W.state out.old) (W.state out.new) (vec_len plan.now.places) n) }
+    ensures same { OnOk result
+        (SameReports (R.state input.old.reports) (R.state input.new.reports)) }
+    ensures whole { (findings : Findings) → AreFindings findings
+        → IsTrue (R.state input.old.reports).honest
+        → IsPlanFor findings (R.state input.old.reports) plan.now
+        → MatchResult result (λ n. (last : Option FaultValue)
+        × WritesFaults None last (W.state out.old) (W.state out.new) n (all_faults findings.parts))
+        (λ refusal. MayRefuse refusal.cause (R.state input.new.reports) (W.state out.new)) }
 {
     let mut last = None;
     let mut total: u64 = 0;
@@ -58,11 +70,18 @@ fn write_next<R: Reports, W: Out>(
     total: u64,
     out: &mut W,
 ) -> Result<u64, Cause>
-    ensures { IfOk result (λ sum. (n : ℕ) × (sum ≡ total + n)
+    ensures joins { IfOk result (λ sum. (n : ℕ) × (sum ≡ total + n)
         × JoinsPart plan.now.name plan.now.listed
         (record { number = number; of = vec_len plan.now.places })
         (R.state input.old.reports) (R.state input.new.reports) last.old last.new
         (W.state out.old) (W.state out.new) n) }
+    ensures same { OnOk result
+        (SameReports (R.state input.old.reports) (R.state input.new.reports)) }
+    ensures whole { (findings : Findings)
+        → IsTurnOf findings (R.state input.old.reports) plan.now number report total last.old
+        → MatchResult result (λ sum. (n : ℕ) × (sum ≡ total + n) × WritesFaults last.old last.new
+        (W.state out.old) (W.state out.new) n (faults_at findings number))
+        (λ cause. MayRefuse cause (R.state input.new.reports) (W.state out.new)) }
 {
     input.open(report)?;
     let mut line = Vec::new(alloc);
@@ -81,7 +100,8 @@ fn write_next<R: Reports, W: Out>(
 
 /// The sum of two counts, which no reports that fit on a disk exceed.
 fn plus(total: u64, count: u64) -> Result<u64, Cause>
-    ensures { IfOk result (λ sum. sum ≡ total + count) }
+    ensures sum { IfOk result (λ sum. sum ≡ total + count) }
+    ensures fits { total + count < 2 ^ 64 → MatchResult result (λ _. ⊤) (λ _. ⊥) }
 {
     match total.checked_add(count) {
         Some(sum) => Ok(sum),

@@ -1,5 +1,15 @@
 //! Which report is of which part.
-ghost use Rattle.std.specs.Prelude.{◌≡◌, ◌<◌, ◌≤◌, IfOk, vec_len};
+ghost use Rattle.std.specs.Prelude.{◌≡◌, ◌<◌, ◌≤◌, ◌^◌, ◌++◌, IfErr, IfOk, IsTrue, List, MatchResult};
+ghost use Rattle.std.specs.Prelude.{OnOk, codes, length, replicate, slice_get, slice_set, vec_len, ℕ};
+ghost use Rattle.std.specs.List.{concat};
+ghost use Rattle.bag_facts.specs.declared.fault.Fault.{Fault as FaultValue};
+ghost use Rattle.bag_join.specs.DoneLine.{IsDoneLineOf};
+ghost use Rattle.bag_join.specs.Faults.{AreAfter, IsOther};
+ghost use Rattle.bag_join.specs.Findings.{AreFindings, AreWhole, Findings, IsPlanFor, done_at, report_at};
+ghost use Rattle.bag_join.specs.Input.{MayFail};
+ghost use Rattle.bag_join.specs.Reports.{SameReports};
+ghost use Rattle.bag_join.specs.declared.done_line.DoneLine.{DoneLine as DoneLineValue};
+ghost use Rattle.bag_walk.specs.Ending.{written};
 
 use crate::done_line::DoneLine;
 use crate::input::{Input, LINE_FEED};
@@ -22,6 +32,11 @@ pub(crate) struct Plan {
 pub(crate) fn plan_of<R: Reports>(alloc: Global, input: &mut Input<R>) -> Result<Plan, Refusal>
     ensures some { IfOk result (λ plan. 0 < vec_len plan.places) }
     ensures most { IfOk result (λ plan. vec_len plan.places ≤ 65536) }
+    ensures same { OnOk result
+        (SameReports (R.state input.old.reports) (R.state input.new.reports)) }
+    ensures whole { (findings : Findings) → AreWhole findings (R.state input.old.reports)
+        → MatchResult result (IsPlanFor findings (R.state input.new.reports))
+        (λ refusal. MayFail refusal.cause (R.state input.new.reports)) }
 {
     let DoneLine {
         name,
@@ -33,7 +48,7 @@ pub(crate) fn plan_of<R: Reports>(alloc: Global, input: &mut Input<R>) -> Result
         Ok(places) => places,
         Err(cause) => return Err(Refusal { number: 0, cause }),
     };
-    for number in 0..input.count() {
+    'reports: for number in 0..input.count() {
         let said = closing_of(alloc, input, number)?;
         if let Err(cause) = take_place(&name, listed, &said, number, &mut places) {
             return Err(Refusal { number, cause });
@@ -48,7 +63,8 @@ pub(crate) fn plan_of<R: Reports>(alloc: Global, input: &mut Input<R>) -> Result
 
 /// So many places, without reports.
 fn no_places(alloc: Global, parts: usize) -> Result<Vec<Option<u64>>, Cause>
-    ensures { IfOk result (λ places. vec_len places ≡ parts) }
+    ensures places { IfOk result (λ places. places.items ≡ replicate parts None) }
+    ensures refused { IfErr result (λ cause. cause ≡ Cause.Memory) }
 {
     let mut places = Vec::new(alloc);
     places.resize(parts, None)?;
@@ -63,7 +79,12 @@ fn take_place(
     number: u64,
     places: &mut Vec<Option<u64>>,
 ) -> Result<(), Cause>
-    ensures { vec_len places.new ≡ vec_len places.old }
+    ensures size { vec_len places.new ≡ vec_len places.old }
+    ensures takes { said.now.name ≡ name.now → said.now.listed ≡ listed
+        → said.now.part.of ≡ vec_len places.old
+        → slice_get places.old.items said.now.part.number ≡ Some None
+        → MatchResult result (λ _. places.new.items
+        ≡ slice_set places.old.items said.now.part.number (Some number)) (λ _. ⊥) }
 {
     if said.name != *name {
         return Err(Cause::OtherBag);
@@ -87,7 +108,15 @@ fn closing_of<R: Reports>(
     alloc: Global,
     input: &mut Input<R>,
     number: u64,
-) -> Result<DoneLine, Refusal> {
+) -> Result<DoneLine, Refusal>
+    ensures same { OnOk result
+        (SameReports (R.state input.old.reports) (R.state input.new.reports)) }
+    ensures whole { (findings : Findings) (k : ℕ) → AreFindings findings → k < length findings.parts
+        → IsTrue (R.state input.old.reports).honest → number < (R.state input.old.reports).count
+        → slice_get (R.state input.old.reports).held number ≡ Some (report_at findings k)
+        → MatchResult result (λ said. said ≡ done_at findings k)
+        (λ refusal. MayFail refusal.cause (R.state input.new.reports)) }
+{
     match read_closing(alloc, input, number) {
         Ok(said) => Ok(said),
         Err(cause) => Err(Refusal { number, cause }),
@@ -98,17 +127,46 @@ fn read_closing<R: Reports>(
     alloc: Global,
     input: &mut Input<R>,
     number: u64,
-) -> Result<DoneLine, Cause> {
+) -> Result<DoneLine, Cause>
+    ensures same { OnOk result
+        (SameReports (R.state input.old.reports) (R.state input.new.reports)) }
+    ensures whole { (findings : Findings) (k : ℕ) → AreFindings findings → k < length findings.parts
+        → IsTrue (R.state input.old.reports).honest → number < (R.state input.old.reports).count
+        → slice_get (R.state input.old.reports).held number ≡ Some (report_at findings k)
+        → MatchResult result (λ said. said ≡ done_at findings k)
+        (λ cause. MayFail cause (R.state input.new.reports)) }
+{
+    match last_line(alloc, input, number) {
+        Ok(line) => said_in(alloc, line.as_slice()),
+        Err(cause) => Err(cause),
+    }
+}
+
+/// The last line of a report, with its end; nothing where the report is empty.
+fn last_line<R: Reports>(
+    alloc: Global,
+    input: &mut Input<R>,
+    number: u64,
+) -> Result<Vec<u8>, Cause>
+    ensures same { OnOk result
+        (SameReports (R.state input.old.reports) (R.state input.new.reports)) }
+    ensures last { (faults : List FaultValue) (front : List ℕ) → IsOther front
+        → AreAfter None faults → length faults < 2 ^ 63
+        → IsTrue (R.state input.old.reports).honest → number < (R.state input.old.reports).count
+        → slice_get (R.state input.old.reports).held number
+        ≡ Some (concat (written faults) ++ (front ++ codes "\n"))
+        → MatchResult result (λ last. last.items ≡ front ++ codes "\n")
+        (λ cause. MayFail cause (R.state input.new.reports)) }
+{
     input.open(number)?;
     let mut line = Vec::new(alloc);
     let mut last = Vec::new(alloc);
-    for _ in 0..u64::MAX {
+    'lines: for _ in 0..u64::MAX {
         if !input.next_line(&mut line)? {
-            return if line.is_empty() {
-                said_in(alloc, last.as_slice())
-            } else {
-                Err(Cause::CutOff)
-            };
+            if line.is_empty() {
+                return Ok(last);
+            }
+            return Err(Cause::CutOff);
         }
         line.push(LINE_FEED).map_err(AllocError::from)?;
         mem::swap(&mut line, &mut last);
@@ -117,7 +175,10 @@ fn read_closing<R: Reports>(
 }
 
 /// What a closing line says, with its end, or why it isn't that of a part that is done.
-fn said_in(alloc: Global, line: &[u8]) -> Result<DoneLine, Cause> {
+fn said_in(alloc: Global, line: &[u8]) -> Result<DoneLine, Cause>
+    ensures { (said : DoneLineValue) → IsDoneLineOf line.now said
+        → MatchResult result (λ found. found ≡ said) (λ cause. cause ≡ Cause.Memory) }
+{
     let Ok(text) = str::from_utf8(line) else {
         return Err(Cause::NotAReport);
     };

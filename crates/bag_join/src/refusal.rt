@@ -1,4 +1,6 @@
 //! Why reports aren't joined.
+ghost use Rattle.std.specs.Prelude.{◌≡◌};
+
 use crate::reports::Unreadable;
 use bag_text::said;
 use bag_tree::Refused;
@@ -59,18 +61,30 @@ pub enum Cause {
 }
 
 impl From<Unreadable> for Cause {
+    ghost use Rattle.bag_join.specs.declared.refusal.Cause.TheVariants.{Unreadable};
+
+    ghost from_gives = { λ _ e. e ≡ Unreadable };
+
     fn from(_: Unreadable) -> Cause {
         Cause::Unreadable
     }
 }
 
 impl From<AllocError> for Cause {
+    ghost use Rattle.bag_join.specs.declared.refusal.Cause.TheVariants.{Memory};
+
+    ghost from_gives = { λ _ e. e ≡ Memory };
+
     fn from(_: AllocError) -> Cause {
         Cause::Memory
     }
 }
 
 impl From<Refused> for Cause {
+    ghost use Rattle.bag_join.specs.declared.refusal.Cause.TheVariants.{Output};
+
+    ghost from_gives = { λ _ e. e ≡ Output };
+
     fn from(_: Refused) -> Cause {
         Cause::Output
     }

@@ -1,4 +1,9 @@
+use Rattle.std.proofs.Common.{IsTrue, arith, subst, sym}
+use Rattle.std.proofs.lemmas.Grind.{common_steps}
+use Rattle.bag_join.proofs.Ends.{may_refuse}
 use Rattle.bag_join.proofs.Joined.{joins_all}
+use Rattle.bag_join.proofs.OneReport.{same_more}
+use Rattle.bag_join.proofs.Turns.{report_written, same_plan}
 use Rattle.bag_join.proofs.joining.join_input.Goals as goal
 
 pub returns-clause-joined : goal.returns-clause-joined
@@ -7,3 +12,28 @@ returns-clause-joined g c =
     let closes = rw c.as_str.ensures at c.in_ok-outcome.ensures.closes in
     rw c.in_ok-outcome.ensures.outcome
     (joins_all _ _ _ _ _ _ _ _ _ _ c.in_ok-plan.ensures.some c.in_ok-plan.ensures.most joins.1 closes)
+
+pub returns-in_err-plan-clause-whole : goal.returns-in_err-plan-clause-whole
+returns-in_err-plan-clause-whole g c findings whole =
+    let failed = may_refuse _ _ (g.W.Out.state c.args.out.now) (c.in_err-plan.ensures.whole findings whole) in
+    grind (arith, common_steps)
+
+pub returns-in_err-count-clause-whole : goal.returns-in_err-count-clause-whole
+returns-in_err-count-clause-whole g c findings whole =
+    let same = same_more _ _ _ c.in_ok-plan.ensures.same c.in_ok-write_parts.ensures.same in
+    let honest = subst IsTrue (sym same.honest) whole.honest in
+    let planned = same_plan findings _ _ c.in_ok-plan.plan c.in_ok-write_parts.ensures.same
+        (c.in_ok-plan.ensures.whole findings whole) in
+    let refused = c.in_err-count.ensures.whole findings whole.are honest planned in
+    grind (arith, common_steps)
+
+pub returns-clause-whole : goal.returns-clause-whole
+returns-clause-whole g c findings whole =
+    let same = same_more _ _ _ c.in_ok-plan.ensures.same c.in_ok-write_parts.ensures.same in
+    let honest = subst IsTrue (sym same.honest) whole.honest in
+    let planned = same_plan findings _ _ c.in_ok-plan.plan c.in_ok-write_parts.ensures.same
+        (c.in_ok-plan.ensures.whole findings whole) in
+    let wrote = c.in_ok-count.ensures.whole findings whole.are honest planned in
+    let closes = rw c.as_str.ensures at c.in_ok-outcome.ensures.closes in
+    report_written findings _ wrote.0 (g.W.Out.state c.args.out.now) (g.W.Out.state c.write_again.new.out)
+    (g.W.Out.state c.close.new.out) _ _ planned.name wrote.1 closes c.in_ok-outcome.ensures.outcome

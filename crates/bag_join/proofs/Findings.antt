@@ -1,0 +1,148 @@
+-- Findings, and the parts of them.
+use Rattle.std.proofs.Common.{◌≡◌, ℕ, zero, suc, ◌+◌, ◌<◌, ◌≤◌, ◌^◌, ◌++◌, ◌∷◌, List, [], Option, None, Some, Contains, Result, Ok, Err}
+use Rattle.std.proofs.Common.{length, get_or, take, drop, refl, sym, ap, ◌∙◌, subst, arith, append_assoc, append-nil, codes, inl, inr}
+use Rattle.std.proofs.Common.{length-append, add-one}
+use Rattle.std.specs.Prelude.{MatchResult}
+use Rattle.std.specs.List.{concat, AllByRecursion}
+unfoldable use Rattle.std.specs.List.Sorted.{IsStrictlySortedBy}
+use Rattle.std.specs.declared.cmp.Ordering.TheVariants.{Less}
+use Rattle.std.proofs.lemmas.List.{take-append-drop, take_all}
+use Rattle.std.proofs.Math.Seq.{drop-cons, take-suc}
+use Rattle.bag_text.proofs.ListOf.{contains_behind, contains_first}
+use Rattle.bag_facts.specs.FaultOrder.{fault_cmp}
+use Rattle.bag_facts.specs.LineOf.{IsFault}
+use Rattle.bag_facts.specs.declared.fault.Fault.{Fault}
+use Rattle.bag_walk.specs.Ending.{written}
+use Rattle.bag_join.specs.DoneLine.{IsDoneLineOf, IsSaid, line_of}
+use Rattle.bag_join.specs.Faults.{AreAfter, AreAhead, IsAfter, IsOther, last_of}
+use Rattle.bag_join.specs.Findings.{AreFindings, Findings, done_at, faults_at, report_at}
+use Rattle.bag_join.specs.Input.{MayFail}
+use Rattle.bag_join.specs.Join.{all_faults, part_report}
+use Rattle.bag_join.specs.Reports.{ReportsState}
+use Rattle.bag_join.specs.declared.done_line.DoneLine.{DoneLine}
+use Rattle.bag_join.specs.declared.refusal.Cause.{Cause}
+use Rattle.bag_join.specs.declared.refusal.Cause.TheVariants.{Memory}
+use Rattle.bag_join.proofs.Coming.{after_first, first_after}
+use Rattle.bag_join.proofs.Joined.{faults_joined, part_numbered}
+use Rattle.bag_join.proofs.Other.{AreSmall, done_ended, done_front, done_is_other, done_is_text}
+
+-- sorted faults stand each after the one before it
+first_is_after : (x : Fault) (xs : List Fault) → AllByRecursion (λ y. fault_cmp x y ≡ Less) xs
+    → (ys : List Fault) → ys ≡ xs → AreAfter None ys → AreAfter (Some x) ys
+first_is_after x xs all [] same after = tt
+first_is_after x [] all (y ∷ ys) same after = cc
+first_is_after x (z ∷ xs) all (y ∷ ys) same after =
+    let first : z ≡ y = cc in (after.0, subst (λ w. fault_cmp x w ≡ Less) first all.0, after.2)
+
+pub are_after : (faults : List Fault) → ((f : Fault) → Contains faults f → IsFault f)
+    → IsStrictlySortedBy fault_cmp faults → AreAfter None faults
+unfolding IsStrictlySortedBy
+are_after [] each sorted = tt
+are_after (x ∷ xs) each sorted =
+    let rest = are_after xs (λ f has. each f (contains_behind x xs f has)) sorted.1 in
+    (each x (contains_first x xs), tt, first_is_after x xs sorted.0 xs refl rest)
+
+-- the faults of a part, between those before and those after it
+abbrev pub before_part : Findings → ℕ → List Fault
+before_part findings k = all_faults (take k findings.parts)
+
+abbrev pub behind_part : Findings → ℕ → List Fault
+behind_part findings k = all_faults (drop (k + 1) findings.parts)
+
+all_joined : (xs ys : List (List Fault)) → all_faults (xs ++ ys) ≡ all_faults xs ++ all_faults ys
+all_joined [] ys = refl
+all_joined (x ∷ xs) ys =
+    ap (λ rest. x ++ rest) (all_joined xs ys) ∙ sym (append_assoc x (all_faults xs) (all_faults ys))
+
+pub parts_cut : (findings : Findings) (k : ℕ) → k < length findings.parts
+    → all_faults findings.parts ≡ before_part findings k ++ (faults_at findings k ++ behind_part findings k)
+parts_cut findings k inside =
+    let parts = findings.parts in
+    sym (ap all_faults (take-append-drop k parts))
+    ∙ all_joined (take k parts) (drop k parts)
+    ∙ ap (λ l. before_part findings k ++ all_faults l) (drop-cons parts k [] inside)
+    ∙ ap (λ n. before_part findings k ++ (faults_at findings k ++ all_faults (drop n parts))) (sym (add-one k))
+
+-- those before the next part
+pub parts_more : (findings : Findings) (k : ℕ) → k < length findings.parts
+    → before_part findings (k + 1) ≡ before_part findings k ++ faults_at findings k
+parts_more findings k inside =
+    let parts = findings.parts in
+    ap (λ n. all_faults (take n parts)) (add-one k) ∙ ap all_faults (take-suc parts k [] inside)
+    ∙ faults_joined (take k parts) (faults_at findings k)
+
+pub parts_all : (findings : Findings) (k : ℕ) → k ≡ length findings.parts
+    → before_part findings k ≡ all_faults findings.parts
+parts_all findings k same = ap all_faults (take_all k findings.parts (omega arith))
+
+pub part_after : (findings : Findings) (k : ℕ) → AreFindings findings → k < length findings.parts
+    → AreAfter (last_of None (before_part findings k)) (faults_at findings k)
+part_after findings k are inside =
+    let all = subst (λ l. AreAfter None l) (parts_cut findings k inside)
+        (are_after (all_faults findings.parts) are.are_faults are.in_order) in
+    first_after (last_of None (before_part findings k)) (faults_at findings k) (behind_part findings k)
+    (after_first None (before_part findings k) (faults_at findings k ++ behind_part findings k) all)
+
+pub part_few : (findings : Findings) (k : ℕ) → AreFindings findings → k < length findings.parts
+    → length (before_part findings k) + length (faults_at findings k) < 2 ^ 63
+part_few findings k are inside =
+    let few = are.few in
+    let cut = ap length (parts_cut findings k inside) in
+    let one = length-append (before_part findings k) (faults_at findings k ++ behind_part findings k) in
+    let two = length-append (faults_at findings k) (behind_part findings k) in
+    omega arith
+
+-- after none, what stands after some stands
+pub after_none : (last : Option Fault) (faults : List Fault) → AreAfter last faults → AreAfter None faults
+after_none last [] after = tt
+after_none last (f ∷ faults) after = (after.0, tt, after.2)
+
+-- the numbers of a closing line fit
+pub small_at : (findings : Findings) (k : ℕ) → AreFindings findings → k < length findings.parts
+    → AreSmall (part_numbered k (length findings.parts)) findings.listed (length (faults_at findings k))
+small_at findings k are inside =
+    let most = are.most in
+    let few = part_few findings k are inside in
+    record {
+      number = omega arith;
+      of = omega arith;
+      files = are.files;
+      bytes = are.bytes;
+      count = omega arith;
+    }
+
+-- its closing line, without its end
+abbrev pub front_at : Findings → ℕ → List ℕ
+front_at findings k =
+    done_front findings.name (part_numbered k (length findings.parts)) findings.listed (length (faults_at findings k))
+
+pub report_is : (findings : Findings) (k : ℕ)
+    → report_at findings k ≡ concat (written (faults_at findings k)) ++ (front_at findings k ++ codes "\n")
+report_is findings k =
+    ap (λ t. concat (written (faults_at findings k)) ++ t)
+    (done_ended findings.name (part_numbered k (length findings.parts)) findings.listed (length (faults_at findings k)))
+
+pub is_said : (findings : Findings) (k : ℕ) → AreFindings findings → k < length findings.parts
+    → IsDoneLineOf (front_at findings k ++ codes "\n") (done_at findings k)
+is_said findings k are inside =
+    let few = part_few findings k are inside in
+    record {
+      said_so =
+          record {
+            name = are.name;
+            part = record { below = inside; most = are.most };
+            files = are.files;
+            bytes = are.bytes;
+            count = omega arith;
+          };
+      text_is =
+          sym (done_ended findings.name (part_numbered k (length findings.parts)) findings.listed
+          (length (faults_at findings k)));
+    }
+
+-- what was read of a closing line, or memory ran out
+pub read_alike : (r : Result DoneLine Cause) (said : DoneLine) (reports : ReportsState)
+    → MatchResult r (λ found. found ≡ said) (λ cause. cause ≡ Memory)
+    → MatchResult r (λ found. found ≡ said) (λ cause. MayFail cause reports)
+read_alike (Ok found) said reports h = h
+read_alike (Err cause) said reports h = subst (λ x. MayFail x reports) (sym h) tt

@@ -1,0 +1,99 @@
+-- The closing line of a part that is done is a line of its own, and no fault's.
+use Rattle.std.proofs.Common.{◌≡◌, ◌≢◌, ℕ, ◌+◌, ◌<◌, ◌≤◌, ◌^◌, ◌++◌, ◌∷◌, ◌==◌, List, [], Bool, true, false, All, Option, Some, None}
+use Rattle.std.proofs.Common.{arith, codes, decimal, not, refl, sym, ap, ◌∙◌, subst, append_assoc}
+use Rattle.std.specs.List.{list_all}
+use Rattle.std.specs.Prelude.{IsUtf8, bytes_eq}
+use Rattle.std.proofs.lemmas.Bool.Decides.{nat_tests}
+use Rattle.std.proofs.lemmas.List.Elements.{All-append, All-cons, All-nil}
+use Rattle.bag_text.specs.Alg.{name}
+use Rattle.bag_text.specs.Code.{number}
+use Rattle.bag_text.specs.CodeWord.{word}
+use Rattle.bag_text.specs.declared.alg.Alg.{Alg}
+use Rattle.bag_facts.proofs.Algs.{each_alg, other_texts}
+use Rattle.bag_facts.proofs.Spaces.{HasNoSpace, IsNoSpace, decimal_clean, field_clean, number_clean, same_front, word_clean}
+use Rattle.bag_facts.specs.FaultLine.{alg_field, fault_line, field}
+use Rattle.bag_facts.specs.LineOf.{IsFault, IsLineOf}
+use Rattle.bag_facts.specs.Part.{Part}
+use Rattle.bag_facts.specs.declared.fault.Fault.{Fault}
+use Rattle.bag_walk.specs.PartRuns.{done_line}
+use Rattle.bag_walk.specs.declared.part.Listed.{Listed}
+use Rattle.bag_join.specs.Faults.{IsOther}
+use Rattle.bag_join.proofs.Plain.{IsPlain, decimal_plain, field_plain, from_test, line_is_text, no_end}
+
+-- the line without its end
+abbrev pub done_front : List ℕ → Part → Listed → ℕ → List ℕ
+done_front called part listed n =
+    field called ++ (codes " part " ++ (decimal (part.number + 1) ++ (codes " of " ++ (decimal part.of
+    ++ (codes " done, files: " ++ (decimal listed.files ++ (codes ", bytes: " ++ (decimal listed.bytes
+    ++ (codes ", faults: " ++ decimal n)))))))))
+
+pub done_ended : (called : List ℕ) (part : Part) (listed : Listed) (n : ℕ)
+    → done_line called part listed n ≡ done_front called part listed n ++ codes "\n"
+done_ended called part listed n = simp append_assoc
+
+-- numbers that fit
+pub record AreSmall (part : Part) (listed : Listed) (n : ℕ) : Type 0 where
+  pub number : part.number < 2 ^ 63
+  pub of : part.of < 2 ^ 64
+  pub files : listed.files < 2 ^ 64
+  pub bytes : listed.bytes < 2 ^ 128
+  pub count : n < 2 ^ 64
+
+pub done_plain : (called : List ℕ) (part : Part) (listed : Listed) (n : ℕ) → AreSmall part listed n
+    → All IsPlain (done_front called part listed n)
+done_plain called part listed n small =
+    let number = small.number in
+    let of = small.of in
+    let files = small.files in
+    let count = small.count in
+    All-append IsPlain (field called) _ (field_plain called)
+    (All-append IsPlain (codes " part ") _ (from_test (codes " part ") refl)
+    (All-append IsPlain (decimal (part.number + 1)) _ (decimal_plain (part.number + 1) (omega arith))
+    (All-append IsPlain (codes " of ") _ (from_test (codes " of ") refl)
+    (All-append IsPlain (decimal part.of) _ (decimal_plain part.of (omega arith))
+    (All-append IsPlain (codes " done, files: ") _ (from_test (codes " done, files: ") refl)
+    (All-append IsPlain (decimal listed.files) _ (decimal_plain listed.files (omega arith))
+    (All-append IsPlain (codes ", bytes: ") _ (from_test (codes ", bytes: ") refl)
+    (All-append IsPlain (decimal listed.bytes) _ (decimal_plain listed.bytes small.bytes)
+    (All-append IsPlain (codes ", faults: ") _ (from_test (codes ", faults: ") refl)
+    (decimal_plain n (omega arith)))))))))))
+
+no_space : (xs : List ℕ) → list_all (λ b. not (b == 32)) xs ≡ true → HasNoSpace xs
+no_space [] e = All-nil IsNoSpace
+no_space (x ∷ xs) e = All-cons IsNoSpace x xs (grind (arith, nat_tests)) (no_space xs (grind (arith, nat_tests)))
+
+-- no algorithm is called so
+no_alg : (alg : Option Alg) → alg_field alg ≢ codes "of"
+no_alg None e = cc
+no_alg (Some alg) e =
+    other_texts (name alg) (codes "of")
+    (let test = each_alg (λ a. not (bytes_eq (name a) (codes "of"))) refl alg in grind arith) e
+
+alg_clean : (alg : Option Alg) → HasNoSpace (alg_field alg)
+alg_clean None = no_space (codes "-") refl
+alg_clean (Some alg) = no_space (name alg) (each_alg (λ a. list_all (λ b. not (b == 32)) (name a)) refl alg)
+
+-- The fourth field of a fault's line is an algorithm's.
+pub no_fault : (called : List ℕ) (part : Part) (listed : Listed) (n : ℕ) → AreSmall part listed n
+    → (f : Fault) → fault_line f ≡ done_front called part listed n → ⊥
+no_fault called part listed n small f e =
+    let below = small.number in
+    let a = same_front (decimal (number f.code)) (field called) _ _ (number_clean f.code) (field_clean called) e in
+    let b = same_front (word f.code) (codes "part") _ _ (word_clean f.code) (no_space (codes "part") refl) a.1 in
+    let c = same_front (field f.path) (decimal (part.number + 1)) _ _ (field_clean f.path)
+        (decimal_clean (part.number + 1) (omega arith)) b.1 in
+    let d = same_front (alg_field f.alg) (codes "of") _ _ (alg_clean f.alg) (no_space (codes "of") refl) c.1 in
+    no_alg f.alg d.0
+
+pub done_is_other : (called : List ℕ) (part : Part) (listed : Listed) (n : ℕ) → AreSmall part listed n
+    → IsOther (done_front called part listed n)
+done_is_other called part listed n small = record {
+  plain = no_end (done_front called part listed n) (done_plain called part listed n small);
+  other = λ f is. no_fault called part listed n small f is.text;
+}
+
+pub done_is_text : (called : List ℕ) (part : Part) (listed : Listed) (n : ℕ) → AreSmall part listed n
+    → IsUtf8 (done_line called part listed n)
+done_is_text called part listed n small =
+    subst IsUtf8 (sym (done_ended called part listed n))
+    (line_is_text (done_front called part listed n) (done_plain called part listed n small))
