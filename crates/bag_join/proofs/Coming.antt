@@ -32,10 +32,10 @@ next_is now new passed passed' line has_end last [] front rest reads other after
 next_is now new passed passed' line has_end last (f ∷ more) front rest reads other after ahead =
     let behind = concat (written more) ++ (front ++ 10 ∷ rest) in
     let joined : concat (written (f ∷ more)) ++ (front ++ 10 ∷ rest) ≡ fault_line f ++ 10 ∷ behind =
-        append_assoc (written_line f) (concat (written more)) (front ++ 10 ∷ rest)
-        ∙ append_assoc (fault_line f) (codes "\n") behind in
+    append_assoc (written_line f) (concat (written more)) (front ++ 10 ∷ rest)
+    ∙ append_assoc (fault_line f) (codes "\n") behind in
     let first = reads (fault_line f) behind (no_end (fault_line f) (fault_plain f after.0))
-        (subst (λ text. HoldsAhead now passed text) joined ahead) in
+    (subst (λ text. HoldsAhead now passed text) joined ahead) in
     (first.0, (record { fault = after.0; text = sym first.1 }, first.2))
 
 -- those after the first ones
@@ -124,6 +124,6 @@ pub found_after : (start now new : ReportsState) (before passed passed' line : L
 found_after start now new before passed passed' line has_end last found faults f front rest goes reads is other ahead
     after =
     let here = goes_on_more start now new before passed passed' line has_end last found f goes reads is
-        faults front rest other ahead after in
+    faults front rest other ahead after in
     let joined = append_assoc found (f ∷ []) here.0 in
     (after_first last found (f ∷ here.0) (subst (λ l. AreAfter last l) (here.1 ∙ joined) after)).1

@@ -45,10 +45,10 @@ pub still_held : (state : ReportsState) (passed buffer : List ℕ) (at end : ℕ
     → IsAhead state.given passed buffer at end → HoldsOpen state
     → (rest : List ℕ) × (slice_get state.held state.open_one ≡ Some (passed ++ rest))
 still_held state passed buffer at end is opened = (
-    slice_range buffer at end ++ opened.0,
-    opened.1 ∙ ap (λ given. Some (given ++ opened.0)) is.ahead
-    ∙ ap (λ text. Some text) (append_assoc passed (slice_range buffer at end) opened.0),
-  )
+  slice_range buffer at end ++ opened.0,
+  opened.1 ∙ ap (λ given. Some (given ++ opened.0)) is.ahead
+      ∙ ap (λ text. Some text) (append_assoc passed (slice_range buffer at end) opened.0),
+)
 
 -- reading on leaves what is held
 pub same_held : (old new : ReportsState) → ReadsOn old new
@@ -72,12 +72,12 @@ read_first old new passed passed' buffer line front rest at end reads is grown c
     let opened = reads.holds holds.honest holds.opened in
     let after = still_held new passed' buffer at end is opened in
     let whole : passed' ++ after.0 ≡ passed ++ (front ++ 10 ∷ rest) =
-        same_some _ _ (sym after.1 ∙ same_held old new reads ∙ holds.ahead) in
+    same_some _ _ (sym after.1 ∙ same_held old new reads ∙ holds.ahead) in
     let left : passed' ++ after.0 ≡ passed ++ (line ++ 10 ∷ after.0) =
-        ap (λ t. t ++ after.0) grown ∙ append_assoc passed (line ++ codes "\n") after.0
-        ∙ ap (λ t. passed ++ t) (append_assoc line (codes "\n") after.0) in
+    ap (λ t. t ++ after.0) grown ∙ append_assoc passed (line ++ codes "\n") after.0
+    ∙ ap (λ t. passed ++ t) (append_assoc line (codes "\n") after.0) in
     let parts = same_front line front after.0 rest clean plain
-        (append_cancel_left passed (line ++ 10 ∷ after.0) (front ++ 10 ∷ rest) (sym left ∙ whole)) in (
+    (append_cancel_left passed (line ++ 10 ∷ after.0) (front ++ 10 ∷ rest) (sym left ∙ whole)) in (
       parts.0,
       holds_on old new passed (front ++ 10 ∷ rest) passed' rest reads holds
           (sym whole ∙ ap (λ t. passed' ++ t) parts.1),
@@ -90,7 +90,7 @@ pub read_last : (old new : ReportsState) (passed passed' line front rest : List 
 read_last old new passed passed' line front rest reads all grown clean holds =
     let honest = subst IsTrue (sym reads.same.honest) holds.honest in
     let whole : passed' ≡ passed ++ (front ++ 10 ∷ rest) =
-        same_some _ _ (sym (all.1 honest) ∙ same_held old new reads ∙ holds.ahead) in
+    same_some _ _ (sym (all.1 honest) ∙ same_held old new reads ∙ holds.ahead) in
     ends_not line front rest clean
     (sym (append-nil line)
     ∙ append_cancel_left passed (line ++ []) (front ++ 10 ∷ rest) (sym grown ∙ whole))
@@ -105,7 +105,7 @@ pub read_nothing : (old new : ReportsState) (passed passed' line : List ℕ)
 read_nothing old new passed passed' line reads all grown holds =
     let honest = subst IsTrue (sym reads.same.honest) holds.honest in
     let whole : passed' ≡ passed ++ [] =
-        same_some _ _ (sym (all.1 honest) ∙ same_held old new reads ∙ holds.ahead) in
+    same_some _ _ (sym (all.1 honest) ∙ same_held old new reads ∙ holds.ahead) in
     sym (append-nil line) ∙ nothing_more passed (line ++ []) (sym grown ∙ whole)
 
 has_first : (line rest : List ℕ) (byte : ℕ) → (line ++ byte ∷ []) ++ rest ≡ [] → ⊥
@@ -120,9 +120,9 @@ read_something old new passed passed' buffer line at end byte reads is grown hol
     let opened = reads.holds holds.honest holds.opened in
     let after = still_held new passed' buffer at end is opened in
     let whole : passed' ++ after.0 ≡ passed ++ [] =
-        same_some _ _ (sym after.1 ∙ same_held old new reads ∙ holds.ahead) in
+    same_some _ _ (sym after.1 ∙ same_held old new reads ∙ holds.ahead) in
     let left : passed' ++ after.0 ≡ passed ++ ((line ++ byte ∷ []) ++ after.0) =
-        ap (λ t. t ++ after.0) grown ∙ append_assoc passed (line ++ byte ∷ []) after.0 in
+    ap (λ t. t ++ after.0) grown ∙ append_assoc passed (line ++ byte ∷ []) after.0 in
     has_first line after.0 byte (nothing_more passed ((line ++ byte ∷ []) ++ after.0) (sym left ∙ whole))
 
 -- what may fail may refuse

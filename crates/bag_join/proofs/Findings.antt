@@ -79,7 +79,7 @@ pub part_after : (findings : Findings) (k : ℕ) → AreFindings findings → k 
     → AreAfter (last_of None (before_part findings k)) (faults_at findings k)
 part_after findings k are inside =
     let all = subst (λ l. AreAfter None l) (parts_cut findings k inside)
-        (are_after (all_faults findings.parts) are.are_faults are.in_order) in
+    (are_after (all_faults findings.parts) are.are_faults are.in_order) in
     first_after (last_of None (before_part findings k)) (faults_at findings k) (behind_part findings k)
     (after_first None (before_part findings k) (faults_at findings k ++ behind_part findings k) all)
 

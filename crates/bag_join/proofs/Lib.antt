@@ -9,6 +9,7 @@ pub mod LastLine
 pub mod LawsHold
 pub mod OneReport
 pub mod Other
+pub mod PartsOfBag
 pub mod Placing
 pub mod Plain
 pub mod Turns

@@ -81,7 +81,7 @@ no_fault called part listed n small f e =
     let a = same_front (decimal (number f.code)) (field called) _ _ (number_clean f.code) (field_clean called) e in
     let b = same_front (word f.code) (codes "part") _ _ (word_clean f.code) (no_space (codes "part") refl) a.1 in
     let c = same_front (field f.path) (decimal (part.number + 1)) _ _ (field_clean f.path)
-        (decimal_clean (part.number + 1) (omega arith)) b.1 in
+    (decimal_clean (part.number + 1) (omega arith)) b.1 in
     let d = same_front (alg_field f.alg) (codes "of") _ _ (alg_clean f.alg) (no_space (codes "of") refl) c.1 in
     no_alg f.alg d.0
 

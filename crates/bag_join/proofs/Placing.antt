@@ -44,13 +44,13 @@ came_from : (xs : List ℕ) (a b : ℕ) → a < length xs → b < length xs → 
 came_from xs a b p q m inside =
     let s = swapped_from_swap xs (swap xs a b) a b 0 p q refl in
     elim (cases_eq m a) as (λ _. (from : ℕ) × (from < length xs) × (get_or (swap xs a b) m 0 ≡ get_or xs from 0)
-      × Moved a b m from) [
-      inl same ↦ (b, q, ap (λ k. get_or (swap xs a b) k 0) same ∙ s.0, inl (same, refl))
+    × Moved a b m from) [
+      | inl same ↦ (b, q, ap (λ k. get_or (swap xs a b) k 0) same ∙ s.0, inl (same, refl))
       | inr other ↦ elim (cases_eq m b) as (λ _. (from : ℕ) × (from < length xs)
-        × (get_or (swap xs a b) m 0 ≡ get_or xs from 0) × Moved a b m from) [
-        inl same ↦ (a, p, ap (λ k. get_or (swap xs a b) k 0) same ∙ s.1, inr (inl (same, refl)))
-        | inr apart ↦ (m, inside, s.2 m other apart, inr (inr (other, apart, refl)))
-      ]
+          × (get_or (swap xs a b) m 0 ≡ get_or xs from 0) × Moved a b m from) [
+            | inl same ↦ (a, p, ap (λ k. get_or (swap xs a b) k 0) same ∙ s.1, inr (inl (same, refl)))
+            | inr apart ↦ (m, inside, s.2 m other apart, inr (inr (other, apart, refl)))
+          ]
     ]
 
 once_swapped : (xs : List ℕ) (a b : ℕ) → a < length xs → b < length xs
@@ -88,15 +88,15 @@ range_has n k below =
 pub order_is : (n : ℕ) (order : List ℕ) → IsPermutation (range_with_len 0 n) order → IsOrder n order
 order_is n order moved =
     let size : length order ≡ n =
-        length_permutation (range_with_len 0 n) order moved ∙ length-range_with_len 0 n in
+    length_permutation (range_with_len 0 n) order moved ∙ length-range_with_len 0 n in
     record {
       size = size;
       below = λ j inside. All-permutation (λ k. k < n) (range_with_len 0 n) order moved (range_below n) j 0 (omega arith);
       reaches =
           λ k inside.
-              let has = Contains-permutation (range_with_len 0 n) order k moved (range_has n k inside) in
-              let there = get_or_default order has.0 k 0 has.1 in
-              (has.0, omega arith, sym there ∙ has.2);
+          let has = Contains-permutation (range_with_len 0 n) order k moved (range_has n k inside) in
+          let there = get_or_default order has.0 k 0 has.1 in
+          (has.0, omega arith, sym there ∙ has.2);
       once = λ i j p q same. order_once n order moved i j (omega arith) (omega arith) same;
     }
 
@@ -139,18 +139,18 @@ fills_next n order places new number is more fills grown =
     let below = is.below number more in
     let long : length new ≡ length places = ap length grown ∙ length-set places place (Some number) in
     let other : (k : ℕ) → k < length order → k ≢ place → slice_get new k ≡ slice_get places k = λ k inside apart.
-        slice_get-get_or new k None (omega arith)
-        ∙ ap (λ (l : List (Option ℕ)). Some (get_or l k None)) grown
-        ∙ ap (λ (o : Option ℕ). Some o) (get_or-set_other places place k (Some number) None apart)
-        ∙ sym (slice_get-get_or places k None (omega arith)) in
+    slice_get-get_or new k None (omega arith)
+    ∙ ap (λ (l : List (Option ℕ)). Some (get_or l k None)) grown
+    ∙ ap (λ (o : Option ℕ). Some o) (get_or-set_other places place k (Some number) None apart)
+    ∙ sym (slice_get-get_or places k None (omega arith)) in
     let here : slice_get new place ≡ Some (Some number) =
-        slice_get-get_or new place None (omega arith)
-        ∙ ap (λ (l : List (Option ℕ)). Some (get_or l place None)) grown
-        ∙ ap (λ (o : Option ℕ). Some o) (get_or-set_same places place (Some number) None (omega arith)) in
+    slice_get-get_or new place None (omega arith)
+    ∙ ap (λ (l : List (Option ℕ)). Some (get_or l place None)) grown
+    ∙ ap (λ (o : Option ℕ). Some o) (get_or-set_same places place (Some number) None (omega arith)) in
     record {
       size = long ∙ old;
       taken = λ j less. elim (cases_eq j number) as (λ _. slice_get new (get_or order j 0) ≡ Some (Some j)) [
-        inl same ↦ subst (λ m. slice_get new (get_or order m 0) ≡ Some (Some m)) (sym same) here
+        | inl same ↦ subst (λ m. slice_get new (get_or order m 0) ≡ Some (Some m)) (sym same) here
         | inr apart ↦
             let before : j < number = omega arith in
             let low = is.below j (omega arith) in

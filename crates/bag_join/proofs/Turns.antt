@@ -50,13 +50,13 @@ same_plan findings old new plan same planned = record {
   parts = planned.parts;
   placed =
       λ k inside.
-          let place = planned.placed k inside in
-          let count = same.count in (
-            place.0,
-            place.1,
-            omega arith,
-            ap (λ (l : List (List ℕ)). slice_get l place.0) same.held ∙ place.3,
-          );
+      let place = planned.placed k inside in
+      let count = same.count in (
+        place.0,
+        place.1,
+        omega arith,
+        ap (λ (l : List (List ℕ)). slice_get l place.0) same.held ∙ place.3,
+      );
 }
 
 -- the faults of the first parts were written
@@ -139,9 +139,9 @@ pub report_written : (findings : Findings) (name : List ℕ) (last : Option Faul
     → Appends mid.taken after.taken (full_closing name n) → outcome ≡ ended None n
     → IsReportOf findings before after outcome
 report_written findings name last before mid after n outcome called wrote closes ends = (
-    ends ∙ ap (λ k. ended None k) wrote.count,
-    Appends-append before.taken mid.taken after.taken (concat (written (all_faults findings.parts)))
-        (full_closing findings.name (length (all_faults findings.parts))) wrote.wrote
-        (subst (λ k. Appends mid.taken after.taken (full_closing findings.name k)) wrote.count
-        (subst (λ t. Appends mid.taken after.taken (full_closing t n)) called closes)),
-  )
+  ends ∙ ap (λ k. ended None k) wrote.count,
+  Appends-append before.taken mid.taken after.taken (concat (written (all_faults findings.parts)))
+      (full_closing findings.name (length (all_faults findings.parts))) wrote.wrote
+      (subst (λ k. Appends mid.taken after.taken (full_closing findings.name k)) wrote.count
+      (subst (λ t. Appends mid.taken after.taken (full_closing t n)) called closes)),
+)

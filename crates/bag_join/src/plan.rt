@@ -143,11 +143,7 @@ fn read_closing<R: Reports>(
 }
 
 /// The last line of a report, with its end; nothing where the report is empty.
-fn last_line<R: Reports>(
-    alloc: Global,
-    input: &mut Input<R>,
-    number: u64,
-) -> Result<Vec<u8>, Cause>
+fn last_line<R: Reports>(alloc: Global, input: &mut Input<R>, number: u64) -> Result<Vec<u8>, Cause>
     ensures same { OnOk result
         (SameReports (R.state input.old.reports) (R.state input.new.reports)) }
     ensures last { (faults : List FaultValue) (front : List ℕ) → IsOther front

@@ -39,7 +39,7 @@ pub returns-then-not-branch-clause-finds : goal.returns-then-not-branch-clause-f
 returns-then-not-branch-clause-finds g c faults front rest other ahead after few =
     let has = c.lines.invariant in
     let ends = has_end_ahead _ _ _ c.args.input.now.passed.bytes c.lines.input.passed.bytes _ _ _ c.args.last.now has.1.0
-        faults front rest has.1.3 c.in_ok-next_line.ensures.first other ahead after in
+    faults front rest has.1.3 c.in_ok-next_line.ensures.first other ahead after in
     let not = c.if-not-branch.true in
     grind (arith, common_steps)
 
@@ -51,7 +51,7 @@ returns-in_default-clause-finds g c faults front rest other ahead after few =
     let first = rw (← c.as_slice.ensures.value) at c.in_ok-next_line.ensures.first in
     let none = rw c.in_default.is at c.in_ok-found.ensures in
     let all = found_whole _ _ _ c.args.input.now.passed.bytes c.lines.input.passed.bytes _ line _ c.args.last.now
-        has.1.0 faults front rest has.1.3 first none other ahead after in
+    has.1.0 faults front rest has.1.3 first none other ahead after in
     let ends : c.push.new.self.items ≡ line ++ codes "\n" = grind (arith, common_steps) in (
       subst (λ l. WritesFaults c.args.last.now c.lines.last (out c.args.out.now) (out c.lines.out) c.lines.count l) all.0
           has.1.1,
@@ -67,7 +67,7 @@ returns-then-not-is_after-clause-finds g c faults front rest other ahead after f
     let first = rw (← c.as_slice.ensures.value) at c.in_ok-next_line.ensures.first in
     let is = rw c.in-Some.is at c.in_ok-found.ensures in
     let above = found_after _ _ _ c.args.input.now.passed.bytes c.lines.input.passed.bytes _ line _ c.args.last.now
-        has.1.0 faults f front rest has.1.3 first is other ahead after in
+    has.1.0 faults f front rest has.1.3 first is other ahead after in
     let told = rw c.as_ref.ensures.value at c.is_after.ensures in
     let truth = told.1 (subst (λ o. IsAfter o f) (sym has.1.1.last_is) above) in
     let not = c.if-not-is_after.true in

@@ -23,7 +23,7 @@ returns-in_err-count-clause-whole g c findings whole =
     let same = same_more _ _ _ c.in_ok-plan.ensures.same c.in_ok-write_parts.ensures.same in
     let honest = subst IsTrue (sym same.honest) whole.honest in
     let planned = same_plan findings _ _ c.in_ok-plan.plan c.in_ok-write_parts.ensures.same
-        (c.in_ok-plan.ensures.whole findings whole) in
+    (c.in_ok-plan.ensures.whole findings whole) in
     let refused = c.in_err-count.ensures.whole findings whole.are honest planned in
     grind (arith, common_steps)
 
@@ -32,7 +32,7 @@ returns-clause-whole g c findings whole =
     let same = same_more _ _ _ c.in_ok-plan.ensures.same c.in_ok-write_parts.ensures.same in
     let honest = subst IsTrue (sym same.honest) whole.honest in
     let planned = same_plan findings _ _ c.in_ok-plan.plan c.in_ok-write_parts.ensures.same
-        (c.in_ok-plan.ensures.whole findings whole) in
+    (c.in_ok-plan.ensures.whole findings whole) in
     let wrote = c.in_ok-count.ensures.whole findings whole.are honest planned in
     let closes = rw c.as_str.ensures at c.in_ok-outcome.ensures.closes in
     report_written findings _ wrote.0 (g.W.Out.state c.args.out.now) (g.W.Out.state c.write_again.new.out)

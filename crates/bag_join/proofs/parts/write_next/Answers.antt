@@ -38,7 +38,7 @@ returns-in_err-count-clause-whole g c findings turn =
     let ahead = turn_ahead findings _ _ c.args.number (c.in_ok-open.ensures.ahead _ turn.honest turn.held) in
     let fits = turn.few in
     let told = c.in_err-count.ensures.finds (faults_at findings c.args.number) (front_at findings c.args.number) []
-        (front_is_other findings c.args.number turn.are turn.below) ahead turn.after (omega arith) in
+    (front_is_other findings c.args.number turn.are turn.below) ahead turn.after (omega arith) in
     grind (arith, common_steps)
 
 pub returns-then-not-branch-clause-whole : goal.returns-then-not-branch-clause-whole
@@ -46,7 +46,7 @@ returns-then-not-branch-clause-whole g c findings turn =
     let ahead = turn_ahead findings _ _ c.args.number (c.in_ok-open.ensures.ahead _ turn.honest turn.held) in
     let fits = turn.few in
     let told = c.in_ok-count.ensures.finds (faults_at findings c.args.number) (front_at findings c.args.number) []
-        (front_is_other findings c.args.number turn.are turn.below) ahead turn.after (omega arith) in
+    (front_is_other findings c.args.number turn.are turn.below) ahead turn.after (omega arith) in
     let plan = c.args.plan.now in
     let n = c.in_ok-count.count in
     let part =
@@ -66,7 +66,7 @@ returns-in_err-expect_end-clause-whole g c findings turn =
     let ahead = turn_ahead findings _ _ c.args.number (c.in_ok-open.ensures.ahead _ turn.honest turn.held) in
     let fits = turn.few in
     let told = c.in_ok-count.ensures.finds (faults_at findings c.args.number) (front_at findings c.args.number) []
-        (front_is_other findings c.args.number turn.are turn.below) ahead turn.after (omega arith) in
+    (front_is_other findings c.args.number turn.are turn.below) ahead turn.after (omega arith) in
     let failed = may_refuse _ _ (g.W.Out.state c.write_faults.new.out) (c.in_err-expect_end.ensures.refused told.2) in
     grind (arith, common_steps)
 
@@ -75,7 +75,7 @@ returns-in_err-sum-clause-whole g c findings turn =
     let ahead = turn_ahead findings _ _ c.args.number (c.in_ok-open.ensures.ahead _ turn.honest turn.held) in
     let fits = turn.few in
     let told = c.in_ok-count.ensures.finds (faults_at findings c.args.number) (front_at findings c.args.number) []
-        (front_is_other findings c.args.number turn.are turn.below) ahead turn.after (omega arith) in
+    (front_is_other findings c.args.number turn.are turn.below) ahead turn.after (omega arith) in
     let count = told.0.count in
     absurd (c.in_err-sum.ensures.fits (omega arith))
 
@@ -84,5 +84,5 @@ returns-clause-whole g c findings turn =
     let ahead = turn_ahead findings _ _ c.args.number (c.in_ok-open.ensures.ahead _ turn.honest turn.held) in
     let fits = turn.few in
     let told = c.in_ok-count.ensures.finds (faults_at findings c.args.number) (front_at findings c.args.number) []
-        (front_is_other findings c.args.number turn.are turn.below) ahead turn.after (omega arith) in
+    (front_is_other findings c.args.number turn.are turn.below) ahead turn.after (omega arith) in
     (c.in_ok-count.count, c.in_ok-sum.ensures.sum, told.0)

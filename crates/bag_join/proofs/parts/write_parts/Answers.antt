@@ -17,8 +17,7 @@ parts-preserved g c =
     λ of. JoinsPart plan.name plan.listed (part_numbered c.parts.index of) (state c.parts.input.reports)
     (state c.write_next.new.input.reports) c.parts.last c.write_next.new.last (out c.parts.out)
     (out c.write_next.new.out) next.0 in
-    let part = subst Joins size next.2 in
-    (
+    let part = subst Joins size next.2 in (
       rw next.1 (joins_more _ _ _ _ _ _ _ _ _ _ _ _ _ _ c.parts.invariant.0 part),
       same_more _ _ _ c.parts.invariant.1 c.in-Ok.ensures.same,
       λ findings are honest planned.
@@ -26,9 +25,9 @@ parts-preserved g c =
           let first = c.parts.invariant.2 findings are honest planned in
           let inside : c.parts.index < length findings.parts = grind (arith, common_steps) in
           let place = place_at plan.places.items _ c.parts.index (Some c.in-Some.report)
-              c.deref-place-items.ensures.value (omega arith) c.in-Some.is in
+          c.deref-place-items.ensures.value (omega arith) c.in-Some.is in
           let turn = turn_comes findings _ _ plan c.parts.index c.in-Some.report c.parts.total c.parts.last _ _ are honest
-              planned c.parts.invariant.1 inside place first in
+          planned c.parts.invariant.1 inside place first in
           let wrote = c.in-Ok.ensures.whole findings turn in
           writes_first_more findings c.parts.index c.parts.last c.write_next.new.last (out c.args.out.now)
           (out c.parts.out) (out c.write_next.new.out) c.parts.total c.in-Ok.count wrote.0 inside first wrote.1 wrote.2,
@@ -52,7 +51,7 @@ returns-in-Err-clause-whole g c findings are honest planned =
     let first = c.parts.invariant.2 findings are honest planned in
     let inside : c.parts.index < length findings.parts = grind (arith, common_steps) in
     let place = place_at plan.places.items _ c.parts.index (Some c.in-Some.report)
-        c.deref-place-items.ensures.value (omega arith) c.in-Some.is in
+    c.deref-place-items.ensures.value (omega arith) c.in-Some.is in
     let turn = turn_comes findings _ _ plan c.parts.index c.in-Some.report c.parts.total c.parts.last _ _ are honest
-        planned c.parts.invariant.1 inside place first in
+    planned c.parts.invariant.1 inside place first in
     c.in-Err.ensures.whole findings turn

@@ -19,10 +19,10 @@ pub returns-in-Ok-clause-whole : goal.returns-in-Ok-clause-whole
 returns-in-Ok-clause-whole g c findings k are inside honest there held =
     let few = part_few findings k are inside in
     let last = c.in-Ok.ensures.last (faults_at findings k) (front_at findings k)
-        (done_is_other findings.name (part_numbered k (length findings.parts)) findings.listed
-        (length (faults_at findings k)) (small_at findings k are inside))
-        (after_none _ _ (part_after findings k are inside)) (omega arith) honest there
-        (held ∙ ap (λ text. Some text) (report_is findings k)) in
+    (done_is_other findings.name (part_numbered k (length findings.parts)) findings.listed
+    (length (faults_at findings k)) (small_at findings k are inside))
+    (after_none _ _ (part_after findings k are inside)) (omega arith) honest there
+    (held ∙ ap (λ text. Some text) (report_is findings k)) in
     let text = c.as_slice.ensures.value ∙ last in
     read_alike c.said_in.result (done_at findings k) _
     (c.said_in.ensures (done_at findings k)
