@@ -1,12 +1,12 @@
 -- Lines that end where they are said to.
-use Rattle.std.proofs.Common.{◌≡◌, ◌≢◌, ℕ, ◌+◌, ◌<◌, ◌≤◌, ◌++◌, ◌∷◌, List, [], Option, Some, Bool, true, false, IsTrue}
-use Rattle.std.proofs.Common.{All, length, slice_range, refl, sym, ap, ◌∙◌, subst, arith, append_assoc, append-nil, codes}
+use Rattle.std.proofs.Common.{◌≡◌, ◌≢◌, ℕ, ◌++◌, ◌∷◌, List, [], Some, IsTrue}
+use Rattle.std.proofs.Common.{slice_range, refl, sym, ap, ◌∙◌, subst, append_assoc, append-nil, codes}
 use Rattle.std.proofs.Common.{unwrap_or, slice_get}
 use Rattle.std.proofs.lemmas.List.{append_cancel_left}
 use Rattle.std.proofs.lemmas.List.Elements.{All-append, All-cons, All-head, All-nil, All-tail}
 use Rattle.bag_tree.specs.Out.{OutState}
-use Rattle.bag_join.specs.Input.{HasNoEnd, HoldsAhead, IsAhead, IsPassed, MayFail, MayRefuse, ended_line}
-use Rattle.bag_join.specs.Reports.{HoldsOpen, ReadsOn, ReportsState, SameReports}
+use Rattle.bag_join.specs.Input.{HasNoEnd, HoldsAhead, IsAhead, IsPassed, MayFail, MayRefuse}
+use Rattle.bag_join.specs.Reports.{HoldsOpen, ReadsOn, ReportsState}
 use Rattle.bag_join.specs.declared.refusal.Cause.{Cause}
 use Rattle.bag_join.specs.declared.refusal.Cause.TheVariants.{Output}
 

@@ -1,5 +1,5 @@
 -- Lines of faults in order, written one after another.
-use Rattle.std.proofs.Common.{◌≡◌, ℕ, ◌+◌, ◌++◌, ◌∷◌, List, [], Option, None, Some, Contains, length, refl, sym, ap}
+use Rattle.std.proofs.Common.{◌≡◌, ℕ, ◌+◌, ◌++◌, ◌∷◌, List, [], Option, Some, Contains, length, refl, sym, ap}
 use Rattle.std.proofs.Common.{◌∙◌, subst, inl, inr, append_assoc, append-nil, length-append, codes}
 use Rattle.std.specs.Io.KnownBytes.{Appends}
 use Rattle.std.specs.List.{concat, AllByRecursion}
@@ -22,7 +22,7 @@ written_joined (x ∷ xs) ys =
     ap (λ rest. written_line x ++ rest) (written_joined xs ys)
     ∙ sym (append_assoc (written_line x) (concat (written xs)) (concat (written ys)))
 
-after_joined : (last : Option Fault) (xs ys : List Fault) → AreAfter last xs → AreAfter (last_of last xs) ys
+pub after_joined : (last : Option Fault) (xs ys : List Fault) → AreAfter last xs → AreAfter (last_of last xs) ys
     → AreAfter last (xs ++ ys)
 after_joined last [] ys p q = q
 after_joined last (x ∷ xs) ys p q = (p.0, p.1, after_joined (Some x) xs ys p.2 q)
@@ -46,7 +46,7 @@ writes_on first mid_last last before mid after m n xs ys a b = record {
 }
 
 -- a fault's line with its end
-one_written : (f : Fault) (line ended : List ℕ) → IsLineOf line f → ended ≡ line ++ codes "\n"
+pub one_written : (f : Fault) (line ended : List ℕ) → IsLineOf line f → ended ≡ line ++ codes "\n"
     → ended ≡ concat (written (f ∷ []))
 one_written f line ended is ends =
     ends ∙ ap (λ text. text ++ codes "\n") (sym is.text) ∙ sym (append-nil (written_line f))

@@ -1,6 +1,6 @@
 -- Findings, and the parts of them.
-use Rattle.std.proofs.Common.{◌≡◌, ℕ, zero, suc, ◌+◌, ◌<◌, ◌≤◌, ◌^◌, ◌++◌, ◌∷◌, List, [], Option, None, Some, Contains, Result, Ok, Err}
-use Rattle.std.proofs.Common.{length, get_or, take, drop, refl, sym, ap, ◌∙◌, subst, arith, append_assoc, append-nil, codes, inl, inr}
+use Rattle.std.proofs.Common.{◌≡◌, ℕ, ◌+◌, ◌<◌, ◌^◌, ◌++◌, ◌∷◌, List, [], Option, None, Some, Contains, Result, Ok, Err}
+use Rattle.std.proofs.Common.{length, take, drop, refl, sym, ap, ◌∙◌, subst, arith, append_assoc, codes}
 use Rattle.std.proofs.Common.{length-append, add-one}
 use Rattle.std.specs.Prelude.{MatchResult}
 use Rattle.std.specs.List.{concat, AllByRecursion}
@@ -13,18 +13,18 @@ use Rattle.bag_facts.specs.FaultOrder.{fault_cmp}
 use Rattle.bag_facts.specs.LineOf.{IsFault}
 use Rattle.bag_facts.specs.declared.fault.Fault.{Fault}
 use Rattle.bag_walk.specs.Ending.{written}
-use Rattle.bag_join.specs.DoneLine.{IsDoneLineOf, IsSaid, line_of}
-use Rattle.bag_join.specs.Faults.{AreAfter, AreAhead, IsAfter, IsOther, last_of}
+use Rattle.bag_join.specs.DoneLine.{IsDoneLineOf}
+use Rattle.bag_join.specs.Faults.{AreAfter, last_of}
 use Rattle.bag_join.specs.Findings.{AreFindings, Findings, done_at, faults_at, report_at}
 use Rattle.bag_join.specs.Input.{MayFail}
-use Rattle.bag_join.specs.Join.{all_faults, part_report}
+use Rattle.bag_join.specs.Join.{all_faults}
 use Rattle.bag_join.specs.Reports.{ReportsState}
 use Rattle.bag_join.specs.declared.done_line.DoneLine.{DoneLine}
 use Rattle.bag_join.specs.declared.refusal.Cause.{Cause}
 use Rattle.bag_join.specs.declared.refusal.Cause.TheVariants.{Memory}
 use Rattle.bag_join.proofs.Coming.{after_first, first_after}
 use Rattle.bag_join.proofs.Joined.{faults_joined, part_numbered}
-use Rattle.bag_join.proofs.Other.{AreSmall, done_ended, done_front, done_is_other, done_is_text}
+use Rattle.bag_join.proofs.Other.{AreSmall, done_ended, done_front}
 
 -- sorted faults stand each after the one before it
 first_is_after : (x : Fault) (xs : List Fault) → AllByRecursion (λ y. fault_cmp x y ≡ Less) xs

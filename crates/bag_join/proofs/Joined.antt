@@ -1,6 +1,6 @@
 -- Reports of parts, joined one after another.
 use Rattle.std.proofs.Common.{◌≡◌, ℕ, ◌+◌, ◌<◌, ◌≤◌, ◌++◌, ◌∷◌, List, [], Option, None, Some, length, refl, sym, ap}
-use Rattle.std.proofs.Common.{◌∙◌, subst, arith, suc, zero, append_assoc, append-nil, length-append, add-zero, zero-add}
+use Rattle.std.proofs.Common.{◌∙◌, subst, arith, suc, append_assoc, append-nil, length-append, add-zero}
 use Rattle.std.specs.List.{concat}
 use Rattle.std.specs.Io.KnownBytes.{Appends}
 use Rattle.bag_tree.proofs.Writing.{Appends-append, Appends-nil}
@@ -9,10 +9,9 @@ use Rattle.std.specs.Prelude.{Bool, true, false, ◌&&◌, nat_lt, nat_le, if◌
 use Rattle.bag_facts.specs.Part.{Part, part_at}
 use Rattle.bag_facts.specs.declared.fault.Fault.{Fault}
 use Rattle.bag_walk.specs.Ending.{ended, written}
-use Rattle.bag_walk.specs.declared.outcome.Outcome.{Outcome}
 use Rattle.bag_walk.specs.declared.part.Listed.{Listed}
-use Rattle.bag_join.specs.Faults.{AreAfter, last_of, WritesFaults}
-use Rattle.bag_join.specs.Join.{all_faults, full_closing, full_report, part_report, reports_from, IsJoined}
+use Rattle.bag_join.specs.Faults.{WritesFaults}
+use Rattle.bag_join.specs.Join.{all_faults, full_closing, part_report, reports_from, IsJoined}
 use Rattle.bag_join.specs.Join.{JoinsFirst, JoinsPart}
 use Rattle.bag_join.specs.Reports.{Opens, ReadsOn, ReportsState, all_given}
 use Rattle.bag_walk.specs.PartRuns.{done_line}

@@ -1,6 +1,6 @@
 -- The last line of a report, which comes after the lines of its faults.
-use Rattle.std.proofs.Common.{◌≡◌, ℕ, suc, ◌+◌, ◌<◌, ◌≤◌, ◌⊎◌, ◌++◌, ◌∷◌, List, [], Option, None, Some, Bool, true, false, inl, inr}
-use Rattle.std.proofs.Common.{length, refl, sym, ap, ◌∙◌, subst, arith, codes}
+use Rattle.std.proofs.Common.{◌≡◌, ℕ, ◌+◌, ◌≤◌, ◌⊎◌, ◌++◌, ◌∷◌, List, [], Option, None, Some, Bool, true, false, inl, inr}
+use Rattle.std.proofs.Common.{length, refl, ap, ◌∙◌, subst, arith, codes}
 use Rattle.bag_facts.specs.declared.fault.Fault.{Fault}
 use Rattle.bag_join.specs.Faults.{AreAfter, AreAhead, IsOther}
 use Rattle.bag_join.specs.Input.{HoldsAhead}

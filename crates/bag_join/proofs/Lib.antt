@@ -7,6 +7,7 @@ pub mod Findings
 pub mod Joined
 pub mod LastLine
 pub mod LawsHold
+pub mod Left
 pub mod OneReport
 pub mod Other
 pub mod PartsOfBag

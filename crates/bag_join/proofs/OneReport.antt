@@ -1,5 +1,5 @@
 -- Reading on in one report.
-use Rattle.std.proofs.Common.{◌≡◌, IsTrue, refl, subst, sym, ◌∙◌}
+use Rattle.std.proofs.Common.{IsTrue, refl, subst, sym, ◌∙◌}
 use Rattle.bag_join.specs.Reports.{ReadsOn, ReportsState, SameReports}
 
 pub reads_itself : (state : ReportsState) → ReadsOn state state

@@ -1,6 +1,6 @@
 -- The closing line of a part that is done is a line of its own, and no fault's.
-use Rattle.std.proofs.Common.{◌≡◌, ◌≢◌, ℕ, ◌+◌, ◌<◌, ◌≤◌, ◌^◌, ◌++◌, ◌∷◌, ◌==◌, List, [], Bool, true, false, All, Option, Some, None}
-use Rattle.std.proofs.Common.{arith, codes, decimal, not, refl, sym, ap, ◌∙◌, subst, append_assoc}
+use Rattle.std.proofs.Common.{◌≡◌, ◌≢◌, ℕ, ◌+◌, ◌<◌, ◌^◌, ◌++◌, ◌∷◌, ◌==◌, List, [], true, All, Option, Some, None}
+use Rattle.std.proofs.Common.{arith, codes, decimal, not, refl, sym, subst, append_assoc}
 use Rattle.std.specs.List.{list_all}
 use Rattle.std.specs.Prelude.{IsUtf8, bytes_eq}
 use Rattle.std.proofs.lemmas.Bool.Decides.{nat_tests}
@@ -12,7 +12,6 @@ use Rattle.bag_text.specs.declared.alg.Alg.{Alg}
 use Rattle.bag_facts.proofs.Algs.{each_alg, other_texts}
 use Rattle.bag_facts.proofs.Spaces.{HasNoSpace, IsNoSpace, decimal_clean, field_clean, number_clean, same_front, word_clean}
 use Rattle.bag_facts.specs.FaultLine.{alg_field, fault_line, field}
-use Rattle.bag_facts.specs.LineOf.{IsFault, IsLineOf}
 use Rattle.bag_facts.specs.Part.{Part}
 use Rattle.bag_facts.specs.declared.fault.Fault.{Fault}
 use Rattle.bag_walk.specs.PartRuns.{done_line}

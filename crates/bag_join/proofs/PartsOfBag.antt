@@ -1,6 +1,6 @@
 -- What runs wrote over the parts of one bag is joined into what one run writes.
-use Rattle.std.proofs.Common.{◌≡◌, ℕ, zero, suc, ◌+◌, ◌<◌, ◌≤◌, ◌++◌, ◌∷◌, List, [], Option, None, Some, Contains, IsTrue, inl, inr}
-use Rattle.std.proofs.Common.{length, get_or, map, refl, sym, ap, ◌∙◌, subst, arith, length-append, add-one}
+use Rattle.std.proofs.Common.{◌≡◌, ℕ, zero, suc, ◌<◌, ◌++◌, ◌∷◌, List, [], Option, None, Some, Contains, inl, inr}
+use Rattle.std.proofs.Common.{length, get_or, map, refl, sym, ap, ◌∙◌, subst, arith, length-append}
 use Rattle.std.specs.List.{concat, range_with_len}
 use Rattle.std.specs.List.Sorted.{IsPermutation}
 use Rattle.std.specs.Io.KnownBytes.{Appends}
@@ -22,8 +22,8 @@ use Rattle.bag_walk.specs.PartRuns.{done_line, first_counts, first_lines}
 use Rattle.bag_walk.specs.Parts.{AreFilesIn, listed_of, part_of}
 use Rattle.bag_walk.specs.Run.{check_of}
 use Rattle.bag_walk.specs.declared.outcome.Request.{Request}
-use Rattle.bag_join.specs.Findings.{Findings, faults_at, report_at}
-use Rattle.bag_join.specs.Join.{all_faults, full_closing, full_report, part_report}
+use Rattle.bag_join.specs.Findings.{faults_at, report_at}
+use Rattle.bag_join.specs.Join.{all_faults, full_closing, part_report}
 use Rattle.bag_join.specs.Laws.{Finds, PartsAreWhole, RunWritesJoined, WritesReport, faults_of_parts, findings_of}
 use Rattle.bag_join.proofs.Joined.{part_numbered}
 use Rattle.bag_join.proofs.LawsHold.{closes_as_one_check, parts_of_report_join}

@@ -1,6 +1,6 @@
 -- Each report gets the place of its part.
-use Rattle.std.proofs.Common.{◌≡◌, ◌≢◌, ℕ, zero, suc, ◌+◌, ◌<◌, ◌≤◌, ◌⊎◌, List, [], ◌∷◌, Option, Some, None, inl, inr}
-use Rattle.std.proofs.Common.{length, get_or, set, map, refl, sym, ap, ◌∙◌, subst, arith, Contains, All, replicate, IsTrue}
+use Rattle.std.proofs.Common.{◌≡◌, ◌≢◌, ℕ, ◌+◌, ◌<◌, ◌⊎◌, List, Option, Some, None, inl, inr}
+use Rattle.std.proofs.Common.{length, get_or, set, refl, sym, ap, ◌∙◌, subst, arith, Contains, All, replicate, IsTrue}
 use Rattle.std.specs.List.{range_with_len, slice_get, swap}
 use Rattle.std.specs.List.Sorted.{IsPermutation}
 use Rattle.std.specs.Option.{option_map}

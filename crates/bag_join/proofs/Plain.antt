@@ -1,6 +1,6 @@
 -- The bytes of a line stand between a space and a tilde.
-use Rattle.std.proofs.Common.{◌≡◌, ◌≢◌, ℕ, ◌+◌, ◌<◌, ◌≤◌, ◌^◌, ◌++◌, ◌∷◌, ◌&&◌, ◌==◌, ◌∙◌, List, [], Bool, true, false, All, codes}
-use Rattle.std.proofs.Common.{arith, decimal, flat_map, get_or, refl, subst, sym, nat_le, nat_lt, length, Option, Some, None}
+use Rattle.std.proofs.Common.{◌≡◌, ℕ, ◌<◌, ◌≤◌, ◌^◌, ◌++◌, ◌∷◌, ◌&&◌, ◌==◌, List, [], Bool, true, false, All, codes}
+use Rattle.std.proofs.Common.{arith, decimal, flat_map, get_or, refl, nat_le, nat_lt, length, Option, Some, None}
 use Rattle.std.specs.List.{list_all}
 use Rattle.std.specs.Prelude.{IsUtf8}
 use Rattle.std.proofs.lemmas.Bool.{cond_both}

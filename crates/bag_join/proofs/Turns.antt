@@ -1,6 +1,6 @@
 -- Reports of parts, written in turn.
-use Rattle.std.proofs.Common.{◌≡◌, ℕ, ◌+◌, ◌<◌, ◌≤◌, ◌^◌, ◌++◌, ◌∷◌, List, [], Option, None, Some, length, get_or, arith, IsTrue}
-use Rattle.std.proofs.Common.{refl, sym, ap, ◌∙◌, subst, codes, vec_len}
+use Rattle.std.proofs.Common.{◌≡◌, ℕ, ◌+◌, ◌<◌, ◌++◌, List, [], Option, None, Some, length, get_or, arith, IsTrue}
+use Rattle.std.proofs.Common.{refl, sym, ap, ◌∙◌, subst, codes}
 use Rattle.std.specs.List.{slice_get}
 use Rattle.std.specs.Io.KnownBytes.{Appends}
 use Rattle.std.specs.List.{concat}
@@ -11,7 +11,7 @@ use Rattle.bag_facts.specs.declared.fault.Fault.{Fault}
 use Rattle.bag_walk.specs.Ending.{ended, written}
 use Rattle.bag_walk.specs.PartRuns.{done_line}
 use Rattle.bag_walk.specs.declared.outcome.Outcome.{Outcome}
-use Rattle.bag_join.specs.Faults.{AreAfter, AreAhead, IsOther, WritesFaults, last_of}
+use Rattle.bag_join.specs.Faults.{AreAfter, AreAhead, IsOther, WritesFaults}
 use Rattle.bag_join.specs.Findings.{AreFindings, Findings, IsPlanFor, IsReportOf, IsTurnOf, faults_at, report_at}
 use Rattle.bag_join.specs.Input.{HoldsAhead}
 use Rattle.bag_join.specs.Join.{all_faults, full_closing}

@@ -1,14 +1,16 @@
 -- Lines of faults that are written in order, in several reports one after the other.
-use Rattle.std.specs.Prelude.{ℕ, ◌≡◌, ◌++◌, List, [], ◌∷◌, Option, None, Some, ⊤, length}
+use Rattle.std.specs.Prelude.{ℕ, ◌≡◌, ◌≢◌, ◌++◌, List, [], ◌∷◌, Option, None, Some, ⊤, length}
 use Rattle.std.specs.Io.KnownBytes.{Appends}
 use Rattle.std.specs.List.{concat}
 use Rattle.std.specs.declared.cmp.Ordering.TheVariants.{Less}
-use Rattle.bag_tree.specs.Out.{OutState}
+use Rattle.bag_tree.specs.Out.{IsCut, OutState}
 use Rattle.bag_facts.specs.FaultOrder.{fault_cmp}
 use Rattle.bag_facts.specs.LineOf.{IsFault, IsLineOf}
 use Rattle.bag_facts.specs.declared.fault.Fault.{Fault}
 use Rattle.bag_join.specs.Input.{HasNoEnd, HoldsAhead}
 use Rattle.bag_join.specs.Reports.{ReportsState}
+use Rattle.bag_join.specs.declared.refusal.Cause.{Cause}
+use Rattle.bag_join.specs.declared.refusal.Cause.TheVariants.{Output}
 use Rattle.bag_walk.specs.Ending.{written}
 
 -- a fault stands after the last one, if there is one
@@ -43,3 +45,11 @@ pub record IsOther (line : List ℕ) : Type 0 where
 abbrev pub AreAhead : ReportsState → List ℕ → List Fault → List ℕ → List ℕ → Type 0
 AreAhead state passed faults line rest =
     HoldsAhead state passed (concat (written faults) ++ (line ++ 10 ∷ rest))
+
+-- After a refusal the output has the lines of some faults, which stand in order after the last one:
+-- all of these lines, or a proper prefix of them where it refused itself.
+pub record LeavesLines (cause : Cause) (last : Option Fault) (before after : OutState) : Type 0 where
+  pub faults : List Fault
+  pub in_order : AreAfter last faults
+  pub whole : cause ≢ Output → Appends before.taken after.taken (concat (written faults))
+  pub cut : cause ≡ Output → IsCut before.taken after.taken (concat (written faults))

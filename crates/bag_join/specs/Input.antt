@@ -1,5 +1,5 @@
 -- Reports that are read line by line.
-use Rattle.std.specs.Prelude.{ℕ, ◌≡◌, ◌≢◌, ◌++◌, ◌≤◌, ◌<◌, Bool, true, false, List, [], IsTrue, Some}
+use Rattle.std.specs.Prelude.{ℕ, ◌≡◌, ◌≢◌, ◌++◌, ◌≤◌, ◌<◌, Bool, true, List, [], IsTrue, Some}
 use Rattle.std.specs.Prelude.{codes, if◌then◌else◌, slice_get, slice_range, length, All, ⊤}
 use Rattle.bag_tree.specs.Out.{OutState}
 use Rattle.bag_join.specs.Reports.{HoldsOpen, ReportsState}

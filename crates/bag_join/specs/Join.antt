@@ -1,16 +1,16 @@
 -- Reports of all parts of a check, and the report of one check that they are joined into.
-use Rattle.std.specs.Prelude.{ℕ, zero, suc, ◌+◌, ◌<◌, ◌≤◌, ◌≡◌, ◌++◌, List, [], ◌∷◌, None, codes}
+use Rattle.std.specs.Prelude.{ℕ, zero, suc, ◌+◌, ◌<◌, ◌≤◌, ◌≡◌, ◌≢◌, ◌++◌, List, [], ◌∷◌, None, codes}
 use Rattle.std.specs.Prelude.{length, Contains, Option, ⊤}
 use Rattle.std.specs.Io.KnownBytes.{Appends}
 use Rattle.std.specs.List.{concat, flat_map}
 use Rattle.std.specs.List.Sorted.{IsStrictlySortedBy}
-use Rattle.bag_tree.specs.Out.{OutState}
+use Rattle.bag_tree.specs.Out.{IsCut, OutState}
 use Rattle.bag_facts.specs.FaultOrder.{fault_cmp}
 use Rattle.bag_facts.specs.LineOf.{IsFault}
 use Rattle.bag_facts.specs.Part.{Part}
 use Rattle.bag_facts.specs.declared.fault.Fault.{Fault}
 use Rattle.bag_facts.specs.declared.options.Depth.TheVariants.{Full}
-use Rattle.bag_join.specs.Faults.{AreAfter, last_of, WritesFaults}
+use Rattle.bag_join.specs.Faults.{AreAfter, WritesFaults}
 use Rattle.bag_join.specs.declared.refusal.Cause.{Cause}
 use Rattle.bag_join.specs.declared.refusal.Cause.TheVariants.{Changed, Memory, Output, Unreadable}
 use Rattle.bag_join.specs.Reports.{ReportsState, all_given}
@@ -75,6 +75,15 @@ IsSeenFirst Unreadable = ⊥
 IsSeenFirst Memory = ⊥
 IsSeenFirst Output = ⊥
 IsSeenFirst _ = ⊤
+
+-- After a refusal the output has a proper prefix of a report whose faults are in order: where it
+-- didn't refuse itself, the lines of these faults, and no closing line.
+pub record IsLeft (cause : Cause) (before after : OutState) : Type 0 where
+  pub name : List ℕ
+  pub faults : List Fault
+  pub in_order : AreAfter None faults
+  pub cut : IsCut before.taken after.taken (full_report name faults)
+  pub whole : cause ≢ Output → Appends before.taken after.taken (concat (written faults))
 
 -- of one part: its whole report was read, and the lines of its faults were written
 pub record JoinsPart (name : List ℕ) (listed : Listed) (part : Part) (old new : ReportsState)

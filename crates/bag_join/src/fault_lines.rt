@@ -1,12 +1,12 @@
 //! The lines of faults at the front of a report.
-ghost use Rattle.std.specs.Prelude.{◌≡◌, ◌↔◌, ◌++◌, ◌<◌, ◌^◌, codes, IfOk, IsTrue, List, MatchOption};
+ghost use Rattle.std.specs.Prelude.{◌≡◌, ◌↔◌, ◌++◌, ◌<◌, ◌^◌, codes, IfErr, IfOk, IsTrue, List, MatchOption};
 ghost use Rattle.std.specs.Prelude.{MatchResult, OnOk, length, ℕ};
 ghost use Rattle.std.specs.List.{concat};
 ghost use Rattle.std.specs.Option.{option_copied};
 ghost use Rattle.bag_facts.specs.LineOf.{IsLineOf};
 ghost use Rattle.bag_facts.specs.declared.fault.Fault.{Fault as FaultValue};
 ghost use Rattle.bag_join.specs.Reports.{ReadsOn};
-ghost use Rattle.bag_join.specs.Faults.{AreAfter, AreAhead, IsAfter, IsOther, WritesFaults};
+ghost use Rattle.bag_join.specs.Faults.{AreAfter, AreAhead, IsAfter, IsOther, LeavesLines, WritesFaults};
 ghost use Rattle.bag_join.specs.Input.{HoldsAhead, MayRefuse};
 ghost use Rattle.bag_walk.specs.Ending.{written};
 
@@ -14,7 +14,7 @@ use crate::input::{Input, LINE_FEED};
 use crate::refusal::Cause;
 use crate::reports::Reports;
 use bag_facts::{CursorFault, Fault};
-use bag_tree::{Out, put_all};
+use bag_tree::{Out, Refused, put_all};
 use std::alloc::{AllocError, Global};
 use std::str;
 
@@ -40,6 +40,8 @@ pub(crate) fn write_faults<R: Reports, W: Out>(
         (W.state out.old) (W.state out.new) n faults × (line.new.items ≡ front ++ codes "\n")
         × HoldsAhead (R.state input.new.reports) input.new.passed.bytes rest)
         (λ cause. MayRefuse cause (R.state input.new.reports) (W.state out.new)) }
+    ensures left { IfErr result (λ cause.
+        LeavesLines cause last.old (W.state out.old) (W.state out.new)) }
 {
     'lines: for count in 0..u64::MAX {
         if !input.next_line(line)? {
@@ -53,7 +55,9 @@ pub(crate) fn write_faults<R: Reports, W: Out>(
         if !is_after(last.as_ref(), &fault) {
             return Err(Cause::OutOfOrder);
         }
-        put_all(out, line.as_slice())?;
+        if let Err(Refused) = put_all(out, line.as_slice()) {
+            return Err(Cause::Output);
+        }
         *last = Some(fault);
     }
     Err(Cause::NotAReport)

@@ -1,5 +1,5 @@
 //! Reports, read line by line.
-ghost use Rattle.std.specs.Prelude.{◌≡◌, ◌<◌, ◌++◌, ◌∷◌, [], IfErr, IfOk, IsTrue, List, MatchBool};
+ghost use Rattle.std.specs.Prelude.{◌≡◌, ◌≢◌, ◌<◌, ◌++◌, ◌∷◌, [], IfErr, IfOk, IsTrue, List, MatchBool};
 ghost use Rattle.std.specs.Prelude.{MatchOption, OnErr, OnOk, Some, false, slice_get, true, vec_len, ℕ};
 ghost use Rattle.bag_join.specs.Input.{HasNoEnd, HoldsAhead, IsAhead, IsPassed, MayFail, ended_line};
 ghost use Rattle.bag_join.specs.Reports.{Opens, ReadsOn, SameReports};
@@ -87,6 +87,7 @@ impl<R: Reports> Input<R> {
             → HoldsAhead (R.state self.new.reports) self.new.passed.bytes text) }
         ensures refused { number < (R.state self.old.reports).count
             → IfErr result (λ cause. MayFail cause (R.state self.new.reports)) }
+        ensures other { IfErr result (λ cause. cause ≢ Cause.Output) }
     {
         if self.reports.count() <= number {
             return Err(Cause::Missing);
@@ -193,6 +194,7 @@ impl<R: Reports> Input<R> {
         ensures refused { IfErr result (λ cause.
             HoldsAhead (R.state self.old.reports) self.old.passed.bytes []
             → MayFail cause (R.state self.new.reports)) }
+        ensures other { IfErr result (λ cause. cause ≢ Cause.Output) }
     {
         match self.next_byte()? {
             None => Ok(()),

@@ -1,14 +1,14 @@
 //! Reports of all parts, joined.
-ghost use Rattle.std.specs.Prelude.{◌≡◌, IfErr, IfOk, IsTrue, MatchResult, None, OnOk, Option, true, vec_len};
+ghost use Rattle.std.specs.Prelude.{◌≡◌, ◌↔◌, IfErr, IfOk, IsTrue, MatchResult, None, OnOk, Option, true, vec_len};
 ghost use Rattle.std.specs.Io.KnownBytes.{Appends};
 ghost use Rattle.bag_facts.specs.declared.fault.Fault.{Fault as FaultValue};
 ghost use Rattle.bag_walk.specs.Ending.{ended};
-ghost use Rattle.bag_join.specs.Faults.{WritesFaults};
+ghost use Rattle.bag_join.specs.Faults.{LeavesLines, WritesFaults};
 ghost use Rattle.bag_join.specs.Findings.{AreFindings, AreWhole, Findings, IsPlanFor, IsReportOf};
 ghost use Rattle.bag_join.specs.Input.{MayRefuse};
-ghost use Rattle.bag_join.specs.Join.{IsJoined, IsSeenFirst, JoinsFirst, all_faults, full_closing};
+ghost use Rattle.bag_join.specs.Join.{IsJoined, IsLeft, IsSeenFirst, JoinsFirst, all_faults, full_closing};
 ghost use Rattle.bag_join.specs.Reports.{ReportsState, all_given};
-ghost use Rattle.bag_tree.specs.Out.{OutState};
+ghost use Rattle.bag_tree.specs.Out.{IsCut, OutState};
 ghost use Rattle.bag_tree.specs.Pieces.{Writes};
 
 use crate::input::Input;
@@ -43,6 +43,8 @@ pub fn join<R: Reports, W: Out>(
     ensures whole { (findings : Findings) → AreWhole findings (R.state reports)
         → MatchResult result.1 (IsReportOf findings (W.state out.old) (W.state out.new))
         (λ refusal. MayRefuse refusal.cause (R.state result.0) (W.state out.new)) }
+    ensures left { IfErr result.1 (λ refusal.
+        IsLeft refusal.cause (W.state out.old) (W.state out.new)) }
 {
     match Input::new(alloc, reports) {
         Ok(mut input) => {
@@ -71,6 +73,8 @@ fn join_input<R: Reports, W: Out>(
     ensures whole { (findings : Findings) → AreWhole findings (R.state input.old.reports)
         → MatchResult result (IsReportOf findings (W.state out.old) (W.state out.new))
         (λ refusal. MayRefuse refusal.cause (R.state input.new.reports) (W.state out.new)) }
+    ensures left { IfErr result (λ refusal.
+        IsLeft refusal.cause (W.state out.old) (W.state out.new)) }
 {
     let plan = plan_of(alloc, input)?;
     write_parts(alloc, input, &plan, &mut Nowhere)?;
@@ -97,6 +101,8 @@ fn write_again<R: Reports, W: Out>(
         → MatchResult result (λ n. (last : Option FaultValue)
         × WritesFaults None last (W.state out.old) (W.state out.new) n (all_faults findings.parts))
         (λ refusal. MayRefuse refusal.cause (R.state input.new.reports) (W.state out.new)) }
+    ensures left { IfErr result (λ refusal.
+        LeavesLines refusal.cause None (W.state out.old) (W.state out.new)) }
 {
     match write_parts(alloc, input, plan, out) {
         Ok(count) => Ok(count),
@@ -111,7 +117,8 @@ fn close<W: Out>(name: &str, count: u64, out: &mut W) -> Result<Outcome, Refusal
         (full_closing name.now count)) }
     ensures late { IfErr result (λ refusal. ¬ (IsSeenFirst refusal.cause)) }
     ensures refused { IfErr result (λ refusal. (refusal.cause ≡ Cause.Output)
-        × ((W.state out.new).has_refused ≡ true)) }
+        × ((W.state out.new).has_refused ≡ true)
+        × IsCut (W.state out.old).taken (W.state out.new).taken (full_closing name.now count)) }
 {
     match put_closing(name, count, out) {
         Ok(()) => Ok(outcome_of(count)),
@@ -127,6 +134,7 @@ fn after_looking(refusal: Refusal) -> Refusal
     ensures late { ¬ (IsSeenFirst result.cause) }
     ensures kept { (reports : ReportsState) (out : OutState) → MayRefuse refusal.cause reports out
         → result.cause ≡ refusal.cause }
+    ensures output { result.cause ≡ Cause.Output ↔ refusal.cause ≡ Cause.Output }
 {
     let Refusal { number, cause } = refusal;
     let cause = match cause {

@@ -1,7 +1,7 @@
 //! Reports of parts, written one after the other.
-ghost use Rattle.std.specs.Prelude.{◌≡◌, ◌+◌, ◌<◌, ◌^◌, IfOk, IsTrue, MatchResult, OnOk, Option, vec_len, ⊤, ℕ};
+ghost use Rattle.std.specs.Prelude.{◌≡◌, ◌≢◌, ◌+◌, ◌<◌, ◌^◌, IfErr, IfOk, IsTrue, MatchResult, None, OnOk, Option, vec_len, ⊤, ℕ};
 ghost use Rattle.bag_facts.specs.declared.fault.Fault.{Fault as FaultValue};
-ghost use Rattle.bag_join.specs.Faults.{WritesFaults};
+ghost use Rattle.bag_join.specs.Faults.{LeavesLines, WritesFaults};
 ghost use Rattle.bag_join.specs.Findings.{AreFindings, Findings, IsPlanFor, IsTurnOf, faults_at};
 ghost use Rattle.bag_join.specs.Input.{MayRefuse};
 ghost use Rattle.bag_join.specs.Join.{JoinsFirst, JoinsPart, all_faults};
@@ -37,6 +37,8 @@ pub(crate) fn write_parts<R: Reports, W: Out>(
         → MatchResult result (λ n. (last : Option FaultValue)
         × WritesFaults None last (W.state out.old) (W.state out.new) n (all_faults findings.parts))
         (λ refusal. MayRefuse refusal.cause (R.state input.new.reports) (W.state out.new)) }
+    ensures left { IfErr result (λ refusal.
+        LeavesLines refusal.cause None (W.state out.old) (W.state out.new)) }
 {
     let mut last = None;
     let mut total: u64 = 0;
@@ -82,6 +84,8 @@ fn write_next<R: Reports, W: Out>(
         → MatchResult result (λ sum. (n : ℕ) × (sum ≡ total + n) × WritesFaults last.old last.new
         (W.state out.old) (W.state out.new) n (faults_at findings number))
         (λ cause. MayRefuse cause (R.state input.new.reports) (W.state out.new)) }
+    ensures left { IfErr result (λ cause.
+        LeavesLines cause last.old (W.state out.old) (W.state out.new)) }
 {
     input.open(report)?;
     let mut line = Vec::new(alloc);
@@ -102,6 +106,7 @@ fn write_next<R: Reports, W: Out>(
 fn plus(total: u64, count: u64) -> Result<u64, Cause>
     ensures sum { IfOk result (λ sum. sum ≡ total + count) }
     ensures fits { total + count < 2 ^ 64 → MatchResult result (λ _. ⊤) (λ _. ⊥) }
+    ensures other { IfErr result (λ cause. cause ≢ Cause.Output) }
 {
     match total.checked_add(count) {
         Some(sum) => Ok(sum),

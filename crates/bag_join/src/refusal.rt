@@ -3,7 +3,6 @@ ghost use Rattle.std.specs.Prelude.{◌≡◌};
 
 use crate::reports::Unreadable;
 use bag_text::said;
-use bag_tree::Refused;
 use std::alloc::AllocError;
 use thiserror::Error;
 
@@ -77,16 +76,6 @@ impl From<AllocError> for Cause {
 
     fn from(_: AllocError) -> Cause {
         Cause::Memory
-    }
-}
-
-impl From<Refused> for Cause {
-    ghost use Rattle.bag_join.specs.declared.refusal.Cause.TheVariants.{Output};
-
-    ghost from_gives = { λ _ e. e ≡ Output };
-
-    fn from(_: Refused) -> Cause {
-        Cause::Output
     }
 }
 

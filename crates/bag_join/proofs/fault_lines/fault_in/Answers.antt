@@ -1,4 +1,4 @@
-use Rattle.std.proofs.Common.{◌≡◌, subst}
+use Rattle.std.proofs.Common.{subst}
 use Rattle.std.specs.Prelude.{IsUtf8}
 use Rattle.bag_join.proofs.Plain.{fault_is_text}
 use Rattle.bag_join.proofs.fault_lines.fault_in.Goals as goal

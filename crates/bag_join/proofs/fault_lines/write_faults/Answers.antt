@@ -1,11 +1,11 @@
-use Rattle.std.proofs.Common.{◌≡◌, ◌<◌, ◌≤◌, ◌++◌, ◌∷◌, [], Some, true, false, sym, ap, ◌∙◌, subst, codes, arith, length, length-append}
+use Rattle.std.proofs.Common.{◌≡◌, ◌++◌, ◌∷◌, [], Some, true, sym, ap, ◌∙◌, subst, codes, arith, refl}
 use Rattle.std.proofs.lemmas.Grind.{common_steps}
 use Rattle.bag_join.specs.Faults.{IsAfter, WritesFaults}
-use Rattle.bag_join.specs.Input.{MayRefuse}
-use Rattle.bag_join.proofs.Coming.{found_after, found_whole, goes_on_at_first, goes_on_more, has_end_ahead}
-use Rattle.bag_join.proofs.Ends.{may_refuse}
-use Rattle.bag_join.proofs.Faults.{read_one, writes_none, writes_on, writes_one}
-use Rattle.bag_join.proofs.OneReport.{reads_itself, reads_more}
+use Rattle.bag_join.specs.declared.refusal.Cause.TheVariants.{Memory, Output}
+use Rattle.bag_join.proofs.Coming.{found_after, found_whole, goes_on_more, has_end_ahead}
+use Rattle.bag_join.proofs.Faults.{read_one, writes_on, writes_one}
+use Rattle.bag_join.proofs.Left.{fails_other, leaves_all, leaves_cut}
+use Rattle.bag_join.proofs.OneReport.{reads_more}
 use Rattle.bag_join.proofs.fault_lines.write_faults.Goals as goal
 
 pub lines-preserved : goal.lines-preserved
@@ -21,7 +21,7 @@ lines-preserved g c =
     let above = rw c.as_ref.ensures.value at (c.is_after.ensures.0 truth) in
     let ends : ended ≡ line ++ codes "\n" = grind (arith, common_steps) in
     let next : c.next_line.new.self.passed.bytes ≡ c.lines.input.passed.bytes ++ ended = grind (arith, common_steps) in
-    let wrote = rw c.as_slice-in-lines.ensures.value at c.in_ok-put_all.ensures in
+    let wrote = rw c.as_slice-in-lines.ensures.value at c.in_default-put_all.ensures in
     let first = rw (← c.as_slice.ensures.value) at c.in_ok-next_line.ensures.first in (
       reads_more _ _ _ has.0 c.in_ok-next_line.ensures.reads,
       (
@@ -72,3 +72,57 @@ returns-then-not-is_after-clause-finds g c faults front rest other ahead after f
     let truth = told.1 (subst (λ o. IsAfter o f) (sym has.1.1.last_is) above) in
     let not = c.if-not-is_after.true in
     grind (arith, common_steps)
+
+pub returns-in_err-next_line-clause-left : goal.returns-in_err-next_line-clause-left
+returns-in_err-next_line-clause-left g c =
+    let out = g.W.Out.state in
+    let has = c.lines.invariant in
+    let other = fails_other _ _ c.in_err-next_line.ensures.refused in
+    let left = leaves_all _ c.args.last.now c.lines.last (out c.args.out.now) (out c.lines.out) c.lines.count has.1.0
+    other has.1.1 in
+    grind (arith, common_steps)
+
+pub returns-then-not-branch-clause-left : goal.returns-then-not-branch-clause-left
+returns-then-not-branch-clause-left g c =
+    let out = g.W.Out.state in
+    let has = c.lines.invariant in
+    leaves_all _ c.args.last.now c.lines.last (out c.args.out.now) (out c.lines.out) c.lines.count has.1.0 (λ e. cc)
+    has.1.1
+
+pub returns-then-not-is_after-clause-left : goal.returns-then-not-is_after-clause-left
+returns-then-not-is_after-clause-left g c =
+    let out = g.W.Out.state in
+    let has = c.lines.invariant in
+    leaves_all _ c.args.last.now c.lines.last (out c.args.out.now) (out c.lines.out) c.lines.count has.1.0 (λ e. cc)
+    has.1.1
+
+pub returns-in_err-found-clause-left : goal.returns-in_err-found-clause-left
+returns-in_err-found-clause-left g c =
+    let out = g.W.Out.state in
+    let has = c.lines.invariant in
+    let left = leaves_all Memory c.args.last.now c.lines.last (out c.args.out.now) (out c.lines.out) c.lines.count has.1.0
+    (λ e. cc) has.1.1 in
+    grind (arith, common_steps)
+
+pub returns-in_err-map_err-clause-left : goal.returns-in_err-map_err-clause-left
+returns-in_err-map_err-clause-left g c =
+    let out = g.W.Out.state in
+    let has = c.lines.invariant in
+    let left = leaves_all Memory c.args.last.now c.lines.last (out c.args.out.now) (out c.lines.out) c.lines.count has.1.0
+    (λ e. cc) has.1.1 in
+    grind (arith, common_steps)
+
+pub returns-in-Err-clause-left : goal.returns-in-Err-clause-left
+returns-in-Err-clause-left g c =
+    let out = g.W.Out.state in
+    let has = c.lines.invariant in
+    let f = c.in-Some.fault in
+    let line = c.as_slice.result.now in
+    let ended = c.push.new.self.items in
+    let is = rw c.in-Some.is at c.in_ok-found.ensures in
+    let truth : c.is_after.result ≡ true = grind (arith, common_steps) in
+    let above = rw c.as_ref.ensures.value at (c.is_after.ensures.0 truth) in
+    let ends : ended ≡ line ++ codes "\n" = grind (arith, common_steps) in
+    let cut = rw c.as_slice-in-lines.ensures.value at c.in-Err.ensures.0 in
+    leaves_cut Output c.args.last.now c.lines.last (out c.args.out.now) (out c.lines.out) (out c.put_all.new.out)
+    c.lines.count has.1.0 f line ended refl has.1.1 is above ends cut

@@ -1,7 +1,8 @@
-use Rattle.std.proofs.Common.{IsTrue, arith, subst, sym}
+use Rattle.std.proofs.Common.{IsTrue, [], arith, subst, sym}
 use Rattle.std.proofs.lemmas.Grind.{common_steps}
 use Rattle.bag_join.proofs.Ends.{may_refuse}
 use Rattle.bag_join.proofs.Joined.{joins_all}
+use Rattle.bag_join.proofs.Left.{closing_left, nothing_left, report_left}
 use Rattle.bag_join.proofs.OneReport.{same_more}
 use Rattle.bag_join.proofs.Turns.{report_written, same_plan}
 use Rattle.bag_join.proofs.joining.join_input.Goals as goal
@@ -37,3 +38,26 @@ returns-clause-whole g c findings whole =
     let closes = rw c.as_str.ensures at c.in_ok-outcome.ensures.closes in
     report_written findings _ wrote.0 (g.W.Out.state c.args.out.now) (g.W.Out.state c.write_again.new.out)
     (g.W.Out.state c.close.new.out) _ _ planned.name wrote.1 closes c.in_ok-outcome.ensures.outcome
+
+pub returns-in_err-plan-clause-left : goal.returns-in_err-plan-clause-left
+returns-in_err-plan-clause-left g c =
+    let left = nothing_left c.in_err-plan.field-0.0.cause (g.W.Out.state c.args.out.now) in
+    grind (arith, common_steps)
+
+pub returns-in_err-write_parts-clause-left : goal.returns-in_err-write_parts-clause-left
+returns-in_err-write_parts-clause-left g c =
+    let left = nothing_left c.in_err-write_parts.field-0.0.cause (g.W.Out.state c.args.out.now) in
+    grind (arith, common_steps)
+
+pub returns-in_err-count-clause-left : goal.returns-in_err-count-clause-left
+returns-in_err-count-clause-left g c =
+    let left = report_left _ [] _ _ c.in_err-count.ensures.left in
+    grind (arith, common_steps)
+
+pub returns-in_err-outcome-clause-left : goal.returns-in_err-outcome-clause-left
+returns-in_err-outcome-clause-left g c =
+    let joins = c.in_ok-count.ensures.joins in
+    let refused = c.in_err-outcome.ensures.refused in
+    let left = closing_left _ c.as_str.result.now joins.0 (g.W.Out.state c.args.out.now) (g.W.Out.state c.write_again.new.out)
+    (g.W.Out.state c.close.new.out) _ _ refused.0 joins.1.wrote refused.2 in
+    grind (arith, common_steps)

@@ -1,10 +1,11 @@
-use Rattle.std.proofs.Common.{◌≡◌, ◌<◌, ◌^◌, [], length, true, sym, ap, ◌∙◌, arith, vec_len}
+use Rattle.std.proofs.Common.{◌≡◌, [], true, sym, ap, ◌∙◌, arith, vec_len}
 use Rattle.std.proofs.lemmas.Grind.{common_steps}
 use Rattle.bag_walk.specs.PartRuns.{done_line}
 use Rattle.bag_join.proofs.Joined.{joins_part, part_is, part_numbered}
 use Rattle.bag_join.specs.Findings.{faults_at}
 use Rattle.bag_join.proofs.Ends.{may_refuse}
 use Rattle.bag_join.proofs.Findings.{front_at}
+use Rattle.bag_join.proofs.Left.{leaves_all}
 use Rattle.bag_join.proofs.Turns.{front_is_other, front_planned, turn_ahead}
 use Rattle.bag_join.proofs.parts.write_next.Goals as goal
 
@@ -86,3 +87,11 @@ returns-clause-whole g c findings turn =
     let told = c.in_ok-count.ensures.finds (faults_at findings c.args.number) (front_at findings c.args.number) []
     (front_is_other findings c.args.number turn.are turn.below) ahead turn.after (omega arith) in
     (c.in_ok-count.count, c.in_ok-sum.ensures.sum, told.0)
+
+pub returns-in_err-sum-clause-left : goal.returns-in_err-sum-clause-left
+returns-in_err-sum-clause-left g c =
+    let out = g.W.Out.state in
+    let has = c.in_ok-count.ensures.wrote in
+    let left = leaves_all _ c.args.last.now c.write_faults.new.last (out c.args.out.now) (out c.write_faults.new.out)
+    c.in_ok-count.count has.0 c.in_err-sum.ensures.other has.1 in
+    grind (arith, common_steps)

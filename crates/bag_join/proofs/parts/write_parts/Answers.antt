@@ -2,8 +2,9 @@ use Rattle.std.proofs.Common.{◌≡◌, ℕ, ◌<◌, None, Some, length, subst
 use Rattle.std.proofs.lemmas.Grind.{common_steps}
 use Rattle.bag_join.specs.Join.{JoinsPart}
 use Rattle.bag_join.proofs.Joined.{joins_more, part_numbered}
+use Rattle.bag_join.proofs.Left.{leaves_on}
 use Rattle.bag_join.proofs.OneReport.{same_more}
-use Rattle.bag_join.proofs.Turns.{has_place, place_at, turn_comes, writes_first_all, writes_first_more}
+use Rattle.bag_join.proofs.Turns.{has_place, place_at, turn_comes, writes_first_more}
 use Rattle.bag_join.proofs.parts.write_parts.Goals as goal
 
 pub parts-preserved : goal.parts-preserved
@@ -55,3 +56,9 @@ returns-in-Err-clause-whole g c findings are honest planned =
     let turn = turn_comes findings _ _ plan c.parts.index c.in-Some.report c.parts.total c.parts.last _ _ are honest
     planned c.parts.invariant.1 inside place first in
     c.in-Err.ensures.whole findings turn
+
+pub returns-in-Err-clause-left : goal.returns-in-Err-clause-left
+returns-in-Err-clause-left g c =
+    let out = g.W.Out.state in
+    leaves_on c.in-Err.cause None c.parts.last (out c.args.out.now) (out c.parts.out) (out c.write_next.new.out)
+    c.parts.total _ c.parts.invariant.0.wrote c.in-Err.ensures.left

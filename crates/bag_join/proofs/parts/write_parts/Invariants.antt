@@ -1,4 +1,4 @@
-use Rattle.std.proofs.Common.{◌≡◌, ◌<◌, IsTrue, length}
+use Rattle.std.proofs.Common.{IsTrue, length}
 use Rattle.bag_join.specs.Findings.{AreFindings, Findings, IsPlanFor}
 use Rattle.bag_join.specs.Join.{JoinsFirst}
 use Rattle.bag_join.specs.Reports.{SameReports}

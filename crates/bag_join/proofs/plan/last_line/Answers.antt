@@ -1,4 +1,4 @@
-use Rattle.std.proofs.Common.{◌≡◌, ◌++◌, ◌∷◌, Some, true, false, arith, codes, sym, subst}
+use Rattle.std.proofs.Common.{◌≡◌, ◌++◌, true, false, arith, codes}
 use Rattle.std.proofs.lemmas.Grind.{common_steps}
 use Rattle.bag_join.proofs.LastLine.{nears_end, nears_more}
 use Rattle.bag_join.proofs.OneReport.{reads_more}

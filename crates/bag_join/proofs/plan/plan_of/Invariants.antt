@@ -1,5 +1,4 @@
-use Rattle.std.proofs.Common.{length}
-use Rattle.bag_join.specs.Findings.{AreWhole, Findings, done_at}
+use Rattle.bag_join.specs.Findings.{AreWhole, Findings}
 use Rattle.bag_join.specs.Reports.{SameReports}
 use Rattle.bag_join.proofs.Placing.{FillsFirst}
 use Rattle.bag_join.proofs.plan.plan_of.Given as goal

@@ -1,4 +1,4 @@
-use Rattle.std.proofs.Common.{◌≡◌, ◌++◌, Some, ap, ◌∙◌, subst, codes, sym, arith, length}
+use Rattle.std.proofs.Common.{Some, ap, ◌∙◌, subst, sym, arith, length}
 use Rattle.bag_join.specs.DoneLine.{IsDoneLineOf}
 use Rattle.bag_join.specs.Findings.{done_at, faults_at}
 use Rattle.bag_join.proofs.Findings.{after_none, front_at, is_said, part_after, part_few, read_alike, report_is, small_at}

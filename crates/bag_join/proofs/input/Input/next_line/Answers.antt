@@ -1,6 +1,5 @@
-use Rattle.std.proofs.Common.{◌≡◌, ◌≢◌, ◌++◌, ◌∷◌, [], None, Some, arith, refl, codes}
+use Rattle.std.proofs.Common.{◌≡◌, ◌≢◌, ◌++◌, ◌∷◌, [], arith, refl, codes}
 use Rattle.std.proofs.lemmas.Grind.{common_steps}
-use Rattle.bag_join.specs.Input.{IsPassed}
 use Rattle.bag_join.proofs.Ends.{no_end_more, read_first, read_last, read_nothing, read_something}
 use Rattle.bag_join.proofs.OneReport.{reads_more}
 use Rattle.bag_join.proofs.input.Input.next_line.Goals as goal
