@@ -4,6 +4,7 @@ pub mod Coming
 pub mod Ends
 pub mod Faults
 pub mod Findings
+pub mod HeldAt
 pub mod Joined
 pub mod LastLine
 pub mod LawsHold
@@ -14,4 +15,5 @@ pub mod PartsOfBag
 pub mod Placing
 pub mod Plain
 pub mod Turns
+pub mod Walk
 pub mod Words

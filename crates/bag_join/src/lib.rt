@@ -16,6 +16,7 @@
 
 mod done_line;
 mod fault_lines;
+mod held;
 mod input;
 mod joining;
 pub mod laws;
@@ -27,6 +28,7 @@ mod refusal;
 mod reports;
 
 pub use done_line::DoneLine;
+pub use held::HeldReports;
 pub use joining::join;
 pub use refusal::{Cause, Refusal};
 pub use reports::{Reports, Unreadable};
