@@ -11,6 +11,8 @@ mod drawn;
 #[cfg(test)]
 mod fetch_list;
 #[cfg(test)]
+mod joins;
+#[cfg(test)]
 mod metadata;
 #[cfg(test)]
 mod parts;
