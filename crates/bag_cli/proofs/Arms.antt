@@ -1,7 +1,7 @@
 -- The statuses of the arms of what a plan asks for.
 use Rattle.bag_cli.proofs.Common.{◌≤◌, inl, inr, ℕ, List, Option, arith, DiskState, OutState, Event, tree_state, Plan}
 use Rattle.bag_cli.proofs.Common.{ArchiveState, AreChecked, AreMade, AreTarsChecked, Checks, IsChecked, IsDoneBy}
-use Rattle.bag_cli.proofs.Common.{IsSaid, Profile}
+use Rattle.bag_cli.proofs.Common.{IsSaid, Profile, in_form}
 use Rattle.bag_arguments.specs.declared.plan.Action.{Action}
 use Rattle.bag_arguments.specs.declared.plan.Action.TheVariants.{Sample, Help, Check, CheckTars, Make}
 use Rattle.bag_cli.proofs.Checks.{checks_status, tars_status}
@@ -39,7 +39,8 @@ performed_status below archived file plan Check before after visits n done =
     (λ profile. checks_status plan profile (λ name. tree_state (below name) 0) plan.directories) file plan plan.profile
     before after visits n done
 performed_status below archived file plan CheckTars before after visits n done =
-    checked_status (AreTarsChecked archived plan) (λ profile. tars_status plan profile archived plan.directories) file plan
-    plan.profile before after visits n done
+    checked_status (AreTarsChecked archived plan)
+    (λ profile. tars_status plan (in_form CheckTars profile) archived plan.directories) file plan plan.profile
+    before after visits n done
 performed_status below archived file plan Make before after visits n done =
     made_status below plan before after visits n done

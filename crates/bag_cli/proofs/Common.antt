@@ -59,7 +59,7 @@ pub use Rattle.bag_cli.specs.InTurn.{AreInTurn, HasVisited, Last, Whole}
 pub use Rattle.bag_make.specs.WholeMaking.{IsMake}
 pub use Rattle.bag_cli.specs.Making.{ReportsMaking}
 pub use Rattle.bag_cli.specs.Makings.{AreMakingsOf, IsLastMaking, IsMakingReported, IsWholeMaking, element_of}
-pub use Rattle.bag_cli.specs.CheckedAs.{AreCheckedAs, IsLastAs, IsWholeAs}
+pub use Rattle.bag_cli.specs.CheckedAs.{AreCheckedAs, AreCheckedInForm, IsLastAs, IsWholeAs, in_form}
 pub use Rattle.bag_cli.specs.Performed.{AreChecked, AreMade, AreTarsChecked, Checks, IsChecked, IsDoneBy}
 pub use Rattle.bag_cli.specs.Performed.{IsPerformed, IsSaid}
 pub use Rattle.bag_cli.specs.Sample.{sample_state}

@@ -1,12 +1,14 @@
 -- Checks of tar files.
+use Rattle.bag_cli.proofs.Common.{AreCheckedAs, AreCheckedInForm, Some, None, arith, in_form}
 use Rattle.bag_cli.proofs.Common.{◌≡◌, ◌⊎◌, tree_state, inl, inr, ◌∷◌, ℕ, List, Option, refl, subst, sym, Result, Ok, Err, OutState}
 use Rattle.bag_cli.proofs.Common.{ArchiveState, DiskState, Event, IsTreeOf, Opened, Plan, Profile, TreeState, Refused}
 use Rattle.bag_arguments.specs.declared.plan.Action.{Action}
-use Rattle.bag_arguments.specs.declared.plan.Action.TheVariants.{Sample, Help, Check, Make}
+use Rattle.bag_arguments.specs.declared.plan.Action.TheVariants.{Sample, Help, Check, CheckTars, Make}
 use Rattle.bag_text.specs.declared.text.Text.{Text}
 use Rattle.bag_tar.specs.declared.tar_fault.TarStop.{TarStop}
 use Rattle.bag_cli.specs.CheckedAs.{ChecksAs}
 use Rattle.bag_cli.specs.Checking.{ChecksFolder}
+use Rattle.bag_cli.specs.Performed.{AreCheckedBy}
 use Rattle.bag_cli.specs.TarChecked.{ChecksTar, IsLastTarCheck, IsWholeTarCheck, MakesNoTree, TellsUnopened}
 
 -- what is said of an archive is said of another one that is the same
@@ -66,3 +68,22 @@ folder_as action below archived plan profile name before after own answer (inr (
     checked_as action Check below archived plan profile name before after own answer is checks
 folder_as action below archived plan profile name before after own answer (inr (inr (inr is))) checks =
     checked_as action Make below archived plan profile name before after own answer is checks
+
+some_same : (a b : Profile) → Some a ≡ Some b → a ≡ b
+some_same a b e = grind arith
+
+module _ (below : List ℕ → DiskState) (archived : List ℕ → ArchiveState) (plan : Plan) where
+  -- what is checked without a profile is so in each form
+  pub form_of_none : (action : Action) (before after : OutState) (visits : List Event) (n : ℕ)
+      → AreCheckedAs action below archived plan None before after visits n
+      → AreCheckedInForm action below archived plan None before after visits n
+  form_of_none CheckTars before after visits n checked = checked
+  form_of_none action before after visits n checked = checked
+
+  -- what is checked by a profile in its form is checked by the profile that was read
+  pub form_of_read : (action : Action) (read formed : Profile) (before after : OutState) (visits : List Event) (n : ℕ)
+      → Some formed ≡ in_form action (Some read)
+      → AreCheckedBy (AreCheckedAs action below archived plan) plan formed before after visits n
+      → AreCheckedBy (AreCheckedInForm action below archived plan) plan read before after visits n
+  form_of_read CheckTars read formed before after visits n is checked = rw (some_same _ _ is) at checked
+  form_of_read action read formed before after visits n is checked = rw (some_same _ _ is) at checked

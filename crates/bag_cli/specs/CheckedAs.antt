@@ -1,9 +1,10 @@
 -- What is checked of the words of a plan: the bags in folders, or those in tar files.
-use Rattle.std.specs.Prelude.{ℕ, List, Option, Result, MatchResult}
+use Rattle.std.specs.Prelude.{ℕ, List, Option, Some, None, Result, MatchResult}
 use Rattle.bag_disk.specs.Disk.{DiskState}
 use Rattle.bag_store.specs.FileTree.{tree_state}
 use Rattle.bag_tree.specs.Out.{OutState}
 use Rattle.bag_profile.specs.Profile.{Profile}
+use Rattle.bag_profile.specs.declared.form.Form.TheVariants.{Archive}
 use Rattle.bag_arguments.specs.declared.plan.Action.{Action}
 use Rattle.bag_arguments.specs.declared.plan.Action.TheVariants.{CheckTars}
 use Rattle.bag_arguments.specs.declared.plan.Plan.{Plan}
@@ -11,6 +12,12 @@ use Rattle.bag_cli.specs.Checked.{IsLastCheck, IsWholeCheck}
 use Rattle.bag_cli.specs.InTurn.{AreInTurn, Deed, Last, Whole}
 use Rattle.bag_cli.specs.TarChecked.{Archived, IsLastTarCheck, IsWholeTarCheck}
 use Rattle.bag_cli.specs.Visits.{Event}
+
+-- a profile as it is compared with the bags of a plan: those in tar files are serialized
+abbrev pub in_form : Action → Option Profile → Option Profile
+in_form CheckTars None = None
+in_form CheckTars (Some profile) = Some (record profile { form = Archive })
+in_form action profile = profile
 
 -- a whole check of the bag of a name, by what the plan does with it
 abbrev pub IsWholeAs : Action → (List ℕ → DiskState) → Archived → Plan → Option Profile → Whole
@@ -38,3 +45,9 @@ abbrev pub AreCheckedAs : Action → (List ℕ → DiskState) → Archived → P
 AreCheckedAs action below archived plan profile before after visits n =
     AreInTurn (IsLastAs action below archived plan profile)
     (IsWholeAs action below archived plan profile) plan.directories before after visits n
+
+-- the same, by a profile that was read
+abbrev pub AreCheckedInForm : Action → (List ℕ → DiskState) → Archived → Plan
+    → Option Profile → Deed
+AreCheckedInForm action below archived plan profile =
+    AreCheckedAs action below archived plan (in_form action profile)

@@ -19,6 +19,7 @@ use Rattle.bag_arguments.specs.declared.plan.Action.TheVariants.{Sample, Help, C
 use Rattle.bag_arguments.specs.declared.plan.Action.TheVariants.{CheckTars}
 use Rattle.bag_arguments.specs.declared.plan.Plan.{Plan}
 use Rattle.bag_cli.specs.Checked.{AreChecksOf, IsSampleChecked}
+use Rattle.bag_cli.specs.CheckedAs.{in_form}
 use Rattle.bag_cli.specs.InTurn.{Deed}
 use Rattle.bag_cli.specs.Makings.{AreMakingsOf, AreMakingsWith}
 use Rattle.bag_cli.specs.TarChecked.{Archived, AreTarChecksOf}
@@ -52,10 +53,11 @@ AreChecked below plan profile before after visits n =
     AreChecksOf plan profile (λ name. tree_state (below name) 0) plan.directories
     before after visits n
 
--- the tar files of a plan were checked, where at each path there is this one
+-- the tar files of a plan were checked, where at each path there is this one: their bags are
+-- serialized
 abbrev pub AreTarsChecked : Archived → Plan → Option Profile → Deed
 AreTarsChecked archived plan profile before after visits n =
-    AreTarChecksOf plan profile archived plan.directories before after visits n
+    AreTarChecksOf plan (in_form CheckTars profile) archived plan.directories before after visits n
 
 -- what is checked by a profile, or without one
 abbrev pub Checks : Type 1

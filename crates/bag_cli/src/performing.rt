@@ -1,7 +1,7 @@
 //! Does what a plan says.
 ghost use Rattle.std.specs.Option.{option_copied};
-ghost use Rattle.std.specs.Prelude.{◌≡◌, ◌≤◌, []};
-ghost use Rattle.bag_cli.specs.CheckedAs.{AreCheckedAs};
+ghost use Rattle.std.specs.Prelude.{◌≡◌, ◌≤◌, [], Some};
+ghost use Rattle.bag_cli.specs.CheckedAs.{AreCheckedAs, AreCheckedInForm, in_form};
 ghost use Rattle.bag_cli.specs.Folders.{disks_of};
 ghost use Rattle.bag_cli.specs.Halt.{status_of};
 ghost use Rattle.bag_cli.specs.InTurn.{Does};
@@ -85,7 +85,7 @@ impl<D: Disks> Work<'_, D> {
         err: &mut E,
     ) -> Result<u8, Halt>
         ensures { Does O.Out visits.old visits.new out.old out.new (status_of result)
-            (IsChecked (AreCheckedAs self.now.plan.now.action
+            (IsChecked (AreCheckedInForm self.now.plan.now.action
             (D.below (disks_of self.now.folders.now))
             (D.archived (disks_of self.now.folders.now)) self.now.plan.now)
             (D.file (disks_of self.now.folders.now)) self.now.plan.now self.now.plan.now.profile) }
@@ -94,8 +94,18 @@ impl<D: Disks> Work<'_, D> {
             return self.check_each(None, visits, out, err);
         };
         match read_profile(self.alloc, self.folders, path.as_str(), visits) {
-            Ok(profile) => self.check_by(&profile, visits, out, err),
+            Ok(profile) => self.check_by(&self.in_form(profile), visits, out, err),
             Err(refusal) => Ok(refuse_profile(refusal, err)),
+        }
+    }
+
+    /// A profile as it is compared with the plan's bags: those in tar files are serialized.
+    fn in_form(&self, profile: Profile) -> Profile
+        ensures { Some result ≡ in_form self.now.plan.now.action (Some profile) }
+    {
+        match &self.plan.action {
+            Action::CheckTars => profile.for_archives(),
+            Action::Sample | Action::Help(_) | Action::Check | Action::Make => profile,
         }
     }
 

@@ -1,5 +1,5 @@
 use Rattle.bag_cli.proofs.Common.{◌≡◌, ◌⊎◌, inl, inr, ℕ, List, Option, [], sym, subst, append-nil, DiskState, OutState, Event, Plan}
-use Rattle.bag_cli.proofs.Common.{refl, visits_of, ArchiveState, AreCheckedAs, IsChecked, IsDoneBy, IsPerformed}
+use Rattle.bag_cli.proofs.Common.{refl, visits_of, ArchiveState, AreCheckedInForm, IsChecked, IsDoneBy, IsPerformed}
 use Rattle.bag_arguments.specs.declared.plan.Action.{Action}
 use Rattle.bag_arguments.specs.declared.plan.Action.TheVariants.{Check, CheckTars}
 use Rattle.bag_cli.proofs.work.Work.perform.Goals as goal
@@ -15,16 +15,16 @@ module _ (below : List ℕ → DiskState) (archived : List ℕ → ArchiveState)
 
   -- what is checked of a plan's words by its action
   checked : (action : Action) (before after : OutState) (visits : List Event) (n : ℕ) → plan.action ≡ action
-      → IsChecked (AreCheckedAs plan.action below archived plan) file plan plan.profile before after visits n
-      → IsChecked (AreCheckedAs action below archived plan) file plan plan.profile before after visits n
+      → IsChecked (AreCheckedInForm plan.action below archived plan) file plan plan.profile before after visits n
+      → IsChecked (AreCheckedInForm action below archived plan) file plan plan.profile before after visits n
   checked action before after visits n is done =
       subst (λ (action : Action).
-      IsChecked (AreCheckedAs action below archived plan) file plan plan.profile before after visits n) is done
+      IsChecked (AreCheckedInForm action below archived plan) file plan plan.profile before after visits n) is done
 
   -- so the plan says what was checked
   checked_by : (before after : OutState) (visits : List Event) (n : ℕ)
       → (plan.action ≡ Check) ⊎ (plan.action ≡ CheckTars)
-      → IsChecked (AreCheckedAs plan.action below archived plan) file plan plan.profile before after visits n
+      → IsChecked (AreCheckedInForm plan.action below archived plan) file plan plan.profile before after visits n
       → IsPerformed below archived file plan before after visits n
   checked_by before after visits n (inl is) done =
       performed Check before after visits n is (checked Check before after visits n is done)
