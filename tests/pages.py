@@ -7,6 +7,7 @@ KEEP is the command, FOLDER an empty one. BAGIT names bagit. What a page has to 
 import hashlib
 import json
 import os
+import signal
 import subprocess
 import sys
 from html.parser import HTMLParser
@@ -17,6 +18,8 @@ keep, work = sys.argv[1], Path(os.path.realpath(sys.argv[2]))
 store, register = work / 'store', work / 'register'
 HOSTILE = '<img src=x onerror="document.title=1">\n\u202e&amp;'
 SCRIPT = "<script>document.body.innerHTML=''</script>"
+CHROMIUM = 'chromium --headless --no-sandbox --disable-gpu --disable-dev-shm-usage --disable-background-networking --no-first-run'.split()
+TRIES, SECONDS = 3, 60
 PRINTABLE = ''.join(map(chr, range(0x21, 0x7F))).replace('%', '')
 TAGS = set('html head meta title style body nav main footer h1 h2 p a table caption thead tbody tr th td div ul li svg rect circle'.split())
 TAGS |= {'section', 'code', 'br'}
@@ -41,14 +44,28 @@ def make(place, name, text):
     (place / 'manifest-sha256.txt').write_text(f'{digest}  data/{name}\n')
 
 
+def dom(path):
+    """The document that Chromium has of a page. It is asked again where it hangs, as it may on a busy machine."""
+    for number in range(TRIES):
+        words = [*CHROMIUM, f'--user-data-dir={work}/profile-{path.name}-{number}', '--dump-dom', path.as_uri()]
+        process = subprocess.Popen(words, stdout=subprocess.PIPE, stderr=subprocess.DEVNULL, text=True, start_new_session=True)
+        try:
+            text, _ = process.communicate(timeout=SECONDS)
+            assert process.returncode == 0, words
+            return text
+        except subprocess.TimeoutExpired:
+            os.killpg(process.pid, signal.SIGKILL)
+            process.communicate()
+    raise AssertionError(f'Chromium hangs: {words}')
+
+
 class Document(HTMLParser):
     """The document that Chromium has of a page: its tags, its links, and the texts of elements, by their tags."""
 
     def __init__(self, path):
         super().__init__()
         self.tags, self.links, self.texts, self.open = [], [], [], []
-        words = ['chromium', '--headless', '--no-sandbox', '--disable-gpu', f'--user-data-dir={work}/profile', '--dump-dom', path.as_uri()]
-        self.feed(subprocess.run(words, capture_output=True, text=True, check=True, timeout=120).stdout)
+        self.feed(dom(path))
         self.wrong = {tag for tag, _ in self.tags} - TAGS
         assert not self.wrong, (path, self.wrong)
         assert not any(name.startswith('on') or name == 'src' for _, found in self.tags for name in found), path
@@ -124,7 +141,7 @@ def main():
     assert spelled(str(odd)) in views
 
     found = documents(register / 'rounds/000001', work / 'of-round')
-    assert found['index.html'].of('h1') == ['2 of 4 bags have news'], found['index.html'].of('h1')
+    assert found['index.html'].of('h1') == ['1 of 3 bags have news'], found['index.html'].of('h1')
     report, = (register / 'rounds/000001/reports').glob('*damaged.txt')
     found = documents(report, work / 'of-report')
     assert found['index.html'].of('h1')[0].endswith('damaged has faults: 1')
