@@ -73,13 +73,6 @@ some_same : (a b : Profile) → Some a ≡ Some b → a ≡ b
 some_same a b e = grind arith
 
 module _ (below : List ℕ → DiskState) (archived : List ℕ → ArchiveState) (plan : Plan) where
-  -- what is checked without a profile is so in each form
-  pub form_of_none : (action : Action) (before after : OutState) (visits : List Event) (n : ℕ)
-      → AreCheckedAs action below archived plan None before after visits n
-      → AreCheckedInForm action below archived plan None before after visits n
-  form_of_none CheckTars before after visits n checked = checked
-  form_of_none action before after visits n checked = checked
-
   -- what is checked by a profile in its form is checked by the profile that was read
   pub form_of_read : (action : Action) (read formed : Profile) (before after : OutState) (visits : List Event) (n : ℕ)
       → Some formed ≡ in_form action (Some read)

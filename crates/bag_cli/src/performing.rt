@@ -94,7 +94,10 @@ impl<D: Disks> Work<'_, D> {
             return self.check_each(None, visits, out, err);
         };
         match read_profile(self.alloc, self.folders, path.as_str(), visits) {
-            Ok(profile) => self.check_by(&self.in_form(profile), visits, out, err),
+            Ok(profile) => {
+                let formed = self.in_form(profile);
+                self.check_by(&formed, visits, out, err)
+            }
             Err(refusal) => Ok(refuse_profile(refusal, err)),
         }
     }
