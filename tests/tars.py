@@ -10,7 +10,8 @@ import tarfile
 from pathlib import Path
 from typing import Dict, List, Optional, Tuple
 
-from tar_bags import LONG, SHORT, SPLIT, Wrong, digest, good_bag, headers, manifest, member, put, random_bag, room_for, write, writers
+from tar_bags import LONG, SHORT, SPLIT, Wrong, digest, good_bag, headers, manifest, member, put, random_bag, room_for, sealed
+from tar_bags import write, writers
 from tar_readers import compare, same_to_readers, verdicts
 
 DEPTHS = ((), ("--completeness-only",), ("--fast",), ("--declaration-only",), ("--clashes",))
@@ -46,7 +47,7 @@ def same_everywhere(program: str, archives: List[str], draw: random.Random) -> i
     for depth in DEPTHS:
         lines = same_report(program, archives, *depth)[:-1]
         if lines:
-            same_report(program, archives, *depth, "--after", draw.choice(lines))
+            same_report(program, [draw.choice(archives)], *depth, "--after", draw.choice(lines))
             same_report(program, archives, *depth, "--max-faults", str(draw.randint(1, len(lines))))
     parts = draw.choice((2, 3, 5))
     for archive in archives:
@@ -130,33 +131,43 @@ def see_bits(program: str) -> str:
     return f"{count} flipped bits, of which {valid} change no bag"
 
 
+def altered(archive: bytes, at: int, spot: int, text: bytes) -> bytes:
+    """The archive with a text in the header at a place, whose checksum is mended."""
+    block = archive[at:at + spot] + text + archive[at + spot + len(text):at + 512]
+    return archive[:at] + sealed(block) + archive[at + 512:]
+
+
 def end_of(*members: bytes) -> bytes:
     return b"".join(members) + bytes(1024)
 
 
 DECLARED = member("d/bagit.txt", b"BagIt-Version: 1.0\nTag-File-Character-Encoding: UTF-8\n")
 FILE = member("d/data/a", b"a")
+LONG_NAME = "d/data/" + "l" * 120 + "/"
+LONG_FOLDER = member(LONG_NAME, kind=tarfile.DIRTYPE)
 REFUSED = {
-    "a symbolic link": (end_of(DECLARED, member("d/data/s", kind=tarfile.SYMTYPE, link="a")), "d/data/s special"),
-    "a device": (end_of(DECLARED, member("d/data/null", kind=tarfile.CHRTYPE)), "d/data/null special"),
-    "a pipe": (end_of(DECLARED, member("d/data/pipe", kind=tarfile.FIFOTYPE)), "d/data/pipe special"),
-    "a link to a later file": (end_of(member("d/data/h", kind=tarfile.LNKTYPE, link="d/data/a"), FILE), "d/data/h special"),
-    "a link out of the bag": (end_of(FILE, member("d/data/h", kind=tarfile.LNKTYPE, link="/etc/passwd")), "d/data/h special"),
-    "an absolute path": (end_of(member("/d/data/a", b"a")), "/d/data/a name"),
-    "a path above the archive": (end_of(member("../d/data/a", b"a")), "../d/data/a name"),
-    "a path above the bag": (end_of(FILE, member("d/../a", b"a")), "d/../a name"),
-    "an empty component": (end_of(FILE, member("d//a", b"a")), "d//a name"),
-    "two folders at the top": (end_of(FILE, member("e/data/a", b"a")), "e/data/a no-base"),
-    "a file at the top": (end_of(member("a", b"a")), "a no-base"),
+    "a-symbolic-link": (end_of(DECLARED, member("d/data/s", kind=tarfile.SYMTYPE, link="a")), "d/data/s special"),
+    "a-device": (end_of(DECLARED, member("d/data/null", kind=tarfile.CHRTYPE)), "d/data/null special"),
+    "a-pipe": (end_of(DECLARED, member("d/data/pipe", kind=tarfile.FIFOTYPE)), "d/data/pipe special"),
+    "a-link-to-a-later-file": (end_of(member("d/data/h", kind=tarfile.LNKTYPE, link="d/data/a"), FILE), "d/data/h special"),
+    "a-link-out-of-the-bag": (end_of(FILE, member("d/data/h", kind=tarfile.LNKTYPE, link="/etc/passwd")), "d/data/h special"),
+    "an-absolute-path": (end_of(member("/d/data/a", b"a")), "/d/data/a name"),
+    "a-path-above-the-archive": (end_of(member("../d/data/a", b"a")), "../d/data/a name"),
+    "a-path-above-the-bag": (end_of(FILE, member("d/../a", b"a")), "d/../a name"),
+    "an-empty-component": (end_of(FILE, member("d//a", b"a")), "d//a name"),
+    "two-folders-at-the-top": (end_of(FILE, member("e/data/a", b"a")), "e/data/a no-base"),
+    "a-file-at-the-top": (end_of(member("a", b"a")), "a no-base"),
     "nothing": (end_of(), "- no-base"),
-    "a file twice": (end_of(FILE, FILE), "d/data/a twice"),
-    "a file and a folder": (end_of(FILE, member("d/data/a", kind=tarfile.DIRTYPE)), "d/data/a/ twice"),
-    "a file on the way": (end_of(FILE, member("d/data/a/b", b"b")), "d/data/a/b twice"),
-    "a folder and a file": (end_of(member("d/data/a/b", b"b"), FILE), "d/data/a twice"),
-    "no end": (DECLARED + FILE, "- cut-off"),
-    "one block of zeros": (DECLARED + FILE + bytes(512), "- cut-off"),
-    "a block of zeros inside": (DECLARED + bytes(512) + end_of(FILE), "- damaged"),
-    "no archive": (b"PK\3\4" + bytes(2000), "- damaged"),
+    "a-file-twice": (end_of(FILE, FILE), "d/data/a twice"),
+    "a-file-and-a-folder": (end_of(FILE, member("d/data/a", kind=tarfile.DIRTYPE)), "d/data/a/ twice"),
+    "a-file-on-the-way": (end_of(FILE, member("d/data/a/b", b"b")), "d/data/a/b twice"),
+    "a-folder-and-a-file": (end_of(member("d/data/a/b", b"b"), FILE), "d/data/a twice"),
+    "no-end": (DECLARED + FILE, "- cut-off"),
+    "one-block-of-zeros": (DECLARED + FILE + bytes(512), "- cut-off"),
+    "a-block-of-zeros-inside": (DECLARED + bytes(512) + end_of(FILE), "- damaged"),
+    "no-archive": (b"\xff" * 2048, "- damaged"),
+    "a-prefix-by-GNU's-magic": (end_of(altered(DECLARED, 0, 345, b"x")), "d/bagit.txt damaged"),
+    "two-names-of-an-old-folder": (end_of(FILE, altered(LONG_FOLDER, len(LONG_FOLDER) - 512, 156, b"\0")), LONG_NAME + " damaged"),
 }
 """Archives that hold no bag, with the member and the cause that are named."""
 
@@ -164,8 +175,8 @@ REFUSED = {
 def see_refused(program: str) -> str:
     for title, (archive, _) in REFUSED.items():
         write(f"{title}.tar", archive)
-    by_tar = {"of the folder's inside": (["-C", "d", "."], r"\S+ no-base"), "sparse": (["-S", "d"], "d/data/hole special")}
-    by_tar["sparse by pax"] = (["--format=pax", "-S", "d"], r"\S+ special")
+    by_tar = {"from-within": (["-C", "d", "."], r"\S+ no-base"), "sparse": (["-S", "d"], "d/data/hole special")}
+    by_tar["sparse-by-pax"] = (["--format=pax", "-S", "d"], r"\S+ special")
     small_bag()
     with open("d/data/hole", "wb") as hole:
         hole.truncate(1 << 20)
