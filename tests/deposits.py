@@ -746,6 +746,7 @@ def receiving_killed():
     def stops_before_receipt():
         receive.publish = lambda *words: os.kill(os.getpid(), signal.SIGKILL)
     assert ask("receive", "deposit.tar.gz", store, before=stops_before_receipt).status == -9
+    ends(3, "receive", "deposit.tar.gz", store, "--digest", "sha256:" + "0" * 64, says="isn't what was sent")
     (store / "deposit/data/a").write_bytes(b"x")
     ends(3, "receive", "deposit.tar.gz", store, says="altered before its receipt was written")
     assert not list(store.glob(".receipts/*.json"))

@@ -4,8 +4,10 @@ unpacked.
 A list is judged before anything of it is written. What no bag may have, or
 systems take differently, is Unfit, by its name.
 """
+import argparse
 import hashlib
 import os
+import re
 import stat
 import unicodedata
 from contextlib import suppress
@@ -20,8 +22,10 @@ from typing import (
     List,
     Optional,
     Set,
+    Tuple,
 )
 
+from . import tags
 from .lines import encoded
 from .messages import Refused
 
@@ -81,6 +85,15 @@ def room_in(
         files if most_files is None else most_files,
         size if most_bytes is None else most_bytes,
     )
+
+
+def digest_of(word: str) -> Tuple[str, str]:
+    """The algorithm and the digest that the sender says."""
+    name, _, digest = word.lower().partition(":")
+    length = tags.HEX_DIGITS.get(name.replace("-", ""))
+    if not re.fullmatch("[0-9a-f]+", digest) or len(digest) != length:
+        raise argparse.ArgumentTypeError(f"not ALGORITHM:DIGEST: {word}")
+    return name.replace("-", ""), digest
 
 
 def digests_of(file: IO[bytes], algorithms: Iterable[str]) -> Dict[str, str]:

@@ -3,14 +3,13 @@ full check of it has found no fault."""
 import argparse
 import json
 import os
-import re
 import stat
 from contextlib import ExitStack, closing, suppress
 from dataclasses import dataclass, field
 from datetime import datetime, timezone
 from typing import IO, Any, Dict, List, Optional, Sequence, Tuple
 
-from . import receipts, tags
+from . import receipts
 from .archives import (
     MOST_TIMES,
     form_of,
@@ -28,6 +27,7 @@ from .members import (
     Content,
     Limits,
     Unfit,
+    digest_of,
     digests_of,
     folder_content,
     refuse_path,
@@ -129,15 +129,6 @@ class Case:
         if self.asked.register is not None:
             with closing(Register(os.fsencode(self.asked.register))) as there:
                 refuse_kept(there, folder)
-
-
-def digest_of(word: str) -> Tuple[str, str]:
-    """The algorithm and the digest that the sender says."""
-    name, _, digest = word.lower().partition(":")
-    length = tags.HEX_DIGITS.get(name.replace("-", ""))
-    if not re.fullmatch("[0-9a-f]+", digest) or len(digest) != length:
-        raise argparse.ArgumentTypeError(f"not ALGORITHM:DIGEST: {word}")
-    return name.replace("-", ""), digest
 
 
 def encoding_of(word: str) -> str:
@@ -292,13 +283,18 @@ def arrange(case: Case, content: Content) -> Tuple[str, str]:
     return str(case.asked.name), ""
 
 
-def take_in(case: Case, work: Work) -> str:
-    """Unpacks the deposit into the work's folder `bag`; gives its name."""
+def compare_digest(case: Case) -> None:
+    """Compares the digest that the sender says with that of the file."""
     if case.asked.digest:
         algorithm, digest = case.asked.digest
         if case.sums[algorithm] != digest:
             found = case.sums[algorithm]
             raise Unfit(f"its {algorithm} is {found}, not {digest}")
+
+
+def take_in(case: Case, work: Work) -> str:
+    """Unpacks the deposit into the work's folder `bag`; gives its name."""
+    compare_digest(case)
     look_into(case, work)
     limits = room_in(case.store, case.asked.max_files, case.asked.max_bytes)
     with understood():
@@ -473,6 +469,11 @@ def go_on(case: Case, work: Work, left: Dict[str, Any]) -> int:
     """Publishes a receipt that was left, if the bag is still valid, and what
     it was."""
     work.keep = True
+    try:
+        compare_digest(case)
+    except Unfit as why:
+        text = f"{case.name} was received, and isn't what was sent: {why}"
+        raise Refused(text, why.status) from why
     report = judge(case, work, left["folder"])
     if report.status != 0 or seal_of(left["folder"]) != left["bag"]["seal"]:
         write_report(report)

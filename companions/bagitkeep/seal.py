@@ -44,12 +44,24 @@ def files_in(path: Path) -> Iterator[Iterator[File]]:
 
 
 def files_of(tar: tarfile.TarFile) -> Iterator[File]:
+    """The files, of which a hard link to an earlier one is one, too."""
+    places: Dict[bytes, Tuple[int, int]] = {}
     while (found := tar.next()) is not None:
         setattr(tar, "members", [])  # what was read isn't kept
+        name, place = member(found.name), (found.offset_data, found.size)
+        if found.islnk() and member(found.linkname) in places:
+            place = places[member(found.linkname)]
+            found.type = tarfile.REGTYPE
+            found.offset_data, found.size = place
         content = tar.extractfile(found) if found.isreg() else None
         if content is not None:
-            name = found.name.encode("utf-8", ANY_BYTES).removeprefix(b"./")
+            places[name] = place
             yield name.partition(b"/")[2], found.size, content
+
+
+def member(name: str) -> bytes:
+    """The name of a member in bytes, without `./` before it."""
+    return name.encode("utf-8", ANY_BYTES).removeprefix(b"./")
 
 
 def seal_of(directory: Path) -> str:

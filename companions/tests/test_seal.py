@@ -85,6 +85,14 @@ class Seals(unittest.TestCase):
                     tar.add(self.bag, name)
                 self.assertEqual(seal_of(path), self.by_sha512sum())
                 self.assertEqual(payload_of(path), payload_of(self.bag))
+        os.link(self.bag / "bagit.txt", self.bag / "again.txt")
+        os.link(self.bag / "bagit.txt", self.bag / "data" / "again.txt")
+        with tarfile.open(path, "w") as tar:
+            tar.add(self.bag, "bag")
+        with tarfile.open(path) as tar:
+            self.assertEqual(sum(it.islnk() for it in tar.getmembers()), 2)
+        self.assertEqual(seal_of(path), self.by_sha512sum())
+        self.assertEqual(payload_of(path), payload_of(self.bag))
         whole = path.read_bytes()
         for cut in whole[: whole.index(b"xxx") + 9], b"x" * 600:
             path.write_bytes(cut)
