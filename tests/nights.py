@@ -218,6 +218,13 @@ def night_received():
         assert run('audit', register)[0].startswith('no news: 21 bags')
         it.write_bytes(whole)
         assert run('audit', register)[0].startswith('no news: 21 bags')
+    page = receipts[0].with_suffix('.html')
+    whole = page.read_text()
+    page.write_text(whole.replace('accepted', 'excepted') if 'accepted' in whole else whole + ' ')
+    said = run('audit', register, wanted=1)
+    assert said[:2] == ['news of 1 bag: 1 with an altered receipt', f"receipt {page} was altered, or isn't there"], said
+    page.write_text(whole)
+    assert run('audit', register)[0].startswith('no news: 21 bags')
     os.rename(bag(22), work / 'away')
     (deposit / 'data/a').write_text('22')
     run('receive', deposit, store, '--register', register, wanted=3)

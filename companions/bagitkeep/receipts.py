@@ -209,7 +209,7 @@ def publish(work: Work, path: str, page: str, register: Optional[str]) -> None:
     content = read_bytes(os.fsencode(written))
     if not os.path.lexists(path):
         publish_copy(content, path)
-    enter(register, content)
+    enter(register, content, read_bytes(os.fsencode(page)))
 
 
 def publish_file(path: str, target: str) -> None:

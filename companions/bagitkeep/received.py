@@ -1,15 +1,15 @@
 """The receipts of a register: what it says of deposits that were received.
 
-Each is a file, of which the register has the digest, so that a bit that
-changes there is an error by name.
+Each is a file, and a page of it to print and sign. The register has the
+digests of both, so that a bit that changes there is an error by name.
 """
 import hashlib
 import json
 import os
-from contextlib import closing
+from contextlib import closing, suppress
 from dataclasses import dataclass
 from os.path import join
-from typing import Any, Dict, Iterator, Optional, Set
+from typing import Any, Dict, Iterator, List, Optional, Set
 
 from .lines import encoded
 from .messages import Refused
@@ -21,12 +21,13 @@ from .rounds import read_bytes, text_of
 @dataclass(frozen=True)
 class Noted:
     """A receipt that the register has noted, and of which bag it is. `says`
-    is what is in the file, or None where that isn't what was noted."""
+    is what is in the file, or None where that isn't what was noted; `altered`
+    are those of its two files of which that holds."""
 
     number: str
-    path: bytes
     bag: Optional[int]
     says: Optional[Dict[str, Any]]
+    altered: List[bytes]
 
 
 def noted_in(register: Register) -> Iterator[Noted]:
@@ -34,14 +35,21 @@ def noted_in(register: Register) -> Iterator[Noted]:
     for row in register.rows("events", "kind = 'received'"):
         data = json.loads(row["data"])
         path = path_in(register.folder, data["number"])
-        says = None
-        try:
-            content = read_bytes(path)
-            if hashlib.sha256(content).hexdigest() == data["sha256"]:
-                says = json.loads(content)
-        except OSError:
-            pass
-        yield Noted(data["number"], path, row["bag"], says)
+        content = noted_content(path, data["sha256"])
+        page = page_in(register.folder, data["number"])
+        found = {path: content, page: noted_content(page, data["page"])}
+        says = None if content is None else json.loads(content)
+        altered = [it for it, what in found.items() if what is None]
+        yield Noted(data["number"], row["bag"], says, altered)
+
+
+def noted_content(path: bytes, digest: str) -> Optional[bytes]:
+    """What a file has, or None where it hasn't this digest."""
+    with suppress(OSError):
+        content = read_bytes(path)
+        if hashlib.sha256(content).hexdigest() == digest:
+            return content
+    return None
 
 
 def numbers_in(register: Register) -> Set[str]:
@@ -55,9 +63,14 @@ def path_in(folder: bytes, number: str) -> bytes:
     return join(folder, b"receipts", os.fsencode(f"{number}.json"))
 
 
+def page_in(folder: bytes, number: str) -> bytes:
+    """Where a register has the page of a receipt."""
+    return join(folder, b"receipts", os.fsencode(f"{number}.html"))
+
+
 def look(register: Register) -> None:
     """Finds the receipts that were altered or aren't there."""
-    wrong = {text_of(it.path) for it in noted_in(register) if it.says is None}
+    wrong = {text_of(it) for one in noted_in(register) for it in one.altered}
     of_no_bag(register, "receipt", wrong)
 
 
@@ -82,9 +95,9 @@ def refuse_kept(register: Register, folder: str, seal: str = "") -> None:
         raise Refused(text, 3)
 
 
-def enter(folder: str, content: bytes) -> None:
-    """Notes a receipt in the register of a folder, and takes in the bag that
-    was received, unless that was done."""
+def enter(folder: str, content: bytes, page: bytes) -> None:
+    """Notes a receipt and its page in the register of a folder, and takes in
+    the bag that was received, unless that was done."""
     receipt = json.loads(content)
     number, bag = receipt["number"], None
     with closing(Register(os.fsencode(folder))) as register:
@@ -103,4 +116,5 @@ def enter(folder: str, content: bytes) -> None:
                 number=number,
                 decision=receipt["decision"],
                 sha256=hashlib.sha256(content).hexdigest(),
+                page=hashlib.sha256(page).hexdigest(),
             )

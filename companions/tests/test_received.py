@@ -13,6 +13,7 @@ from bagitkeep.places import Work
 from bagitkeep.receipts import publish
 
 SEAL = "0" * 128
+PAGE = b"<p>valid"
 
 
 class OfRegister(unittest.TestCase):
@@ -43,7 +44,8 @@ class OfRegister(unittest.TestCase):
         ))
         path.parent.mkdir(exist_ok=True)
         path.write_bytes(content)
-        received.enter(self.folder, content)
+        path.with_suffix(".html").write_bytes(PAGE)
+        received.enter(self.folder, content, PAGE)
 
     def rows(self, table: str, where: str = "1") -> List[register.Row]:
         with closing(register.Register(os.fsencode(self.folder))) as opened:
@@ -87,6 +89,14 @@ class OfRegister(unittest.TestCase):
                 self.assertEqual(len(found), wanted)
                 (noted,) = received.noted_in(opened)
                 self.assertEqual(noted.says is None, bool(wanted))
+            page = path.with_suffix(".html")
+            page.write_bytes(PAGE.replace(b"valid", b"superb"))
+            with opened.changing():
+                received.look(opened)
+            (row,) = opened.rows("findings")
+            self.assertEqual(row["text"], str(page))
+            (noted,) = received.noted_in(opened)
+            self.assertIsNotNone(noted.says)
 
     def test_a_killed_process_has_published_a_part(self) -> None:
         folder = self.room / "work"
