@@ -145,6 +145,20 @@ DECLARED = member("d/bagit.txt", b"BagIt-Version: 1.0\nTag-File-Character-Encodi
 FILE = member("d/data/a", b"a")
 LONG_NAME = "d/data/" + "l" * 120 + "/"
 LONG_FOLDER = member(LONG_NAME, kind=tarfile.DIRTYPE)
+
+
+def record(text: bytes) -> bytes:
+    """A record of an extended header, which begins with its own length."""
+    size = next(n for n in range(len(text), len(text) + 9) if n == len(str(n)) + len(text) + 2)
+    return b"%d %s\n" % (size, text)
+
+
+def extended(text: bytes, behind: bytes = b"") -> bytes:
+    """An extended header of one record, and what stands behind its data."""
+    whole, end = member("d/PaxHeaders/a", record(text), kind=tarfile.XHDTYPE), 512 + len(record(text))
+    return whole[:end] + behind + whole[end + len(behind):]
+
+
 REFUSED = {
     "a-symbolic-link": (end_of(DECLARED, member("d/data/s", kind=tarfile.SYMTYPE, link="a")), "d/data/s special"),
     "a-device": (end_of(DECLARED, member("d/data/null", kind=tarfile.CHRTYPE)), "d/data/null special"),
@@ -167,6 +181,10 @@ REFUSED = {
     "a-block-of-zeros-inside": (DECLARED + bytes(512) + end_of(FILE), "- damaged"),
     "no-archive": (b"\xff" * 2048, "- damaged"),
     "a-prefix-by-GNU's-magic": (end_of(altered(DECLARED, 0, 345, b"x")), "d/bagit.txt damaged"),
+    "records-behind-the-data": (end_of(extended(b"comment=x", record(b"path=d/data/b")), FILE), "d/PaxHeaders/a damaged"),
+    "a-key-after-a-blank": (end_of(extended(b" path=d/data/b"), FILE), "d/PaxHeaders/a damaged"),
+    "an-empty-key": (end_of(extended(b"=x"), FILE), "d/PaxHeaders/a damaged"),
+    "a-sparse-file-of-Solaris": (end_of(extended(b"SUN.holesdata= 0 1"), FILE), "d/PaxHeaders/a special"),
     "two-names-of-an-old-folder": (end_of(FILE, altered(LONG_FOLDER, len(LONG_FOLDER) - 512, 156, b"\0")), LONG_NAME + " damaged"),
 }
 """Archives that hold no bag, with the member and the cause that are named."""
