@@ -1,5 +1,6 @@
 //! Reports of parts, written one after the other.
-ghost use Rattle.std.specs.Prelude.{◌≡◌, ◌≢◌, ◌+◌, ◌<◌, ◌^◌, IfErr, IfOk, IsTrue, MatchResult, None, OnOk, Option, vec_len, ⊤, ℕ};
+ghost use Rattle.std.specs.Prelude.{◌≡◌, ◌≢◌, ◌+◌, ◌<◌, ◌^◌, IfErr, IfOk, IsTrue, MatchResult, None};
+ghost use Rattle.std.specs.Prelude.{OnOk, Option, vec_len, ⊤, ℕ};
 ghost use Rattle.bag_facts.specs.declared.fault.Fault.{Fault as FaultValue};
 ghost use Rattle.bag_join.specs.Faults.{LeavesLines, WritesFaults};
 ghost use Rattle.bag_join.specs.Findings.{AreFindings, Findings, IsPlanFor, IsTurnOf, faults_at};
