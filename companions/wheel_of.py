@@ -45,7 +45,7 @@ def build_wheel(
 ) -> str:
     """Writes the wheel into a folder, and gives its name there."""
     sources = sorted((HERE / "bagitkeep").glob("*.py"))
-    sources += sorted((HERE / "bagitkeep").glob("templates/*.html"))
+    sources += sorted((HERE / "bagitkeep").glob("templates/*"))
     sources.append(HERE / "bagitkeep" / "py.typed")
     names = [path.relative_to(HERE).as_posix() for path in sources]
     files = {it: (HERE / it).read_bytes() for it in names}

@@ -363,10 +363,7 @@ def hostile_tars():
     latin = new_bag(HERE / "plain", {"é": b"e"})
     os.rename(latin / "data/é", os.fsencode(latin) + b"/data/\xe9")
     pack("tar", "-cf", "latin.tar", "plain")
-    refused(HERE / "latin.tar", "isn't UTF-8")
-    store = new_store()
-    ends(0, "receive", "latin.tar", store, "--names", "latin-1")
-    assert (store / "plain/data/é").read_bytes() == b"e" and is_valid(store / "plain")
+    refused(HERE / "latin.tar", "has a name that no bag has")
     refused(latin, "isn't UTF-8")
     # Bombs, and what isn't an archive file.
     bag = new_bag(HERE / "plain", {"a": bytes(2_000_000)})
@@ -412,7 +409,7 @@ def cut_off():
     accepted(HERE / "cut.tar", bag)
     for added in b"x", bytes(511) + b"x", whole:
         (HERE / "cut.tar").write_bytes(whole + added)
-        refused(HERE / "cut.tar", "neither a header nor its end")
+        refused(HERE / "cut.tar", "something comes after its end")
     # A damaged byte anywhere is refused, or the bag is what GNU tar unpacks.
     for _ in range(12):
         at = chance.randrange(end_mark)
@@ -467,7 +464,7 @@ def folders_and_arguments():
     (bag / "data/a").write_bytes(b"b")
     answer = refused(bag, "701 payload-sum-differs data/a sha256 - ", status=1)
     receipt = receipt_in(HERE / "store", "refused")
-    assert receipt["faults"][0]["means"] == "A payload file's digest differs from its manifest's. The detail is EXPECTED:FOUND."
+    assert receipt["faults"][0]["means"] == "A payload file's checksum differs from its manifest's. The detail is EXPECTED:FOUND."
     assert "is refused" in answer.out and answer.out.endswith(f"{bag} has faults: 1\n"), answer
     assert receipt["why"] == "has faults: 1"
     refused(new_store("other") / "nothing" if (HERE / "other/nothing").mkdir(parents=True) else HERE / "other/nothing", "101", status=1)

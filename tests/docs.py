@@ -1,17 +1,16 @@
 #!/usr/bin/env python3
-"""Compares what the pages name with what is there: links and files, definitions and clauses, modules, and the public
-functions; the fault codes and the options that pages list with those of the sources; how many lines a file has; the
-numbers of the kit; and the files of cases with those that are run. Sees that each page, and some answers that readers
-look for, are found within three pages from README.md by following links; that a page says first for whom it is, and
-that its lines aren't too long.
+"""Compares what the pages name with what is there: links and files, definitions and clauses, modules and crates; the
+fault codes and the options of the manual pages with those of the sources, and the options of each command on a page with
+that program's; how many lines a file has; the numbers of the toolchain; the files of cases with those that are run; how
+many words the pages have. Sees that each page, and some answers that readers look for, are found within three pages from
+README.md by following links, and that lines aren't too long.
 
-usage: tests/docs.py ROOT [--write]
+usage: tests/docs.py ROOT
 
---write first makes the lists of docs/CALLS.md anew. Prints each name that is stale, and at last how many were
-compared; the status is 1 where one is stale, or where a kind of name was found nowhere. Definitions and clauses are
-cited as `CRATE/specs/PAGE.antt`: `A`, `B`, or by a link from [`A`, `B`] to that file; what is quoted of a file
+Prints each name that is stale, and at last how many were compared; the status is 1 where one is stale, or where a kind of
+name was found nowhere. Definitions and clauses are cited as `CRATE/specs/PAGE.antt`: `A`, `B`, or by a link from [`A`, `B`] to that file; what is quoted of a file
 stands, indented, below a link to it and a colon; modules are cited as `CRATE`'s `A`, and lengths as
-`CRATE/src/FILE.rt` (N lines). Without `rt` the numbers of the kit aren't compared.
+`CRATE/src/FILE.rt` (N lines). Without `rt` the numbers of the toolchain aren't compared.
 """
 import re
 import shutil
@@ -20,42 +19,42 @@ import sys
 from functools import lru_cache
 from pathlib import Path
 
-KINDS = ["link", "heading", "file", "definition or clause", "module", "name", "file of a way", "case file"]
-KINDS += ["public function", "law", "public call", "clause of a call", "list of calls", "crate", "fault code", "option"]
-KINDS += ["page", "answer", "length", "count", "line", "first paragraph", "file of cases", "quotation"]
+KINDS = ["link", "heading", "file", "definition or clause", "module", "name", "crate", "fault code", "option"]
+KINDS += ["option of a command", "page", "answer", "length", "count", "line", "words", "file of cases", "quotation"]
 KINDS += ["length of the adaptors"]
-KIT_KINDS = ["number of the kit"]
+KIT_KINDS = ["number of the toolchain"]
 FOLDERS = r"docs|tests|bench|packaging|companions|tools|crates|\.ci|\w+(?=/(?:src|specs|proofs|must-fail)/)"
 FILE = re.compile(rf"(?<![\w/.~-])((?:{FOLDERS})/[\w./*-]*|[A-Z]+\.md|crates\.txt)")
 NAMES = r"`[^`\n]+`(?:(?:,| and|, and)\s+`[^`\n]+`)*"
 CITATION = re.compile(rf"`([\w/]+\.(?:rt|antt))`:\s+({NAMES})")
-LINKED = re.compile(r"\[(`[^\]]+`)\]\(\.\./crates/([^)#\s]+)\)")
+LINKED = re.compile(r"\[(`[^\]]+`)\]\((?:\.\./)+crates/([^)#\s]+)\)")
 QUOTED = re.compile(r"\]\(\.\./crates/([^)#\s]+)\)\):\n\n((?:    .*\n)+)")
 ADAPTORS = ["bag_disk/src/system_disk.rt", "bag_disk/src/base_folder.rt", "bag_disk/src/system_fault.rt"]
 ADAPTORS += ["bag_cli/src/system_file.rt", "bag_disk/src/ownership.rt", "bag_disk/src/trouble.rt"]
 MODULES = re.compile(rf"`(\w+)`'s ({NAMES})")
 ANSWERS = {  # what a reader looks for: the page, and what stands there
-    "how to undo a making that failed": ("docs/NOT_MADE.md", r"^# If making a bag failed.*^      rmdir \.bagit-new$"),
-    "how to change a bag": ("docs/NOT_MADE.md", r"^### Changing a bag$.*^    bagit-keep repack "),
-    "how to add an algorithm to a bag": ("docs/RENEWING.md", r"^# Renewing a bag$.*^    bagit-renew --add sha512 deposit\b"),
-    "what to do after a renewal was cut off": ("docs/RENEWING.md", r"^## After a cut$.*\*\*give the same command again\*\*"),
-    "how to receive a bag": ("docs/RECEIVING.md", r"^## Archive files$\s+^    bagit-keep receive "),
-    "how to check with a profile, by the program": ("README.md", r"^    \$ bagit --validate .*--profile profile\.json letters$"),
+    "how to go back after a failed creation": ("docs/RECOVERY.md", r"^## A bag wasn't created$.*^ +rmdir \.bagit-new$"),
+    "how to change the payload": ("docs/UPDATING.md", r"^## Add, remove or rename payload files$.*^    bagit-keep repack "),
+    "how to add an algorithm": ("docs/UPDATING.md", r"^    bagit-renew --add sha512 deposit\b"),
+    "what to do after an interrupted update": ("docs/RECOVERY.md", r"^## After an interrupted update$.*\*\*give the same command again\*\*"),
+    "how to receive a bag": ("docs/OPERATIONS.md", r"^## Receive a deposit$\s+^    bagit-keep receive "),
     "which keys of a profile are checked": ("docs/PROFILES.md", r"^    bagit --validate --profile .*^## The keys$"),
     "how to check with a profile, from a program": ("docs/LIBRARY.md", r"^## A check$.*\bProfile::read\(.*\bSome\(&profile\)"),
+    "what the program promises": ("docs/ASSURANCE.md", r"`honest_disks_are_reported`"),
     "what stands under 'exactly those faults'": ("docs/THEOREM.md", r"(?i)\bexactly th[eo]se faults\b.*specs/Report\.antt\)"),
-    "where a new fault code goes": ("docs/MAP.md", r"^\*\*A fault code\*\*$\s+1\. "),
+    "where a new fault code goes": ("docs/ARCHITECTURE.md", r"^\*\*A fault code\*\*$\s+1\. "),
     "how to prove one function": ("CONTRIBUTING.md", r"^## One function$.*^    rt check --only "),
 }
 MOST_LINKS = 2  # of a way to an answer, so that it takes three pages
 MOST_COLUMNS = 120
-WITH_NAMES = ("THEOREM.md", "PROVED.md", "CALLS.md", "NOT_PROVED.md", "WRONG_BODIES.md", "DEFINITIONS.md", "MAP.md")
+MOST_WORDS = 22_000
+WITH_NAMES = ("ASSURANCE.md", "THEOREM.md", "LIMITS.md", "ARCHITECTURE.md")
 
 if {"-h", "--help"} & set(sys.argv[1:]):
     print(__doc__.strip())
     sys.exit()
 if not sys.argv[1:]:
-    sys.exit("usage: tests/docs.py ROOT [--write]")
+    sys.exit("usage: tests/docs.py ROOT")
 root = Path(sys.argv[1]).resolve()
 crates = root / "crates"
 compared, stale = {}, []
@@ -148,28 +147,14 @@ def compare_names(page, text, words):
             compare("name", page, name, set(name.split("::")) <= words)
 
 
-def compare_ways(page, text):
-    """The files and functions in the lists of docs/MAP.md, each line with its crates."""
-    for first, second in re.findall(r"^- (.*?): (.*)", part_of(text, "The way of a manifest", "Where things are"), re.M):
-        row_crates = quoted(first)
-        for name in (name for name in quoted(second) if name.isidentifier()):
-            compare("file of a way", page, name, any(has_module(crate, name) for crate in row_crates))
-
-
-def compare_cases(page, text):
-    for names in re.findall(r"^- (`[^:]*): ", part_of(text, "Cases", "Tests"), re.M):
-        for name in quoted(names):
-            compare("case file", page, name, any((crates / "test_cases" / "data").glob(f"{name}.cases")))
-
-
 def compare_counts(page, text):
-    """What docs/TESTED.md begins with: no more than there are, and not far fewer."""
+    """What docs/TESTING.md begins with: no more than there are, and not far fewer."""
     cases = "\n".join(text_of(path) for path in (crates / "test_cases" / "data").glob("*.cases"))
     tests = sum(text_of(path).count("#[test]") for path in crates.glob("*/src/*.rt"))
     counts = {"cases": len(re.findall("^case ", cases, re.M)), "rows": len(re.findall("^- .* => ", cases, re.M))}
     counts |= {"files": len([*(crates / "test_cases" / "data").glob("*.cases")]), "tests in Rattle": tests}
     counts["scripts"] = sum(bool(path.stat().st_mode & 0o100) for path in (root / "tests").glob("*.sh"))
-    counts["wrong bodies"] = len([*crates.glob("*/must-fail/*")])
+    counts["mutants"] = len([*crates.glob("*/must-fail/*")])
     opening = " ".join(text.partition("\n## ")[0].split())
     for kind, found in counts.items():
         said = [int(number) for number in re.findall(rf"(\d+) {kind}\b", opening)]
@@ -186,7 +171,7 @@ def crates_proved_again():
 
 def compare_crates(page, text):
     """The drawing has each crate, with how many crates are proved again if it changes."""
-    drawing = text[: text.index("\n## The way of a check")]
+    drawing = text.partition("\n## ")[0]
     again = crates_proved_again()
     drawn = [(name, int(number)) for name, number in re.findall(r"(\w+) \[(\d+)\]", drawing)]
     for name, number in drawn:
@@ -207,7 +192,7 @@ def compare_codes(page, text):
     """The codes of FAULTS, and of the cases that list all codes, are those of the definitions."""
     cases = crates / "test_cases" / "data"
     lines = text_of(cases / "fault-lines.cases").split("case a line of each code ")[1].split("\ncase ")[0]
-    lists = {page: re.findall(r"^\| (\d{3}) \| `([a-z0-9-]+)` ", text, re.M)}
+    lists = {page: re.findall(r"^\| ?(\d{3}) ?\| ?`([a-z0-9-]+)` ?", text, re.M)}
     all_codes = cases / "codes-and-algorithms.cases"
     lists[all_codes] = re.findall(r"^- (\d{3}) => (?!none$)(.*)$", text_of(all_codes), re.M)
     lists[cases / "fault-lines.cases"] = re.findall(r"^- (\d{3}) ([a-z0-9-]+) ", lines, re.M)
@@ -244,27 +229,41 @@ def companion_options(program, *words):
     return options_in("\n".join(re.findall(r"^  (-.*?)(?:  |$)", output_of(program, *words, "--help"), re.M)))
 
 
-def compare_options():
-    """The options of README and of each manual page are those of the sources; a companion's are those of its --help."""
-    companions = {path.name: companion_options(path) for path in sorted((root / "packaging").glob("bagit-*"))}
+@lru_cache(None)
+def programs():
+    """The options of each program, and of each command of bagit-keep."""
     keep = root / "companions" / "bagit-keep"
-    companions["bagit-keep"] = companion_options(keep)
+    found = {"bagit": program_options(), "bagit-renew": renewing_options(), "bagit-keep": companion_options(keep)}
     for command in re.findall(r"^  ([a-z]+) ", output_of(keep, "--help"), re.M):
-        companions[f"bagit-keep-{command}"] = companion_options(keep, command)
-    for name, options in {"bagit": program_options(), "bagit-renew": renewing_options(), **companions}.items():
-        page = root / "docs" / f"{name}.1"
+        found[f"bagit-keep {command}"] = companion_options(keep, command)
+    return found
+
+
+def compare_options():
+    """The options of each manual page are those of the sources; those of a command of bagit-keep are those of its --help."""
+    for name, options in programs().items():
+        page = root / "docs" / f"{name.replace(' ', '-')}.1"
         listed = options_in(text_of(page).partition("\n.SH OPTIONS")[2].split("\n.SH ")[0])
         for option in options | listed:
             compare("option", page, option, option in options & listed)
-    readme = part_of(text_of(root / "README.md"), "Options", "Exit statuses")
-    large_bags = part_of(text_of(root / "docs" / "LARGE_BAGS.md"), "A check that survives", "Many bags")
-    of_large, of_renewing = (options - {"--help", "-h"} for options in (companions["bagit-check-large"], renewing_options()))
-    of_pages = ("README.md", readme, program_options()), ("docs/LARGE_BAGS.md", large_bags, of_large)
-    for name, text, options in *of_pages, ("docs/RENEWING.md", text_of(root / "docs/RENEWING.md"), of_renewing):
-        for option in options:
-            compare("option", root / name, f"{option} isn't named", option in options_in(text))
-    for option in options_in("\n".join(re.findall(r"^\| (.*?) \|", readme, re.M))):
-        compare("option", root / "README.md", option, option in program_options())
+
+
+def commands_in(text):
+    """The commands of a page, in blocks and between backticks, each without what follows ` -- `."""
+    lines = re.findall(r"^(?:    | *\$ )(.*)$", re.sub(r"\\\n *", "", text), re.M) + quoted(text)
+    for line in lines:
+        for command in re.split(r"&&|\|\||[|;()]", line.removeprefix("$ ")):
+            yield command.partition(" -- ")[0].partition(" #")[0].split()
+
+
+def compare_commands(page, text):
+    """Each option of a command on a page is one of that program."""
+    for words in commands_in(text):
+        name = " ".join(words[:2]) if words[:1] == ["bagit-keep"] and len(words) > 1 else " ".join(words[:1])
+        if name.startswith("bagit") and (name in programs() or words[0] == "bagit-keep"):
+            for option in options_in(" ".join(words)):
+                is_there = option in programs().get(name, ()) or option in ("-h", "--help")
+                compare("option of a command", page, f"{name} {option}", is_there)
 
 
 def links_from_readme():
@@ -289,107 +288,17 @@ def compare_answers(pages):
         compare("answer", page, question, is_near and re.search(form, text_of(page), re.M | re.S))
 
 
-def answer_of(lines):
-    """What a function answers, by the lines from its first on: its head ends at a clause or its body."""
-    head = lines[0]
-    for line in lines[1:]:
-        if head.endswith(("{", ";")) or re.match(r" *(?:ensures|requires|where|ghost|\{)", line):
-            break
-        head += line
-    return head.partition("->")[2].rstrip(" {;,")
-
-
-def public_functions():
-    """The public functions of the libraries: crate, type (none of a free function, `laws` of a law), name and answer."""
-    for path in sorted(crates.glob("bag_*/src/*.rt")):
-        crate, lib, owner = path.parts[-3], text_of(path.parent / "lib.rt"), ""
-        exported = set(re.findall(r"\w+", " ".join(re.findall(r"^pub use (?!bag_)\w+::([^;]*);", lib, re.M))))
-        lines = text_of(path).splitlines()
-        for number, line in enumerate(lines):
-            if block := re.match(r"impl(?:<.*?>)? (\w.* for )?(\w+)|(pub )?trait (\w+)", line):
-                owner = "" if block[1] else block[2] or block[4]
-                is_trait = bool(block[3])
-            elif line == "}":
-                owner = ""
-            found = re.match(r"( *)(pub )?(?:const )?fn (\w+)", line)
-            if found and path.stem == "laws":
-                yield crate, "laws", found[3], ""
-            elif found and found[1] and owner in exported and (found[2] or is_trait):
-                yield crate, owner, found[3], answer_of(lines[number:])
-            elif found and not found[1] and found[2] and found[3] in exported:
-                yield crate, "", found[3], answer_of(lines[number:])
-
-
-def calls_with_rows(text):
-    """The calls of the table of docs/CALLS.md that says why each may fail, as type and name."""
-    cells = re.findall(r"^\| (`.*?) \|", part_of(text, "Why a call may fail", "Calls that fail for memory"), re.M)
-    return {("", *name.split("::"))[-2:] for cell in cells for name in quoted(cell)}
-
-
-def lists_of_calls(text):
-    """The calls without a row, by their types: those that fail for memory alone, and those that never do."""
-    lists = {"memory": {}, "never": {}}
-    with_rows = calls_with_rows(text)
-    for crate, owner, name, answer in public_functions():
-        kind = "memory" if re.search(r"Result<.*\bAllocError>\)?$", answer) else "never"
-        if owner != "laws" and (owner, name) not in with_rows and (kind == "memory" or "Result<" not in answer):
-            lists[kind].setdefault(crate, []).append(f"{owner}::{name}".removeprefix("::"))
-    for kind, calls in lists.items():
-        rows = (f"| `{crate}` | {', '.join(f'`{name}`' for name in names)} |" for crate, names in calls.items())
-        yield f"calls {kind}", "\n".join(["| Of | Calls |", "|---|---|", *rows])
-
-
-def write_lists(page):
-    text = text_of(page)
-    for mark, made in lists_of_calls(text):
-        begin, _, rest = text.partition(f"<!-- {mark} -->\n")
-        text = f"{begin}<!-- {mark} -->\n\n{made}\n\n{rest[rest.index('<!-- end -->'):]}"
-    page.write_text(text)
-
-
-def compare_calls(page, text):
-    """Each public function has a row that says why it may fail, or its type says it and it is in a list."""
-    functions = list(public_functions())
-    known, listed = {(owner, name) for _, owner, name, _ in functions}, set()
-    files = [text_of(path) for path in sorted(crates.glob("bag_*/src/*.rt"))]
-    for line in re.findall(r"^\| `.*\|$", part_of(text, "Why a call may fail", "Calls that fail for memory"), re.M):
-        cells = [cell.strip() for cell in line.strip("|").split("|")]
-        for name in quoted(cells[0]):
-            compare("public call", page, name, ("", *name.split("::"))[-2:] in known)
-        items = [f"fn {name.split('::')[-1]}" for name in quoted(cells[0])]
-        own = [file for file in files if any(item in file for item in items)]
-        for clause in quoted("".join(cells[3:])):
-            is_there = clause[:1].isupper() or any(f"ensures {clause} {{" in file for file in own)
-            compare("clause of a call", page, f"{cells[0]}: {clause}", is_there)
-    for mark, made in lists_of_calls(text):
-        is_there = f"<!-- {mark} -->\n\n{made}\n\n<!-- end -->" in text
-        compare("list of calls", page, f"{mark!r} is another: tests/docs.py . --write makes it", is_there)
-        for crate, names in re.findall(r"^\| `(\w+)` \| (`.*?) \|$", made, re.M):
-            listed.update((crate, name) for name in quoted(names))
-    with_rows = calls_with_rows(text)
-    for crate, owner, name, _ in sorted(functions):
-        call = f"{owner}::{name}".removeprefix("::")
-        is_there = (owner, name) in with_rows or (crate, call) in listed
-        if owner != "laws":
-            compare("public function", page, f"of {crate} without a row: {call}", is_there)
-
-
-def compare_laws(page, text):
-    text += text_of(page.parent / "CALLS.md")
-    for crate, owner, name, _ in public_functions():
-        if owner == "laws":
-            compare("law", page, f"of {crate} that no sentence names: {name}", f"`{name}`" in text)
-
-
 def compare_form(page, text):
-    """Whom a page is for, and its lines: but for tables, marks for scripts, and words that can't be broken."""
-    lines = text.splitlines()
-    if page != root / "README.md":
-        is_said = len(lines) > 2 and lines[2].startswith("For ") and "README.md)" in text.split("\n\n")[1]
-        compare("first paragraph", page, "that doesn't say 'For ..', with a link to README.md", is_said)
-    for number, line in enumerate(lines, 1):
+    """A page's lines: but for tables, marks for scripts, and words that can't be broken."""
+    for number, line in enumerate(text.splitlines(), 1):
         is_free = line.startswith(("|", "<!--")) or any(len(word) > MOST_COLUMNS - 40 for word in line.split())
         compare("line", page, f"{number} of {len(line)} characters", is_free or len(line) <= MOST_COLUMNS)
+
+
+def compare_words(pages):
+    """How many words the pages have that somebody wrote."""
+    found = sum(len(text_of(page).split()) for page in pages if page.parent.name != "generated")
+    compare("words", root / "README.md", f"of all pages: {found}, of {MOST_WORDS} at most", found <= MOST_WORDS)
 
 
 def compare_lengths(page, text):
@@ -412,9 +321,9 @@ def compare_kit(pages):
     unicode = re.search(r"at Unicode (\d+\.\d+)", text_of(crate / "README.md"))[1]
     for form, right in (r"`([0-9a-f]{16})`", logic), (r"Unicode (\d+\.\d+)", unicode):
         found = [(page, number) for page in pages for number in re.findall(form, text_of(page))]
-        compare("number of the kit", root / "README.md", f"{right}, which no page names", found)
+        compare("number of the toolchain", root / "README.md", f"{right}, which no page names", found)
         for page, number in found:
-            compare("number of the kit", page, f"{number} should be {right}", number == right)
+            compare("number of the toolchain", page, f"{number} should be {right}", number == right)
 
 
 def compare_case_files():
@@ -429,12 +338,9 @@ def compare_case_files():
 
 
 def main():
-    if "--write" in sys.argv[2:]:
-        write_lists(root / "docs" / "CALLS.md")
-        text_of.cache_clear()
     sources = [path for form in ("*/src/*.rt", "*/specs/*.antt") for path in crates.glob(form)] + [root / "crates.txt"]
     words = {word for path in sources for word in re.findall(r"\w+", text_of(path))}
-    pages = sorted(path for folder in (".", "docs", "bench") for path in (root / folder).glob("*.md"))
+    pages = sorted(path for folder in (".", "docs", "docs/generated", "bench") for path in (root / folder).glob("*.md"))
     for page in pages:
         text = text_of(page)
         compare_files(page, text)
@@ -443,16 +349,18 @@ def main():
         compare_lengths(page, text)
         compare_quotations(page, text)
         compare_adaptors(page, text)
+        compare_commands(page, text)
         if page.name in WITH_NAMES:
             compare_names(page, text, words)
-    parts = [("MAP", compare_crates), ("MAP", compare_ways), ("FAULTS", compare_codes), ("TESTED", compare_cases)]
-    parts += [("TESTED", compare_counts), ("PROVED", compare_laws), ("CALLS", compare_calls)]
+    parts = [("ARCHITECTURE", compare_crates), ("FAULTS", compare_codes)]
+    parts += [("TESTING", compare_counts)]
     for name, compare_page in parts:
         page = root / "docs" / f"{name}.md"
         compare_page(page, text_of(page))
     compare_options()
     compare_answers(pages)
     compare_case_files()
+    compare_words(pages)
     kinds = KINDS
     if shutil.which("rt"):
         compare_kit(pages)

@@ -1,34 +1,73 @@
 """Sixty nights of `bagit-keep audit` over twenty bags, as tests/nights.sh says.
 
-usage: nights.py KEEP FOLDER
+usage: nights.py ROOT FOLDER
 
-KEEP is the command, FOLDER an empty one. BAGIT and BAGIT_RENEW name the programs.
+FOLDER is an empty one. BAGIT and BAGIT_RENEW name the programs. Each command is a process, forked from this one.
 """
 import hashlib
+import io
 import json
 import os
 import random
+import resource
 import shutil
 import signal
 import subprocess
 import sys
+import tempfile
 import time
 from pathlib import Path
 
-keep, work = sys.argv[1], Path(sys.argv[2])
+sys.path.insert(0, f'{sys.argv[1]}/companions')
+from bagitkeep import audit, commands, page, receive, renewal  # noqa: E402, F401  so that who is forked needs no file of them
+
+work = Path(os.path.realpath(sys.argv[2]))
 store, register = work / 'store', work / 'register'
 who = ['--by', 'Ada', '--why', 'a test']
 seen = 0
 
 
+def begin(*words, env=None, blocks=None):
+    """Begins a command, which may write no file of more than so many blocks of 512 bytes."""
+    out, said = tempfile.TemporaryFile(), tempfile.TemporaryFile()
+    number = os.fork()
+    if number:
+        return number, out, said
+    try:
+        os.dup2(out.fileno(), 1)
+        os.dup2(said.fileno(), 2)
+        os.environ.update(env or {})
+        if blocks is not None:
+            signal.signal(signal.SIGXFSZ, signal.SIG_DFL)
+            resource.setrlimit(resource.RLIMIT_FSIZE, (blocks * 512, blocks * 512))
+        sys.argv = ['bagit-keep', *map(str, words)]
+        sys.stdout = io.TextIOWrapper(io.FileIO(1, 'w', closefd=False), encoding='utf-8')
+        sys.stderr = io.TextIOWrapper(io.FileIO(2, 'w', closefd=False), encoding='utf-8')
+        commands.run()
+    finally:
+        os._exit(99)
+
+
+def end(begun):
+    """The status of a command, and what it wrote."""
+    number, *files = begun
+    status = os.waitstatus_to_exitcode(os.waitpid(number, 0)[1])
+    texts = []
+    for file in files:
+        file.seek(0)
+        texts.append(file.read().decode('utf-8', 'backslashreplace'))
+        file.close()
+    assert 'Traceback' not in texts[1], texts[1]
+    return status, *texts
+
+
 def run(*words, wanted=0, **how):
     """Runs a command, which has to end with this status; its lines."""
     global seen
-    ran = subprocess.run([keep, *map(str, words)], capture_output=True, text=True, timeout=300, **how)
-    said = f'{" ".join(map(str, words))}: {ran.returncode}, not {wanted}\n{ran.stdout}{ran.stderr}'
-    assert ran.returncode == wanted and 'Traceback' not in ran.stderr, said
+    status, out, said = end(begin(*words, **how))
+    assert status == wanted, f'{" ".join(map(str, words))}: {status}, not {wanted}\n{out}{said}'
     seen += 1
-    return ran.stdout.splitlines()
+    return out.splitlines()
 
 
 def make(place, text):
@@ -148,7 +187,7 @@ def night_renewed_while_replaced():
         script.write_text('\n'.join(['#!/bin/sh', *([instead, renews] if comes_first else [renews, instead])]) + '\n')
         script.chmod(0o755)
         words = ['renew', register, bag(15), '--', '--quiet', '--add', 'md5']
-        run(*words, wanted=3, env={**os.environ, 'BAGIT_RENEW': str(script)})
+        run(*words, wanted=3, env={'BAGIT_RENEW': str(script)})
         news(altered(15))
         remake(15, '15')
         news()
@@ -239,10 +278,6 @@ def night_received():
 
 def night_of_tars():
     """A bag in a .tar is kept as any other."""
-    helped = subprocess.run([os.environ['BAGIT'], '--help'], capture_output=True, text=True)
-    if ' --tar ' not in helped.stdout:
-        return
-
     def pack(text):
         make(work / 'packed/bag', text)
         subprocess.run(['tar', '-cf', packed, '-C', work / 'packed', 'bag'], check=True)
@@ -255,15 +290,22 @@ def night_of_tars():
     assert run('audit', register)[0].startswith('no news: 21 bags')
     whole = packed.read_bytes()
     was, now = (hashlib.sha256(it.encode()).hexdigest() for it in ('24', '2x'))
-    for changed, line in (
-        (whole.replace(b'24' + bytes(510), b'2x' + bytes(510)), f'fault {packed} 701 payload-sum-differs data/a sha256 - {was}:{now}'),
-        (whole[:1024], f'unread {packed} {packed} unread '),
+    block = b'24' + bytes(510)
+    assert whole.count(block) == 1
+    for changed, first, kinds in (
+        (b'2x' + bytes(510), 'news of 1 bag: 1 with faults, 1 altered', [f'fault {packed} 701 payload-sum-differs data/a sha256 - {was}:{now}']),
+        (b'24' + bytes(509) + b'x', 'news of 1 bag: 1 altered', []),
     ):
-        packed.write_bytes(changed)
+        packed.write_bytes(whole.replace(block, changed))
         said = run('audit', register, wanted=1)
-        assert len(said) == 3 and said[1].startswith(line), said
+        assert said[:-1] == [first, f'altered {packed} {hashlib.sha512(packed.read_bytes()).hexdigest()}', *kinds], said
         packed.write_bytes(whole)
         assert run('audit', register)[0].startswith('no news: 21 bags')
+    packed.write_bytes(whole[:1024])
+    said = run('audit', register, wanted=1)
+    assert len(said) == 3 and said[0] == 'news of 1 bag: 1 not read' and said[1].startswith(f'unread {packed} {packed} unread '), said
+    packed.write_bytes(whole)
+    assert run('audit', register)[0].startswith('no news: 21 bags')
     pack('another')
     assert run('audit', register, wanted=1)[0] == 'news of 1 bag: 1 altered'
     run('accept', register, packed, *who)
@@ -295,21 +337,19 @@ def night_moved_and_remade():
 def night_disk_full():
     """An audit that can write no file of more than so many blocks."""
     for blocks in 0, 8, 64, 200:
-        words = ['sh', '-c', f'ulimit -f {blocks}; exec "$@"', 'sh', keep, 'audit', register]
-        ran = subprocess.run(words, capture_output=True, text=True)
-        assert ran.returncode == 3 or (ran.returncode == 0 and blocks > 64), (blocks, ran)
-        assert ran.returncode == 0 or 'no news' not in ran.stdout, (blocks, ran)
+        status, out, said = end(begin('audit', register, blocks=blocks))
+        assert status in (3, -signal.SIGXFSZ) or (status == 0 and blocks > 64), (blocks, status, out, said)
+        assert status == 0 or 'no news' not in out, (blocks, out)
     change(13, 'x')
-    said = subprocess.run([keep, 'audit', register], capture_output=True, text=True)
-    assert said.returncode == 1 and damaged(13, '13', 'x') in said.stdout.splitlines(), said
+    assert damaged(13, '13', 'x') in run('audit', register, wanted=1)
     change(13, '13')
     news()
 
 
 def night_of_tasks():
     change(11, 'x')
-    tasks = [subprocess.Popen([keep, 'audit', register, '--task', f'{it}/8'], stdout=subprocess.DEVNULL) for it in range(1, 9)]
-    assert not any(task.wait() for task in tasks)
+    tasks = [begin('audit', register, '--task', f'{it}/8') for it in range(1, 9)]
+    assert not any(end(task)[0] for task in tasks)
     news(damaged(11, '11', 'x'))
     change(11, '11')
     news()
@@ -317,7 +357,7 @@ def night_of_tasks():
 
 def night_without_a_program():
     """Bags that nobody could check are news, each of them."""
-    said = run('audit', register, wanted=1, env={**os.environ, 'BAGIT': str(work / 'nowhere')})
+    said = run('audit', register, wanted=1, env={'BAGIT': str(work / 'nowhere')})
     assert said[0] == 'news of 20 bags: 20 not read', said
     news()
 
@@ -332,32 +372,30 @@ case "$*" in *bag-14) for r in {register}/rounds/0*; do last=$r; done
 exec "{os.environ['BAGIT']}" "$@"
 """)
     blocked.chmod(0o755)
-    said = subprocess.run(
-        [keep, 'audit', register, '--jobs', '1'], env={**os.environ, 'BAGIT': str(blocked)}, capture_output=True, text=True
-    )
-    assert said.returncode in (1, 3) and not said.stdout.startswith('no news'), said
+    status, out, _ = end(begin('audit', register, '--jobs', '1', env={'BAGIT': str(blocked)}))
+    assert status in (1, 3) and not out.startswith('no news'), out
     for name in set(os.listdir(register / 'rounds')) - before:
         (register / 'rounds' / name / 'records').unlink(missing_ok=True)
-    subprocess.run([keep, 'audit', register], capture_output=True)
+    end(begin('audit', register))
     news()
 
 
 def night_killed():
     change(12, 'x')
     begun = time.monotonic()
-    subprocess.run([keep, 'audit', register], capture_output=True)
+    run('audit', register, wanted=1)
     seconds = time.monotonic() - begun
     known(12)
     for _ in range(20):
-        killed = subprocess.Popen([keep, 'audit', register], stdout=subprocess.DEVNULL, stderr=subprocess.DEVNULL)
+        killed = begin('audit', register)
         time.sleep(random.uniform(0, seconds))
-        killed.send_signal(signal.SIGKILL)
-        killed.wait()
-        said = subprocess.run([keep, 'audit', register], capture_output=True, text=True)
-        lines = said.stdout.splitlines()
+        os.kill(killed[0], signal.SIGKILL)
+        end(killed)
+        status, out, said = end(begin('audit', register))
+        lines = out.splitlines()
         was_cut_off = any(line.startswith('cut-off - ') for line in lines)
-        assert said.returncode == (1 if was_cut_off else 0), said
-        assert not any(line.startswith(('fault', 'missing', 'unread', 'altered')) for line in lines), said
+        assert status == (1 if was_cut_off else 0), out + said
+        assert not any(line.startswith(('fault', 'missing', 'unread', 'altered')) for line in lines), out
     change(12, '12')
     news()
 
@@ -366,12 +404,12 @@ def night_of_two():
     slow = work / 'slow'
     slow.write_text(f'#!/bin/sh\n: >"{work}/begun"\nwhile [ ! -e "{work}/refused" ]; do sleep 0.1; done\nexec "{os.environ["BAGIT"]}" "$@"\n')
     slow.chmod(0o755)
-    first = subprocess.Popen([keep, 'audit', register, '--jobs', '20'], env={**os.environ, 'BAGIT': str(slow)}, stdout=subprocess.DEVNULL)
+    first = begin('audit', register, '--jobs', '20', env={'BAGIT': str(slow)})
     while not (work / 'begun').exists():
         time.sleep(0.1)
     run('audit', register, wanted=3)
     (work / 'refused').touch()
-    assert first.wait() == 0
+    assert end(first)[0] == 0
 
 
 def night_of_bits():
@@ -380,16 +418,15 @@ def night_of_bits():
     whole, said = path.read_bytes(), run('status', register)
     dumped = run('dump', register)
     told = 0
-    for _ in range(60):
+    for _ in range(40):
         place, bit = random.randrange(len(whole)), 1 << random.randrange(8)
         path.write_bytes(whole[:place] + bytes([whole[place] ^ bit]) + whole[place + 1:])
         for words, right in (('status', said), ('dump', dumped)):
-            ran = subprocess.run([keep, words, register], capture_output=True, text=True)
-            assert (ran.returncode, ran.stdout.splitlines()) == (0, right) or ran.returncode == 3, (place, bit, ran)
-            assert 'Traceback' not in ran.stderr, ran.stderr
-            told += ran.returncode == 3
+            status, out, _ = end(begin(words, register))
+            assert (status, out.splitlines()) == (0, right) or status == 3, (place, bit, out)
+            told += status == 3
     path.write_bytes(whole)
-    assert told > 20, told
+    assert told > 10, told
     shutil.copy(register / 'register.copy', path)
     assert run('status', register)[0] == said[0]
     path.write_bytes(whole)

@@ -14,4 +14,4 @@ take_program bagit "${1:-}"
 export BAGIT=$program PYTHONDONTWRITEBYTECODE=1
 needs python3
 enter nights
-python3 "$root/tests/nights.py" "$root/companions/bagit-keep" "$work"
+python3 "$root/tests/nights.py" "$root" "$work"

@@ -25,29 +25,23 @@ dpkg-deb --info "$package" control | grep -qx "Version: $(<"$root/VERSION")" || 
 dpkg-deb --control "$package" control
 (cd tree && md5sum --check --quiet ../control/md5sums)
 
-# The programs: bagit, bagit-renew, each script beside them, and bagit-keep.
+# The programs: bagit, bagit-renew and bagit-keep.
 export PATH=$work/tree/usr/bin:$PATH PYTHONDONTWRITEBYTECODE=1
 programs=$(ls tree/usr/bin)
-diff <(cd "$root/packaging" && printf '%s\n' bagit bagit-keep bagit-renew bagit-* | sort) <(sort <<<"$programs") ||
+diff <(printf '%s\n' bagit bagit-keep bagit-renew) <(sort <<<"$programs") ||
     give_up 'it has other programs'
 ! grep -rl @VERSION@ tree || give_up 'a version is missing'
 
-# The program, the one that renews what it has made, and the one that checks large bags by it.
+# The program, the one that renews what it has made, and a large bag.
 [[ $(bagit) == 'sample has a good declaration' ]] || give_up 'the program does not check its sample'
 mkdir deposit
 echo a >deposit/a
 bagit deposit >printed
 [[ $(bagit-renew --add md5 deposit) == 'deposit renewed' && -s deposit/manifest-md5.txt ]] || give_up 'bagit-renew does not renew'
-bagit-check-large deposit report >printed
+bagit-keep check --wait 0 deposit report >printed
 diff report - <<<'deposit is valid'
-bagit-check-large --jobs 2 deposit in_parts >printed
+bagit-keep check --wait 0 --jobs 2 --parts 3 deposit in_parts >printed
 diff in_parts report
-bagit-check-large --help >printed
-diff <(cd "$root/packaging/lib" && ls) <(ls tree/usr/lib/bagit) || give_up 'it has other modules'
-status=0
-cp tree/usr/bin/bagit-check-large alone
-./alone deposit unwritten 2>printed || status=$?
-[[ $status == 3 && ! -e unwritten ]] || give_up "bagit-check-large ends with $status without its modules"
 
 # bagit-keep, and its package.
 diff <(cd "$root/companions/bagitkeep" && ls *.py templates) <(cd tree/usr/lib/python3/dist-packages/bagitkeep && ls *.py templates) ||
@@ -57,35 +51,26 @@ bagit-keep round round deposit >printed
 [[ $(bagit-keep report --round round) == "{\"bag\": \"$work/deposit\", \"ended\": \"is valid\"}" ]] || give_up 'bagit-keep makes no round'
 for command in $(bagit-keep --help | sed -nE 's/^  ([a-z]+) .*/\1/p'); do programs+=" bagit-keep-$command"; done
 
-# If the program is killed in the middle of a piece, no report is closed; started again, it goes on. A report that can't
-# be written doesn't end as one with faults.
+# If the program is killed in the middle, no report is closed; started again, it goes on. A report that can't be written doesn't end as
+# one with faults.
 echo b >deposit/data/b
 echo x >>deposit/data/a
 printf '#!/bin/sh\nbagit "$@" | head -c 250; exit 137\n' >killed
 chmod +x killed
 status=0
-BAGIT=$work/killed bagit-check-large deposit faults 2>printed || status=$?
-[[ $status == 3 && ! -e faults && -s faults.part ]] ||
-    give_up "bagit-check-large ends with $status if the program is killed"
+BAGIT=$work/killed bagit-keep check --wait 0 --tries 1 deposit faults 2>printed || status=$?
+[[ $status == 3 && ! -e faults && -e faults.parts ]] || give_up "bagit-keep check ends with $status if the program is killed"
 status=0
-bagit-check-large deposit faults >printed 2>errors || status=$?
+bagit-keep check --wait 0 --tries 1 deposit faults 2>printed || status=$?
+[[ $status == 2 && $(<printed) == *'of a check of another bagit'* ]] || give_up "bagit-keep check ends with $status for another bagit"
+rm -r faults.parts
+status=0
+bagit-keep check deposit faults >printed 2>errors || status=$?
 [[ $status == 1 ]] && ! bagit --validate deposit >printed
-diff faults printed || give_up 'bagit-check-large goes on otherwise after the program was killed'
+diff faults printed || give_up 'bagit-keep check writes another report'
 status=0
-bagit-check-large deposit nowhere/faults 2>printed || status=$?
-[[ $status == 3 ]] || give_up "bagit-check-large ends with $status where the report can't be written"
-printf '#!/bin/sh\nwhile [ ! -e asked ]; do sleep 0.1; done\nexec bagit "$@"\n' >slow
-chmod +x slow
-BAGIT=$work/slow bagit-check-large deposit twice >first_printed 2>&1 &
-until [[ -e twice.part ]]; do sleep 0.1; done
-status=0
-bagit-check-large deposit twice 2>printed || status=$?
-touch asked
-[[ $status == 3 && $(<printed) == *'another bagit-check-large writes twice' ]] ||
-    give_up "a second bagit-check-large ends with $status"
-wait "$!" || [[ $? == 1 ]]
-diff twice faults || give_up 'bagit-check-large was disturbed by a second one'
-[[ ! $(ls faults.* report.* twice.* 2>/dev/null) ]] || give_up "bagit-check-large leaves $(ls faults.* report.*)"
+bagit-keep check deposit nowhere/faults 2>printed || status=$?
+[[ $status == 3 ]] || give_up "bagit-keep check ends with $status where the report can't be written"
 
 # The manual pages have no warnings, and show no line of markup.
 share=$work/tree/usr/share
@@ -97,11 +82,11 @@ for page in man7/bagit-faults $(printf 'man1/%s\n' $programs); do
     if type -P man >/dev/null; then
         LC_ALL=C.UTF-8 MANWIDTH=100 man --warnings -l page >rendered 2>warnings
         [[ ! -s warnings && $(wc -l <rendered) -gt 30 ]] || { cat warnings; give_up "$page is not rendered"; }
-        ! grep -nE '^ *\.[A-Z]|\\f|`|\*\*' rendered || give_up "$page shows markup"
+        ! grep -nE '^ *\.[A-Z]{1,2}( |$)|\\f|`|\*\*' rendered || give_up "$page shows markup"
         pages=$((pages + 1))
     fi
 done
-sed -n 's/^| \([1-8][0-9][0-9]\) | `\([a-z0-9-]*\)`.*/\1 \2/p' "$root/docs/FAULTS.md" | sort >written
+sed -n 's/^| *\([1-8][0-9][0-9]\) *| *`\([a-z0-9-]*\)`.*/\1 \2/p' "$root/docs/FAULTS.md" | sort >written
 manual man7/bagit-faults | sed -n 's/^\.B \([1-8][0-9][0-9] [a-z0-9-]*\)$/\1/p' | sort | diff written - ||
     give_up 'bagit-faults(7) has other codes than docs/FAULTS.md'
 [[ $(wc -l <written) -gt 40 ]] || give_up 'docs/FAULTS.md has no codes'
@@ -173,9 +158,9 @@ completes 'photographs plans profile.json' bagit-keep edit photographs p
 completes '--version' bagit-keep --v
 completes 'page premis' bagit-keep p
 completes '' bagit-keep other p
-completes 'photographs plans profile.json' bagit-check-large --profile = p
-completes 'photographs plans profile.json' bagit-check-large photographs p
-completes '' bagit-check-large -- --p
+completes 'photographs plans profile.json' bagit-keep check --profile = p
+completes 'photographs plans profile.json' bagit-keep check photographs p
+completes '' bagit-keep check -- --p
 completes 'photographs plans' bagit-keep round round p
 completes 'photographs plans profile.json' bagit-keep round round --list = p
 completes 'photographs plans' bagit-keep round --since p

@@ -9,7 +9,7 @@ import sys
 
 ALGORITHMS = ("md5", "sha1", "sha256")
 NAMES = ("a", "b", "c d", "%", "é", "e\u0301", "it's", "z\n", "-n", "ü" * 40)
-DONE = re.compile(r"d part (\d+) of (\d+) (done|rest done), files: (\d+), bytes: (\d+), faults: (\d+)")
+DONE = re.compile(r"d part (\d+) of (\d+) (done|rest done), files: (\d+), bytes: (\d+)(, clashes)?, faults: (\d+)")
 COUNTS = dict.fromkeys(("bags", "parts", "cursors", "stops", "altered"), 0)
 
 
@@ -72,7 +72,7 @@ def check_part(program, number, parts, *words, how="done"):
     """The faults of a part, whose closing line must tell it, and whose status must be 1."""
     lines, status = run(program, "--part", f"{number}/{parts}", *words)
     ended = DONE.fullmatch(lines[-1]) if lines else None
-    wanted = (str(number), str(parts), how, *map(str, listed()), str(len(lines) - 1))
+    wanted = (str(number), str(parts), how, *map(str, listed()), ", clashes" if "--clashes" in words else None, str(len(lines) - 1))
     if status != 1 or not ended or ended.groups() != wanted:
         raise Wrong(f"part {number} of {parts} ends with {status} and {lines[-1:]}, wanted {wanted}")
     COUNTS["parts"] += 1

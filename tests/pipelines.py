@@ -30,7 +30,7 @@ HELLO = {"md5": "b1946ac92492d2347c6235b4d2611184", "sha1": "f572d396fae92066287
 OTHER_HELLO = "09f7e02f1290be211da707a266f153b3"
 NAMES = [b"-x", b"--validate", b"new\nline", b"\x1b[2J", b"caf\xe9", b" ", b"%41", b"d is valid", "\u00e9".encode(), b"a" * 255]
 OLD = "BagIt-Version: 0.97\nTag-File-Character-Encoding: UTF-8\n"
-LARGE = 1 << 18
+LARGE = 1 << 26
 DELAYS = 0, 0.01, 0.05, 0.2
 WORKERS, TIMES = 3, 2
 

@@ -1,14 +1,14 @@
 #!/usr/bin/env bash
-# Follows the pages for users as they are written: README's sessions, with what they say that is printed, and its
-# commands; the ways back of docs/NOT_MADE.md, over folders as a making leaves them, and in others; the commands of
-# docs/RENEWING.md, of good bags and damaged ones; the scripts of docs/LARGE_BAGS.md over 40 bags of which five are bad;
-# the commands of docs/FAULTS.md, which mend no damage away, replace no better file and run no name; the keys of
-# docs/PROFILES.md; what docs/LIBRARY.md quotes.
+# Follows the pages for users as they are written: the sessions of README, GUIDE and PROFILES, with what they say that
+# is printed, and README's commands; the ways back of docs/RECOVERY.md, over folders as a making leaves them, and in
+# others; the commands of docs/UPDATING.md, of good bags and damaged ones; those of docs/OPERATIONS.md over deposits, over
+# 40 bags of which five are bad, and night by night; the commands of docs/FAULTS.md, which mend no damage away, replace no
+# better file and run no name; the keys of docs/PROFILES.md; the example of docs/FAQ.md; what docs/LIBRARY.md quotes.
 #
 # usage: tests/readme.sh [PROGRAM [RENEWING]]
 #
-# PROGRAM is crates/bagit/out/bagit by default, and RENEWING crates/bagit_renew/out/bagit_renew. It needs Python, and rt for README's first look; GNU parallel is tried
-# where it is there. The last line says how much was followed.
+# PROGRAM is crates/bagit/out/bagit by default, and RENEWING crates/bagit_renew/out/bagit_renew. It needs Python, and rt
+# for README's first look. The last line says how much was followed.
 set -euo pipefail
 source "$(dirname "$0")/common.sh"
 take_program bagit_renew "${2:-}"
@@ -20,7 +20,7 @@ enter pages
 mkdir bin
 ln -s "$program" bin/bagit
 ln -s "$renewing" bin/bagit-renew
-ln -s "$root"/packaging/bagit-* "$root"/companions/bagit-keep bin/
+ln -s "$root/companions/bagit-keep" bin/
 export PATH=$work/bin:$PATH
 followed=0
 
@@ -56,45 +56,69 @@ follow() { # PAGE HEADING NUMBER [TEXT OTHER]..
     bash <<<"$way"
 }
 
+# Ends the script with what was printed last.
+wrong() {
+    cat "$work/printed"
+    give_up "$*"
+}
+
 # Runs a command that has to fail; what it prints is in `printed`.
 fails() { # WHAT COMMAND..
     ! "${@:2}" >printed 2>&1 || give_up "$1: ${*:2} ends with 0"
 }
 
 # README's first look builds the program without its proofs, which takes a while: that is done beside all else.
-mkdir -p look session installed/bin
+mkdir -p look installed/bin
 echo a >look/a
 bagit --quiet look
-(cd "$root" && follow README.md 'A first look, and two commands' 1 /path/to/a/bag "$work/look") >looked 2>&1 &
+(cd "$root" && follow README.md Install 4 /path/to/a/bag "$work/look") >looked 2>&1 &
 looks=$!
 trap 'wait; rm -rf "$work"' EXIT
 
-# README's sessions: what is below a line "$ COMMAND" is what it prints. A file that a command shows, and that isn't
-# there, is made first; `ls` writes in columns to a terminal alone.
-follow_sessions() {
-    local line command='' wanted='' status=0
+# Sessions: what is below a line "$ COMMAND" is what it prints. A file that a command shows, and that isn't there, is made
+# first; `ls` writes in columns to a terminal alone. The sessions are in a folder `/home/ann`.
+follow_sessions() { # PAGE HEADING..
+    local page=$1 line command='' wanted='' status=0
     compare() {
         local ended=0
         [[ $command ]] || return 0
         [[ $command != cat\ * || -e ${command#cat } ]] || printf '%s' "$wanted" >"${command#cat }"
         eval "${command/'$?'/$status}" >"$work/printed" 2>&1 || ended=$?
         status=$ended
-        printf '%s' "$wanted" | diff - "$work/printed" || give_up "README: $command prints something else"
+        printf '%s' "${wanted//'/home/ann'/$PWD}" | diff - "$work/printed" || give_up "$page: $command prints something else"
         followed=$((followed + 1))
     }
     while IFS= read -r line; do
         case $line in
             '$ '*) compare; command=${line#'$ '} wanted='' ;;
-            $'\f' | '') ;;
-            *) wanted+=$line$'\n' ;;
+            $'\f') compare; command='' wanted='' ;;
+            '') ;;
+            *) [[ ! $command ]] || wanted+=$line$'\n' ;;
         esac
-    done < <(blocks README.md bagit; blocks README.md 'Stopping, and checking by a profile')
-    compare
+    done < <(for heading in "${@:2}"; do blocks "$page" "$heading"; done)
 }
-
-(cd session && follow_sessions && echo "$followed" >"$work/followed")
-followed=$(<followed)
-((followed > 10)) || give_up 'README: its sessions were not found'
+for way in 'README.md|bagit' 'docs/GUIDE.md|1. Create a bag|2. Check it' 'docs/PROFILES.md|Checking by a profile'; do
+    rm -rf session
+    mkdir session
+    IFS='|' read -r -a headings <<<"$way"
+    (
+        cd session
+        if [[ ${headings[0]} == *PROFILES* ]]; then
+            mkdir letters
+            echo a >letters/a
+            bagit --quiet letters
+        fi
+        followed=0
+        follow_sessions "${headings[@]}"
+        if [[ ${headings[0]} == *GUIDE* ]]; then
+            follow "${headings[0]}" '3. Read the report' 1 >"$work/printed" 2>&1 && diff -r letters backup || wrong 'docs/GUIDE.md: nothing is restored'
+        fi
+        echo "$followed" >"$work/followed"
+    )
+    (($(<followed) > 1)) || give_up "${headings[0]}: its session was not found"
+    followed=$((followed + $(<followed)))
+done
+((followed > 12)) || give_up 'the sessions were not found'
 
 # A bag with a file whose name would run `touch pwned`.
 hostile=$'it\'s;touch${IFS}pwned;$(touch pwned)`touch pwned`"\\x41 50%'
@@ -107,41 +131,37 @@ new_hostile() {
 }
 runs_nothing() { [[ ! $(find . -name pwned) ]] || give_up "$1: a name ran a command"; }
 
-# README goes on after a line of it.
+# A check goes on after a line of its report.
 new_hostile letters
 rm "letters/data/$hostile"
-fails README bagit --validate --max-faults 2 letters
+fails GUIDE bagit --validate --max-faults 2 letters
 mv printed report
-goes_on=$(blocks README.md 'Stopping, and checking by a profile' | sed -n 's/^\$ \(.* --after .*\)/\1/p')
-fails README eval "$goes_on"
-[[ $(tail -n 1 printed) == 'letters rest done, faults: 1' ]] || give_up "README: $goes_on says $(<printed)"
-runs_nothing README
+goes_on=$(blocks docs/GUIDE.md '2. Check it' | sed -n 's/^\$ \(.* --after .*\) >rest.*/\1/p')
+fails GUIDE eval "$goes_on"
+[[ $(tail -n 1 printed) == 'letters rest done, faults: 1' ]] || give_up "GUIDE: $goes_on says $(<printed)"
+runs_nothing GUIDE
 rm -r letters report
 
-# README's two commands, by a stand-in for rt; the gate, which runs this script, isn't run. What is installed runs.
-cat >rt <<END
+# README's commands that build, by a stand-in for rt; then what is installed runs.
+[[ $(block README.md Install 1) == "apt install ./bagit_$(<"$root/VERSION")_amd64.deb" ]] || give_up 'README: the package has another name'
+way=$(block README.md Install 2)
+[[ $way == packaging/build && -x $root/$way ]] || give_up "README: there is no $way"
+cat >rt <<'END'
 #!/usr/bin/env bash
-[[ \${PWD##*/} == bagit && "\$1 \$2 \$4" == 'run --jobs --' ]] && exec "$program" "\${@:5}"
+[[ "$1 $2 $3 $4 $5" == 'run --jobs 2 -- --help' ]] && echo "${PWD##*/}" >>"$BUILT"
 END
 chmod +x rt
-mapfile -t commands < <(block README.md 'A first look, and two commands' 2 | grep -v '^#')
-[[ ${#commands[@]} == 2 && ${commands[1]} == 'bash .ci/run' && -x $root/.ci/run ]] && bash -n "$root/.ci/run" ||
-    give_up 'README: the gate is another command'
-(cd "$root" && PATH=$work:$PATH bash <<<"${commands[0]/"/path/to/a/bag"/$work/look}") >printed || true
-[[ $(<printed) == "$work/look is valid" ]] || give_up "README: ${commands[0]} says $(<printed)"
+way=$(block README.md Install 3)
+way=${way//"/usr/local/"/"$work/installed/"}
+way=${way/"crates/bagit/out/bagit "/"$work/bin/bagit "} way=${way/"crates/bagit_renew/out/bagit_renew "/"$work/bin/bagit-renew "}
+(cd "$root" && BUILT=$work/built PATH=$work:$PATH bash -e <<<"$way") >printed 2>&1 || { cat printed; give_up 'README: nothing is installed'; }
+[[ $(<built) == $'bagit\nbagit_renew' ]] || give_up "README: these are built: $(<built)"
 rm rt
-(cd "$root" && follow README.md Install 1 crates/bagit/out/bagit "$work/bin/bagit" /usr/local/ "$work/installed/")
-for companion in installed/bin/bagit-*; do
-    "$companion" --help >printed && [[ -s printed ]] || give_up "README: $companion is not installed"
+for installed in bagit-renew bagit-keep; do
+    "installed/bin/$installed" --help >printed && [[ -s printed ]] || give_up "README: $installed is not installed"
 done
 [[ $(installed/bin/bagit) == 'sample has a good declaration' ]] || give_up 'README: bagit is not installed'
-followed=$((followed + 4))
-
-# Ends the script with what was printed last.
-wrong() {
-    cat printed
-    give_up "$*"
-}
+followed=$((followed + 6))
 
 # A folder, and what a making that was cut off leaves of it.
 new_folder() {
@@ -158,15 +178,15 @@ new_folder() {
 # followed once more, or in a bag where no folder has the name, it changes nothing.
 goes_back() { # NUMBER WHAT-IS-THERE
     local count=$(ls photographs | grep -c 'txt$')
-    block docs/NOT_MADE.md 'If making a bag failed or was interrupted' "$1" >way
-    [[ -s way ]] || give_up "docs/NOT_MADE.md: no way back $1"
-    bash way >printed 2>&1 || wrong "docs/NOT_MADE.md: way back $1 ended with an error"
-    diff -r whole photographs || give_up "docs/NOT_MADE.md: way back $1 leaves something else ($2)"
-    [[ $1 == 1 || $(ls photographs.kept | wc -l) == "$count" ]] || give_up "docs/NOT_MADE.md: tag files are lost ($2)"
-    fails "docs/NOT_MADE.md: way back $1, once more" bash way
-    diff -r whole photographs || give_up "docs/NOT_MADE.md: way back $1, once more, changes the folder ($2)"
-    fails "docs/NOT_MADE.md: way back $1, elsewhere" env -C letters bash ../way
-    diff -r letters other || give_up "docs/NOT_MADE.md: way back $1, in a bag, changes it"
+    block docs/RECOVERY.md "A bag wasn't created" "$1" >way
+    [[ -s way ]] || give_up "docs/RECOVERY.md: no way back $1"
+    bash way >printed 2>&1 || wrong "docs/RECOVERY.md: way back $1 ended with an error"
+    diff -r whole photographs || give_up "docs/RECOVERY.md: way back $1 leaves something else ($2)"
+    [[ $1 == 1 || $(ls photographs.kept | wc -l) == "$count" ]] || give_up "docs/RECOVERY.md: tag files are lost ($2)"
+    fails "docs/RECOVERY.md: way back $1, once more" bash way
+    diff -r whole photographs || give_up "docs/RECOVERY.md: way back $1, once more, changes the folder ($2)"
+    fails "docs/RECOVERY.md: way back $1, elsewhere" env -C letters bash ../way
+    diff -r letters other || give_up "docs/RECOVERY.md: way back $1, in a bag, changes it"
     followed=$((followed + 1))
 }
 mkdir -p letters/data
@@ -201,11 +221,11 @@ pictured() { # TAG-FILE ANSWER ROW
     rm -rf pictured
     mkdir -p pictured/b ${1:+"pictured/$1"}
     touch pictured/a.txt pictured/b/c.txt
-    [[ $(bagit pictured || true) == "pictured $2" ]] || give_up "docs/NOT_MADE.md: the step of $1 has another number"
-    read -r -a names < <(sed -n "s/^$3  //p" "$root/docs/NOT_MADE.md") || true
-    ((${#names[@]} > 2)) || give_up "docs/NOT_MADE.md: its picture has no row $3"
+    [[ $(bagit pictured || true) == "pictured $2" ]] || give_up "docs/RECOVERY.md: the step of $1 has another number"
+    read -r -a names < <(sed -n "s/^$3  //p" "$root/docs/RECOVERY.md") || true
+    ((${#names[@]} > 2)) || give_up "docs/RECOVERY.md: its picture has no row $3"
     for name in "${names[@]}"; do
-        [[ $name != */* || -e pictured/$name ]] || give_up "docs/NOT_MADE.md: in the row $3 there is no $name"
+        [[ $name != */* || -e pictured/$name ]] || give_up "docs/RECOVERY.md: in the row $3 there is no $name"
     done
     followed=$((followed + 1))
 }
@@ -265,12 +285,12 @@ new_bag() {
     done
     bagit --validate photographs >printed || wrong 'the bag that is to be changed is not valid'
 }
-mapfile -t changes < <(block docs/NOT_MADE.md 'Changing a bag' 1)
-((${#changes[@]} == 4)) || give_up "docs/NOT_MADE.md: ${#changes[@]} ways to change a bag"
+mapfile -t changes < <(block docs/UPDATING.md 'Add, remove or rename payload files' 1)
+((${#changes[@]} == 4)) || give_up "docs/UPDATING.md: ${#changes[@]} ways to change a bag"
 
 # Changes the bag; it is valid then, with its elements and tag files and the payload that it should have, and the old one is kept.
 is_changed_by() { # CHANGE
-    local page="docs/NOT_MADE.md: '$1'" others
+    local page="docs/UPDATING.md: '$1'" others
     bash <<<"$1" >printed 2>&1 || wrong "$page fails"
     bagit --validate --quiet photographs photographs.kept.* >printed || wrong "$page leaves no valid bag"
     diff -r whole photographs/data || give_up "$page makes another payload"
@@ -300,18 +320,18 @@ mkdir held
 cp -a photographs letters scans held/
 for path in 'remove ../letters' 'remove ../photographs/data/2024/a' 'remove data/2024/..' 'add letters --to ../scans/data' \
     'add letters --to data/2024/../../../scans/data/' 'rename data/2024 ../scans/data/2024' "rename data/2024 $work/scans/data/x"; do
-    fails docs/NOT_MADE.md bagit-keep repack photographs $path
+    fails docs/UPDATING.md bagit-keep repack photographs $path
     for name in photographs letters scans; do
-        diff -r "$name" "held/$name" || give_up "docs/NOT_MADE.md: $path changes $name"
+        diff -r "$name" "held/$name" || give_up "docs/UPDATING.md: $path changes $name"
     done
-    [[ ! -e photographs.new ]] || give_up "docs/NOT_MADE.md: $path is begun"
+    [[ ! -e photographs.new ]] || give_up "docs/UPDATING.md: $path is begun"
     followed=$((followed + 1))
 done
 rm -r held
 
 # Damage that comes at the Nth call of bagit stops the change, and the bag stays where it is.
 stops() { # CHANGE MESSAGE N before|after COMMAND
-    local page="docs/NOT_MADE.md: '$1', with '${*:5}' $4 call $3"
+    local page="docs/UPDATING.md: '$1', with '${*:5}' $4 call $3"
     between bagit "$3" "$4" "${*:5}"
     tells_damage "$page" damage "$1"
     [[ -d photographs && ! $(compgen -G 'photographs.kept.*') ]] || wrong "$page goes on"
@@ -370,7 +390,7 @@ for spelling in 's/  / */' 's/$/\r/' 's/^[0-9a-f]*/\U&/; s/  / \t.\//' '1s/^/\xe
 done
 
 # One bag becomes two; what is in both, or in none, is named.
-split=$(block docs/NOT_MADE.md 'Changing a bag' 2)
+split=$(block docs/UPDATING.md 'Add, remove or rename payload files' 2)
 for damage in true 'photographs data/2023/a' 'drafts data/drafts/d'; do
     rm -rf photographs* drafts*
     mkdir -p photographs/{2023,2024,drafts}
@@ -378,15 +398,15 @@ for damage in true 'photographs data/2023/a' 'drafts data/drafts/d'; do
     bagit --quiet --sha256 photographs
     gone=true
     [[ $damage == true ]] || gone="bagit-keep repack ${damage/ / remove } 2>&1 | sed -n 's/.*the old bag is //p' | xargs rm -r"
-    tells_damage 'docs/NOT_MADE.md: a bag that is split' "$damage" "${split/$'\nsort'/$'\n'"$gone"$'\nsort'}"
+    tells_damage 'docs/UPDATING.md: a bag that is split' "$damage" "${split/$'\nsort'/$'\n'"$gone"$'\nsort'}"
 done
 
 # A bag elsewhere is one of the folder; what copying flips or loses, and a name that is there, is found.
 elsewhere() { # BLOCK DAMAGE: of the copy
     local way
-    way=$(block docs/NOT_MADE.md 'Making one elsewhere' "$1")
+    way=$(block docs/GUIDE.md '4. Store it' "$1")
     between cp 1 after "$2"
-    tells_damage "docs/NOT_MADE.md: elsewhere, block $1" "$2" "${way//"/archive/"/$work/archive/}"
+    tells_damage "docs/GUIDE.md: elsewhere, block $1" "$2" "${way//"/archive/"/$work/archive/}"
 }
 for copied in '1 data/a' '3 a'; do
     read -r number file <<<"$copied"
@@ -396,12 +416,12 @@ for copied in '1 data/a' '3 a'; do
         mkdir archive
         elsewhere "$number" "$damage"
     done
-    diff -r whole archive/photographs/data || give_up "docs/NOT_MADE.md: elsewhere, block $number makes another bag"
+    diff -r whole archive/photographs/data || give_up "docs/GUIDE.md: elsewhere, block $number makes another bag"
     new_folder
     rm -rf there
     cp -a archive/photographs there
     elsewhere "$number" 'echo the name is there'
-    diff -r there archive/photographs || give_up "docs/NOT_MADE.md: elsewhere, block $number copies into a bag"
+    diff -r there archive/photographs || give_up "docs/GUIDE.md: elsewhere, block $number copies into a bag"
 done
 new_folder
 elsewhere 2 true
@@ -409,33 +429,10 @@ diff -r whole photographs
 diff -r whole photographs.bag/data
 bagit --validate --quiet photographs.bag
 
-# RECEIVING: only a whole archive file with one folder, which is a good bag, is received; nothing is written beside it.
-pack() { # KIND FOLDER [PATH]: with a file of that path beside the folder, also a hostile one
+# OPERATIONS: the commands take a bag in, once, and pack one, without replacing a file.
+pack() { # KIND FOLDER
     rm -f "deposit.$1"
-    if [[ $1 == tar ]]; then
-        tar -cf deposit.tar "$2"
-        [[ ! ${3-} ]] || tar -rPf deposit.tar --transform "s#.*#$3#" printed
-    else
-        python3 - "${@:2}" <<'END'
-import sys, zipfile
-folder, *paths = sys.argv[1:]
-zipfile.main(["-c", "deposit.zip", folder])
-with zipfile.ZipFile("deposit.zip", "a") as file:
-    for path in paths:
-        file.writestr(path, "")
-END
-    fi
-}
-unzips=$(grep -o 'unzip -qn [^`]*' "$root/docs/RECEIVING.md")
-receives() { # KIND WHAT-IS-WRONG
-    local way
-    rm -rf unpacked
-    way=$(block docs/RECEIVING.md 'By hand' 1)
-    [[ $1 == tar ]] || way=mkdir\ unpacked${way#*mkdir unpacked}
-    [[ $1 == tar ]] || way=${way/tar --no-same-owner -xf deposit.tar -C unpacked/$unzips}
-    [[ $way == *"deposit.$1"* ]] || give_up "docs/RECEIVING.md: no way to unpack a .$1: $way"
-    tells_damage "docs/RECEIVING.md: a .$1" "$2" "$way"
-    [[ ! -e evil && ! -e $work.evil ]] || give_up "docs/RECEIVING.md: a .$1 with $2 is written outside its folder"
+    if [[ $1 == tar ]]; then tar -cf deposit.tar "$2"; else python3 -m zipfile -c deposit.zip "$2"; fi
 }
 new_deposit() {
     rm -rf deposit again meanwhile
@@ -443,73 +440,24 @@ new_deposit() {
     echo 'kept as it is' >deposit/a
     bagit --quiet deposit
 }
-kinds=(tar)
-if type -P unzip >/dev/null; then kinds+=(zip); else echo 'there is no unzip here, so no .zip is unpacked'; fi
-for kind in "${kinds[@]}"; do
-    new_deposit
-    pack "$kind" deposit
-    receives "$kind" true
-    for place in ../evil "$work.evil" .other; do
-        pack "$kind" deposit "$place"
-        receives "$kind" "$place"
-    done
-    pack "$kind" deposit
-    truncate -s 600 "deposit.$kind"
-    receives "$kind" 'its end lost'
-    flip deposit/data/a
-    pack "$kind" deposit
-    receives "$kind" 'a damaged bag'
-done
-# A .tar that is cut off anywhere, also between two files or after zeros, isn't received.
-new_deposit
-rm -r deposit
-mkdir -p deposit/more
-for name in a more/b; do head -c 2048 /dev/zero >"deposit/$name"; done
-bagit --quiet --md5 deposit
-tar -b 1 -cf whole.tar deposit/{bagit.txt,bag-info.txt,manifest-md5.txt,data,tagmanifest-md5.txt}
-size=$(stat -c %s whole.tar)
-for ((cut = size % 512 + 512; cut < size; cut += 512)); do
-    head -c "$cut" whole.tar >deposit.tar
-    receives tar "$cut of $size bytes"
-    [[ -s printed ]] || give_up "docs/RECEIVING.md: nothing is said of $cut bytes of $size"
-done
-for ((cut = 1; cut < 1024; cut += 333)); do
-    head -c -"$cut" whole.tar >deposit.tar
-    receives tar "$cut bytes lost"
-done
-mv whole.tar deposit.tar
-receives tar true
-rm deposit.tar
-for damage in true 'sed -i "s/as it is/as it wa/" deposit.tar'; do
-    new_deposit
-    rm -f deposit.tar
-    between tar 1 after "$damage"
-    tells_damage 'docs/RECEIVING.md: a bag that is sent' "$damage" "$(block docs/RECEIVING.md 'By hand' 2)"
-done
-new_deposit
-echo 'as it was received' >deposit.tar
-tells_damage 'docs/RECEIVING.md: a bag that is sent' 'a file is there' "$(block docs/RECEIVING.md 'By hand' 2)"
-[[ $(<deposit.tar) == 'as it was received' ]] || give_up 'docs/RECEIVING.md: packing replaces a file'
-
-# RECEIVING: the commands take a bag in, once, and pack one, without replacing a file.
 new_deposit
 for kind in tar zip; do
     mkdir -p srv/bags
     pack "$kind" deposit
-    receive=(follow docs/RECEIVING.md 'Archive files' 1 deposit.zip "deposit.$kind" /srv/bags "$work/srv/bags")
-    "${receive[@]}" >printed 2>&1 || wrong "docs/RECEIVING.md: a .$kind isn't received"
-    diff -r deposit srv/bags/deposit || give_up "docs/RECEIVING.md: another bag is received of a .$kind"
-    fails docs/RECEIVING.md "${receive[@]}"
+    receive=(follow docs/OPERATIONS.md 'Receive a deposit' 1 deposit.zip "deposit.$kind" /srv/bags "$work/srv/bags")
+    "${receive[@]}" >printed 2>&1 || wrong "docs/OPERATIONS.md: a .$kind isn't received"
+    diff -r deposit srv/bags/deposit || give_up "docs/OPERATIONS.md: another bag is received of a .$kind"
+    fails docs/OPERATIONS.md "${receive[@]}"
     rm -r srv
 done
 rm deposit.tar
-send=(follow docs/RECEIVING.md 'Archive files' 2)
-"${send[@]}" >printed 2>&1 || wrong 'docs/RECEIVING.md: a bag is not sent'
-[[ $(tail -n 1 printed) == "$(sha256sum "$PWD/deposit.tar")" ]] || wrong 'docs/RECEIVING.md: another digest is said'
-fails docs/RECEIVING.md "${send[@]}"
+send=(follow docs/OPERATIONS.md 'Send a bag' 1)
+"${send[@]}" >printed 2>&1 || wrong 'docs/OPERATIONS.md: a bag is not sent'
+[[ $(tail -n 1 printed) == "$(sha256sum "$PWD/deposit.tar")" ]] || wrong 'docs/OPERATIONS.md: another digest is said'
+fails docs/OPERATIONS.md "${send[@]}"
 followed=$((followed + 6))
 
-# RECEIVING: files are fetched to the paths that fetch.txt spells, and nothing of it is run or written elsewhere.
+# OPERATIONS: files are fetched to the paths that fetch.txt spells, and nothing of it is run or written elsewhere.
 new_holey() { # fetch.txt, with @ in place of the server
     rm -rf holey
     mkdir -p holey/data
@@ -518,8 +466,8 @@ new_holey() { # fetch.txt, with @ in place of the server
     printf "${1//@/http://127.0.0.1:$port}" >holey/fetch.txt
 }
 fetches() { # true, or WHAT-IS-WRONG
-    tells_damage 'docs/RECEIVING.md: fetching' "$1" "timeout 30 $fetch"
-    [[ ! $(find . -name pwned -o -name evil) ]] || give_up "docs/RECEIVING.md: $1 in fetch.txt does harm"
+    tells_damage 'docs/OPERATIONS.md: fetching' "$1" "timeout 30 $fetch"
+    [[ ! $(find . -name pwned -o -name evil) ]] || give_up "docs/OPERATIONS.md: $1 in fetch.txt does harm"
 }
 follow_fetching() {
     local port hosts fetch good='@/{1,2}[a] - data/x/%%250A$(touch pwned) {1,2}\r\n\n@/b\t1 \t./data/line%%0aend '
@@ -534,28 +482,28 @@ server.serve_forever()' >port 2>>requests &
     trap 'kill "$server"' EXIT
     until [[ -s port ]]; do sleep 0.1; done
     port=$(<port)
-    hosts=$(grep -o 'cut [^`]*fetch.txt[^`]*' "$root/docs/RECEIVING.md")
-    fetch=$(block docs/RECEIVING.md 'Files that `fetch.txt` names' 1)
+    hosts=$(grep -o 'cut [^`]*fetch.txt[^`]*' "$root/docs/OPERATIONS.md")
+    fetch=$(block docs/OPERATIONS.md 'Receive a deposit' 2)
     fetch=${fetch/www.example.org/127.0.0.1} fetch=${fetch/deposit/holey}
     new_holey "$good"
-    bash <<<"${hosts/deposit/holey}" | grep -qx "127.0.0.1:$port" || give_up "docs/RECEIVING.md: $hosts lacks it"
+    bash <<<"${hosts/deposit/holey}" | grep -qx "127.0.0.1:$port" || give_up "docs/OPERATIONS.md: $hosts lacks it"
     fetches true
     fetches true
-    [[ $(grep -c GET requests) == 2 ]] || give_up 'docs/RECEIVING.md: what is there is fetched again'
+    [[ $(grep -c GET requests) == 2 ]] || give_up 'docs/OPERATIONS.md: what is there is fetched again'
     new_holey "${good/'/b\t'/'/{1,2}[a]\t'}"
     echo mine >holey.part
     fetches 'another file'
-    [[ $(find holey/data -type f) == *'{1,2}' && $(<holey.part) == mine ]] || give_up 'docs/RECEIVING.md: other bytes are kept'
+    [[ $(find holey/data -type f) == *'{1,2}' && $(<holey.part) == mine ]] || give_up 'docs/OPERATIONS.md: other bytes are kept'
     rm holey.part
     new_holey "@/b 1 data/x/%%250A\$(touch pwned) {1,2}\n@/none 1 data/line%%0Aend \n"
     fetches 'other bytes, and no file'
     printf "${good//@/http://127.0.0.1:$port}" >holey/fetch.txt
     fetches true
-    [[ ! $(compgen -G 'holey.*') ]] || give_up 'docs/RECEIVING.md: fetching leaves something'
+    [[ ! $(compgen -G 'holey.*') ]] || give_up 'docs/OPERATIONS.md: fetching leaves something'
     new_holey "$good"
     sed -i 's/1\.0/0.97/' holey/bagit.txt
     fetches true
-    [[ -e holey/data/x/'%250A$(touch pwned) {1,2}' ]] || give_up 'docs/RECEIVING.md: by 0.97 %25 is read otherwise'
+    [[ -e holey/data/x/'%250A$(touch pwned) {1,2}' ]] || give_up 'docs/OPERATIONS.md: by 0.97 %25 is read otherwise'
     : >requests
     for bad in '@/b 1 data/../../evil' '@/b 1 /evil' '@/b 1 data/evil' '@/b?\xff 1 data/line%%0Aend ' '@/b'; do
         new_holey "$bad\n$good"
@@ -564,10 +512,10 @@ server.serve_forever()' >port 2>>requests &
     new_holey '@/b 1 data/\0../\0../\0../evil\n'
     printf '%s  data/\0../\0../\0../evil\n' "$mb" >>holey/manifest-md5.txt
     fetches 'a byte of 0'
-    [[ ! -s requests ]] || give_up "docs/RECEIVING.md: something is fetched by a bad fetch.txt: $(<requests)"
+    [[ ! -s requests ]] || give_up "docs/OPERATIONS.md: something is fetched by a bad fetch.txt: $(<requests)"
     new_holey 'file:///proc/version - data/x/%%250A$(touch pwned) {1,2}'
     fetches 'a file of this machine'
-    [[ ! -e holey/data/x ]] || give_up 'docs/RECEIVING.md: a file of this machine is fetched'
+    [[ ! -e holey/data/x ]] || give_up 'docs/OPERATIONS.md: a file of this machine is fetched'
     echo "$followed" >followed
 }
 if type -P curl >/dev/null; then
@@ -577,63 +525,62 @@ else
     echo 'there is no curl here, so nothing is fetched'
 fi
 
-# RECEIVING: a bag has what links name, and what copying flips is found.
+# GUIDE: a bag has what links name, and what copying flips is found.
 for damage in 'flip copy/to' true; do
     rm -rf photographs copy
     mkdir photographs
     echo named >photographs/file
     ln -s file photographs/to
     between cp 1 after "$damage"
-    tells_damage 'docs/RECEIVING.md: links' "$damage" "$(block docs/RECEIVING.md Links 1)"
+    tells_damage 'docs/GUIDE.md: links' "$damage" "$(block docs/GUIDE.md '1. Create a bag' 2)"
 done
-[[ ! -L copy/data/to && $(<copy/data/to) == named ]] || give_up 'docs/RECEIVING.md: links are not followed'
+[[ ! -L copy/data/to && $(<copy/data/to) == named ]] || give_up 'docs/GUIDE.md: links are not followed'
 rm -rf photographs* whole letters scans drafts* archive there deposit* unpacked again holey served copy meanwhile
 
-# RENEWING: what it does by a renewal, of a good bag and of one with a damaged byte, which no block passes over.
+# UPDATING: what it does by a renewal, of a good bag and of one with a damaged byte, which no block passes over.
 new_deposit() {
     rm -rf deposit* renewed not-renewed bags
     mkdir -p deposit bags/{a,b}
     echo 'Dear Ann,' | tee deposit/first.txt bags/a/f >bags/b/f
     bagit --quiet --md5 deposit bags/*
 }
-renewing_block() { follow docs/RENEWING.md "$1" "$2" >printed 2>&1; }
-first='Renewing a bag' drops='What is dropped is compared' keeps='Keeping the old bag'
+renewing_block() { follow docs/UPDATING.md "$1" "$2" >printed 2>&1; }
+first='Updating a bag: algorithms, metadata, files' drops='How damage is kept out' keeps='Keep the old bag'
 new_deposit
-renewing_block "$first" 1 || wrong 'docs/RENEWING.md: its first commands fail'
-diff printed <(printf '%s renewed\n' deposit deposit renewed)
-bagit --validate --quiet deposit renewed
-grep -qx 'External-Identifier: A 2026/17' deposit/bag-info.txt || give_up 'docs/RENEWING.md: the element is not set'
+renewing_block "$first" 1 || wrong 'docs/UPDATING.md: its first commands fail'
+diff printed <(printf '%s renewed\n' deposit deposit)
+bagit --validate --quiet deposit
+grep -qx 'External-Identifier: A 2026/17' deposit/bag-info.txt || give_up 'docs/UPDATING.md: the element is not set'
 new_deposit
-bagit-renew --dry-run --add sha512 --set A=b deposit | diff - <(block docs/RENEWING.md 'What is changed, and in which order' 1)
-renewing_block "$drops" 1 || wrong 'docs/RENEWING.md: an algorithm is not dropped'
-[[ -e deposit/manifest-sha256.txt && ! -e deposit/manifest-md5.txt ]] || give_up 'docs/RENEWING.md: another algorithm is dropped'
+bagit-renew --dry-run --add sha512 --set A=b deposit | diff - <(block docs/UPDATING.md 'What is changed, and in which order' 1)
+renewing_block "$drops" 2 || wrong 'docs/UPDATING.md: an algorithm is not dropped'
+[[ -e deposit/manifest-sha256.txt && ! -e deposit/manifest-md5.txt ]] || give_up 'docs/UPDATING.md: another algorithm is dropped'
 new_deposit
 bagit-renew --quiet --add sha256 deposit
-renewing_block "$drops" 2 || wrong 'docs/RENEWING.md: an algorithm is not dropped unchecked'
-[[ -e deposit/manifest-sha256.txt && ! -e deposit/manifest-md5.txt ]] || give_up 'docs/RENEWING.md: unchecked another is dropped'
+renewing_block "$drops" 3 || wrong 'docs/UPDATING.md: an algorithm is not dropped unchecked'
+[[ -e deposit/manifest-sha256.txt && ! -e deposit/manifest-md5.txt ]] || give_up 'docs/UPDATING.md: unchecked another is dropped'
 for number in 1 2; do
     new_deposit
-    renewing_block "$keeps" "$number" || wrong "docs/RENEWING.md: keeping, block $number fails"
+    renewing_block "$keeps" "$number" || wrong "docs/UPDATING.md: keeping, block $number fails"
 done
 (cd deposit && sha512sum data/first.txt) | diff - deposit.sha512
-renewing_block 'Many bags' 1 && [[ $(<printed) == 'greatest status: 0' && ! -s not-renewed ]] || wrong 'docs/RENEWING.md: many bags'
+renewing_block "$keeps" 3 && [[ $(<printed) == 'greatest status: 0' && ! -s not-renewed ]] || wrong 'docs/UPDATING.md: many bags'
 followed=$((followed + 7))
-for damaged in "$first 1" "$drops 1" "$keeps 1" "$keeps 2" 'Many bags 1'; do
+for damaged in "$first 1" "$drops 2" "$keeps 1" "$keeps 2" "$keeps 3"; do
     new_deposit
     flip deposit/data/first.txt
     flip bags/a/data/f
     renewing_block "${damaged% *}" "${damaged##* }" || true
     cat printed not-renewed deposit.sha512 2>/dev/null >said || true
-    grep -qE '(deposit|renewed|bags/a) not renewed: fault 701 ' said || wrong "docs/RENEWING.md: '$damaged' passes over damage"
-    [[ ! -s deposit.sha512 || $(<deposit.sha512) == *'not renewed'* ]] || wrong "docs/RENEWING.md: '$damaged' gives damage a digest"
-    ! grep -qs . {deposit,renewed,bags/a}/manifest-sha*.txt || wrong "docs/RENEWING.md: '$damaged' gives damage a digest"
-    [[ -s deposit/manifest-md5.txt ]] || wrong "docs/RENEWING.md: '$damaged' drops what tells damage"
+    grep -qE '(deposit|renewed|bags/a) not renewed: fault 701 ' said || wrong "docs/UPDATING.md: '$damaged' passes over damage"
+    [[ ! -s deposit.sha512 || $(<deposit.sha512) == *'not renewed'* ]] || wrong "docs/UPDATING.md: '$damaged' gives damage a digest"
+    ! grep -qs . {deposit,renewed,bags/a}/manifest-sha*.txt || wrong "docs/UPDATING.md: '$damaged' gives damage a digest"
+    [[ -s deposit/manifest-md5.txt ]] || wrong "docs/UPDATING.md: '$damaged' drops what tells damage"
     followed=$((followed + 1))
 done
 rm -rf deposit* renewed not-renewed bags said
 
-# LARGE_BAGS: forty bags, of which five are bad, by one command and by a job array, whose Slurm is played here.
-for companion in "$root"/packaging/bagit-* "$root"/companions/bagit-keep; do ln -sf "$companion" bin/; done
+# OPERATIONS: forty bags, of which five are bad, by one command and by a job array, whose Slurm is played here.
 for ((bag = 10; bag < 50; bag++)); do
     mkdir -p "bags/bag $bag"
     echo "$bag" >"bags/bag $bag/file"
@@ -665,23 +612,23 @@ chmod +x bin/sbatch
 follows() {
     local status=0
     bash "$2" >printed 2>messages || status=$?
-    [[ $status == "$1" ]] || { cat printed messages; give_up "docs/LARGE_BAGS.md: this ends with $status: $(<"$2")"; }
+    [[ $status == "$1" ]] || { cat printed messages; give_up "docs/OPERATIONS.md: this ends with $status: $(<"$2")"; }
     followed=$((followed + 1))
 }
 for way in 1 3; do
-    block docs/LARGE_BAGS.md 'Many bags' "$way" >way
+    block docs/OPERATIONS.md 'Check many bags' "$way" >way
     follows 3 way
-    [[ $(grep -c $'^0\t' printed) == 35 ]] || give_up "docs/LARGE_BAGS.md: not 35 bags are valid (way $way)"
+    [[ $(grep -c $'^0\t' printed) == 35 ]] || give_up "docs/OPERATIONS.md: not 35 bags are valid (way $way)"
     diff <(grep -P '^[1-3]\t' printed | cut -f 1,2 --output-delimiter ' ' | sort) - <<<"$wanted" ||
-        give_up "docs/LARGE_BAGS.md: the table of many bags says something else (way $way)"
+        give_up "docs/OPERATIONS.md: the table of many bags says something else (way $way)"
     # The round goes on by the lines below the first one, and its reports are summed up.
     rm 'bags/bag 44/data/link'
     { echo "export round=$(echo 20??-??-??-??????)" && sed 1d way; } >goes_on
     follows 1 goes_on
-    [[ $(grep -c $'^0\t' printed) == 36 ]] || give_up "docs/LARGE_BAGS.md: the round didn't go on (way $way)"
-    { sed 1q goes_on && block docs/LARGE_BAGS.md 'Many bags' 2; } >sums_up
+    [[ $(grep -c $'^0\t' printed) == 36 ]] || give_up "docs/OPERATIONS.md: the round didn't go on (way $way)"
+    { sed 1q goes_on && block docs/OPERATIONS.md 'Check many bags' 2; } >sums_up
     follows 1 sums_up
-    grep -q payload-sum-differs printed || give_up 'docs/LARGE_BAGS.md: the summary lacks a fault'
+    grep -q payload-sum-differs printed || give_up 'docs/OPERATIONS.md: the summary lacks a fault'
     ln -s file 'bags/bag 44/data/link'
     rm -r 20??-??-??-??????
 done
@@ -698,16 +645,17 @@ bagit --quiet srv/bags/*
 night() { # STATUS FIRST_LINE BLOCK [TEXT OTHER]..
     local wanted=$1 first=$2 block=$3 status=0
     shift 3
-    follow docs/LARGE_BAGS.md 'Each night' "$block" /srv/ "$work/srv/" "$@" >printed 2>messages || status=$?
+    follow docs/OPERATIONS.md 'Audit every night' "$block" /srv/ "$work/srv/" "$@" >printed 2>messages || status=$?
     [[ $status == "$wanted" && $(head -n 1 printed) == $first ]] ||
-        { cat printed messages; give_up "docs/LARGE_BAGS.md: a night ends with $status: $(head -n 1 printed)"; }
+        { cat printed messages; give_up "docs/OPERATIONS.md: a night ends with $status: $(head -n 1 printed)"; }
 }
-night 0 '3 of 3 bags were adopted' 1
+night 0 '*/register is a register of no bag yet: see adopt' 1
+grep -q '^3 of 3 bags were adopted' printed || { cat printed; give_up 'the bags are not adopted'; }
 night 0 'no news: 3 bags, each read whole since 20*' 2
 printf X | dd of="srv/bags/it's/data/file" conv=notrunc status=none
 night 1 'news of 1 bag: 1 with faults' 2
 grep -q "^fault .*/bags/it's 701 payload-sum-differs data/file sha512 - " printed || { cat printed; give_up 'the fault is not named'; }
-night 0 '' 3 NAME "it\'s" 2027-01-31 9999-12-31
+night 0 "*/bags/it's: 2 findings are known until 9999-12-31" 3 NAME "it\'s" 2027-01-31 9999-12-31
 night 0 'no news: 3 bags, each *, 2 known findings' 2
 mv srv/bags away
 mkdir srv/bags
@@ -720,6 +668,10 @@ mv away srv/bags
 printf i | dd of="srv/bags/it's/data/file" conv=notrunc status=none
 "${nightly[@]}" || give_up 'a night without news ends otherwise'
 [[ $(head -n 1 mailed) == '-s no news: 3 bags, '* ]] || { cat mailed; give_up 'a night without news is not mailed'; }
+cron=$(block docs/OPERATIONS.md 'Audit every night' 6 | sed -nE 's/^([0-9*]+ ){5}//p')
+[[ $cron == 'bagit-keep audit '* ]] || give_up "docs/OPERATIONS.md: cron runs '$cron'"
+env -i HOME="$HOME" PATH="$PATH" sh -c "${cron//"/srv/"/"$work/srv/"}" >printed 2>messages && [[ $(head -n 1 printed) == 'no news: 3 bags, '* ]] ||
+    { cat printed messages; give_up 'docs/OPERATIONS.md: what cron runs ends otherwise'; }
 mv srv/register/register.sqlite away
 status=0
 "${nightly[@]}" || status=$?
@@ -727,20 +679,15 @@ status=0
 mv away srv/register/register.sqlite
 rm bin/mail
 hash -r
-followed=$((followed + 3))
+followed=$((followed + 4))
 
-# LARGE_BAGS: a bag in pieces.
+# OPERATIONS: a bag in parts, by one command, by a job array, and by loops on two machines, has the report of one check.
 cp -a 'bags/bag 11' deposit
-status=0
-$(block docs/LARGE_BAGS.md 'A check that survives a failing disk' 1) >printed || status=$?
-[[ $status == 1 && $(<printed) == 'deposit has faults: 2' ]] || give_up 'docs/LARGE_BAGS.md: bagit-check-large ends otherwise'
-diff deposit.txt <(bagit --validate deposit) || give_up 'docs/LARGE_BAGS.md: the report in pieces is another'
-followed=$((followed + 2))
 for way in 1 2 3; do
-    rm deposit.txt
-    block docs/LARGE_BAGS.md 'One bag on several cores, or machines' "$way" >way
+    rm -f deposit.txt
+    block docs/OPERATIONS.md 'Check a large bag' "$way" >way
     follows 1 way
-    diff deposit.txt <(bagit --validate deposit) || give_up "docs/LARGE_BAGS.md: the report in parts is another (way $way)"
+    diff deposit.txt <(bagit --validate deposit) || give_up "docs/OPERATIONS.md: the report in parts is another (way $way)"
 done
 
 # FAULTS: of a path of 4,085 bytes in a folder `long` nothing is said, and it can be checked once it is in `data`; not so one byte more.
@@ -776,7 +723,7 @@ chmod 777 .
 reads() { if ((EUID)); then "$@"; else setpriv --reuid 65534 --regid 65534 --clear-groups "$@"; fi; }
 ! reads ./bagit --validate closed >report 2>errors || give_up 'a file of mode 000 is read'
 [[ $(<errors) == 'bagit: closed/data/'*': permission denied' ]] || give_up "docs/FAULTS.md: it says why: $(<errors)"
-way=$(block docs/FAULTS.md "Going on after a file that can't be read" 1 | sed 's/^bagit/.\/&/; s/DIR/closed/')
+way=$(block docs/FAULTS.md "\`unread\`: what couldn't be read" 2 | sed 's/^bagit/.\/&/; s/DIR/closed/')
 fails docs/FAULTS.md reads bash -c "$way"
 [[ $(cut -d ' ' -f 1-3 printed) == $'701 payload-sum-differs data/z\nclosed rest done,' ]] ||
     give_up "docs/FAULTS.md: $way says: $(<printed)"
@@ -786,7 +733,7 @@ way=$(block docs/FAULTS.md "\`unread\`: what couldn't be read" 1)
 runs_nothing docs/FAULTS.md
 followed=$((followed + 2))
 
-# FAULTS: a file comes back only if the copy's has the right digests, and what was there is kept, whatever the names are.
+# RECOVERY: a file comes back only if the copy's has the right digests, and what was there is kept, whatever the names are.
 new_lost() {
     rm -rf lost* copy
     mkdir -p lost/-s lost/sub
@@ -797,9 +744,9 @@ new_lost() {
     cp -a lost copy
 }
 restores() { # ANSWER COPY: by the page's last line
-    follow docs/FAULTS.md 'Restoring files from another copy' 1 DIR lost COPY "$2" >printed 2>&1 || true
-    [[ $(tail -n 1 printed) == "$work/lost $1" ]] || wrong "docs/FAULTS.md: a bag isn't restored: $1"
-    runs_nothing docs/FAULTS.md
+    follow docs/RECOVERY.md 'Restore files from a copy' 1 DIR lost COPY "$2" >printed 2>&1 || true
+    [[ $(tail -n 1 printed) == "$work/lost $1" ]] || wrong "docs/RECOVERY.md: a bag isn't restored: $1"
+    runs_nothing docs/RECOVERY.md
     followed=$((followed + 1))
 }
 new_lost
@@ -810,7 +757,7 @@ cp -a lost before
 restores 'is valid' copy
 diff -r lost copy
 kept=$(cd lost.kept.* && find . -type f -exec cmp {} ../before/{} \; -printf .)
-[[ $kept == ....... ]] || give_up "docs/FAULTS.md: of 7 files that were replaced ${#kept} are kept"
+[[ $kept == ....... ]] || give_up "docs/RECOVERY.md: of 7 files that were replaced ${#kept} are kept"
 restores 'is valid' copy
 rm -r before
 new_lost
@@ -819,13 +766,13 @@ echo bettex >lost/data/better
 rm lost/data/gone
 cp -a lost before
 restores 'has faults: 2' copy
-diff <(diff -rq before lost) - <<<'Only in lost/data: gone' || give_up 'docs/FAULTS.md: a better file is replaced'
+diff <(diff -rq before lost) - <<<'Only in lost/data: gone' || give_up 'docs/RECOVERY.md: a better file is replaced'
 ln -sf /proc/version copy/data/better
 for names in 'lost copy' 'lost nowhere' 'nowhere copy' 'lost lost'; do
-    fails docs/FAULTS.md follow docs/FAULTS.md 'Restoring files from another copy' 1 DIR "${names% *}" COPY "${names#* }"
+    fails docs/RECOVERY.md follow docs/RECOVERY.md 'Restore files from a copy' 1 DIR "${names% *}" COPY "${names#* }"
 done
-diff <(diff -rq before lost) - <<<'Only in lost/data: gone' || give_up 'docs/FAULTS.md: a bag is restored from nowhere'
-[[ ! $(compgen -G 'nowhere*') ]] || give_up 'docs/FAULTS.md: something is made where no bag is'
+diff <(diff -rq before lost) - <<<'Only in lost/data: gone' || give_up 'docs/RECOVERY.md: a bag is restored from nowhere'
+[[ ! $(compgen -G 'nowhere*') ]] || give_up 'docs/RECOVERY.md: something is made where no bag is'
 rm -r lost* copy before
 new_lost
 mkdir elsewhere
@@ -836,10 +783,10 @@ for bag in lost elsewhere/copy; do
 done
 printf a >elsewhere/evil
 restores 'has faults: 2' elsewhere/copy
-[[ ! -e evil ]] || give_up 'docs/FAULTS.md: a file is restored outside the bag'
+[[ ! -e evil ]] || give_up 'docs/RECOVERY.md: a file is restored outside the bag'
 rm -r lost* elsewhere
 
-# FAULTS: a tag file is changed or removed together with its lines, also one whose name is spelled otherwise in them.
+# UPDATING: a tag file is changed or removed together with its lines, also one whose name is spelled otherwise in them.
 note=$'notes/-'$hostile$'\nend'
 spelled_note="*./$(sed 's/%/%25/' <<<"${note%$'\n'*}")%0A${note#*$'\n'}"
 new_mended() {
@@ -856,15 +803,15 @@ new_mended() {
 mends() { # FILE CHANGE ANSWER: by the page's first command, whose editor makes the change; or by that which removes
     local way number=1
     [[ $2 != remove ]] || number=3
-    way=$(block docs/FAULTS.md 'Changing a tag file' 1 | sed -n "${number}p; s/notes.txt/\"\$FILE\"/; s/DIR/mended/" | head -n 1)
+    way=$(block docs/UPDATING.md 'Change a tag file' 1 | sed -n "${number}p; s/notes.txt/\"\$FILE\"/; s/DIR/mended/" | head -n 1)
     way=${way/DIR/mended} way=${way/bag-info.txt fetch.txt/\"\$FILE\"} way=${way/notes.txt/\"\$FILE\"}
     printf '#!/bin/bash\nfile=$1\n%s\n' "$2" >editor
     chmod +x editor
     cp -a mended untouched
     FILE=$1 EDITOR=$work/editor VISUAL='' bash <<<"$way" >printed 2>complaints || true
     [[ $(tail -n 1 printed) == "$work/mended.new/bag $3" ]] ||
-        { cat printed complaints; give_up "docs/FAULTS.md: after '$2' of $1 the last check says something else"; }
-    [[ $3 == 'is valid' ]] || diff -r untouched mended || give_up "docs/FAULTS.md: '$2' of $1 changes a bag with faults"
+        { cat printed complaints; give_up "docs/UPDATING.md: after '$2' of $1 the last check says something else"; }
+    [[ $3 == 'is valid' ]] || diff -r untouched mended || give_up "docs/UPDATING.md: '$2' of $1 changes a bag with faults"
     rm -r untouched
     followed=$((followed + 1))
 }
@@ -877,12 +824,12 @@ for change in "$adds" remove; do
     mends "$note" "$change" 'is valid'
 done
 [[ ! -e mended/$note && $(sort mended/tagmanifest-*.txt | wc -l) == 8 ]] ||
-    give_up "docs/FAULTS.md: a tag file isn't removed from the tag manifests alone"
+    give_up "docs/UPDATING.md: a tag file isn't removed from the tag manifests alone"
 new_mended
 mends manifest-md5.txt remove 'is valid'
 new_mended
 { cat mended/bag-info.txt && echo Bag-Software-Agent: us; } >new.txt
-sed -n 2p <(block docs/FAULTS.md 'Changing a tag file' 1) | sed s/DIR/mended/ | bash >printed 2>&1 || wrong 'docs/FAULTS.md: no file is taken'
+sed -n 2p <(block docs/UPDATING.md 'Change a tag file' 1) | sed s/DIR/mended/ | bash >printed 2>&1 || wrong 'docs/UPDATING.md: no file is taken'
 cmp new.txt mended/bag-info.txt
 rm new.txt
 
@@ -891,7 +838,7 @@ damages() { # DAMAGE FAULT
     new_mended
     (cd mended && eval "$1")
     mends bag-info.txt "$adds" 'has faults: 2'
-    [[ $(cut -d ' ' -f 1-3 printed | sort | uniq -c) == *" 2 $2"* ]] || wrong "docs/FAULTS.md: after $1 it does not say $2"
+    [[ $(cut -d ' ' -f 1-3 printed | sort | uniq -c) == *" 2 $2"* ]] || wrong "docs/UPDATING.md: after $1 it does not say $2"
 }
 damages 'sed -i s/Oxum/Oxun/ bag-info.txt' '702 tag-sum-differs bag-info.txt'
 damages "sed -i '1s/[a-f]/\U&/' manifest-md5.txt" '702 tag-sum-differs manifest-md5.txt'
@@ -899,9 +846,9 @@ damages 'sed -i s/a/e/ data/a' '701 payload-sum-differs data/a'
 damages 'rm bag-info.txt' '702 tag-sum-differs bag-info.txt'
 new_mended
 printf '#!/bin/bash\nrm "$1"\n' >editor
-fails docs/FAULTS.md env EDITOR="$work/editor" bagit-keep edit mended bag-info.txt
+fails docs/UPDATING.md env EDITOR="$work/editor" bagit-keep edit mended bag-info.txt
 bagit --validate --quiet mended
-runs_nothing docs/FAULTS.md
+runs_nothing docs/UPDATING.md
 
 # FAULTS: tag files in Latin-1 or UTF-16 are converted beside the bag, which stays as it is.
 new_encoded() { # ENCODING
@@ -929,34 +876,34 @@ for encoding in ISO-8859-1 UTF-16; do
     followed=$((followed + 2))
 done
 
-# FAULTS: what is kept elsewhere tells a bag that was altered so that it is valid.
-title="What a check can't show"
+# GUIDE: what is kept elsewhere tells a bag that was altered so that it is valid.
+title='4. Store it'
 for alters in true 'rm kept/tagmanifest-*.txt; echo X: y >>kept/bag-info.txt' \
     'rm -r kept/tagmanifest-*.txt kept/data/* kept/bag-info.txt; truncate -s 0 kept/manifest-*.txt'; do
     new_hostile kept
     rm -f kept.sha256
-    follow docs/FAULTS.md "$title" 1 DIR kept
+    follow docs/GUIDE.md "$title" 4 letters kept
     eval "$alters"
     [[ $(bagit --validate kept) == 'kept is valid' ]] || give_up "a bag isn't valid after $alters"
     status=0
-    follow docs/FAULTS.md "$title" 2 DIR kept >printed 2>&1 || status=$?
+    follow docs/GUIDE.md "$title" 5 letters kept >printed 2>&1 || status=$?
     [[ $status == 0 && $alters == true || $status != 0 && $alters != true ]] ||
-        give_up "docs/FAULTS.md: what is kept elsewhere ends with $status after $alters"
+        give_up "docs/GUIDE.md: what is kept elsewhere ends with $status after $alters"
     followed=$((followed + 1))
 done
 cp kept.sha256 written
 echo X: y >>kept/bag-info.txt
 for gone in true 'mv kept elsewhere' 'mkdir kept'; do # written again, the bag gone, an empty folder in its place
     $gone
-    fails "$title" follow docs/FAULTS.md "$title" 1 DIR kept
-    cmp kept.sha256 written || give_up "docs/FAULTS.md: digests that were kept are lost after $gone"
+    fails "$title" follow docs/GUIDE.md "$title" 4 letters kept
+    cmp kept.sha256 written || give_up "docs/GUIDE.md: digests that were kept are lost after $gone"
 done
 rm kept.sha256
-fails "$title" follow docs/FAULTS.md "$title" 1 DIR kept
-[[ ! -e kept.sha256 ]] || give_up 'docs/FAULTS.md: no digests are kept'
+fails "$title" follow docs/GUIDE.md "$title" 4 letters kept
+[[ ! -e kept.sha256 ]] || give_up 'docs/GUIDE.md: no digests are kept'
 
 # FAULTS: a % is spelled anew in a bag of version 1.0, and not in an older one, which has a 105, as the row of 503 says.
-row=$(grep '^| 503 ' "$root/docs/FAULTS.md")
+row=$(grep '^|503|' "$root/docs/FAULTS.md")
 for version in 1.0 0.96 0.93; do
     rm -rf older
     mkdir -p older/data
@@ -973,12 +920,12 @@ echo >>older/data/100%
 fails docs/FAULTS.md bash <<<"${compares/DIR/older}"
 printf a >older/data/100%
 declare_bag >older/bagit.txt
-[[ $row == *'Else write `%25` for a `%`'* ]] && sed -i 's/%/%25/' older/manifest-md5.txt
+[[ $row == *'Write `%25` for a `%`'* ]] && sed -i 's/%/%25/' older/manifest-md5.txt
 [[ $(bagit --validate older) == 'older is valid' ]] || give_up 'docs/FAULTS.md: what 503 says does not help'
 followed=$((followed + 4))
 
 # PROFILES: of the keys with a wrong value the first of its table is named, and the archive file's way round lets a bag pass.
-mapfile -t keys < <(sed -n '/^## The keys$/,/^## /s/^| `\([^`]*\)` .*/\1/p' "$root/docs/PROFILES.md")
+mapfile -t keys < <(sed -n '/^## The keys$/,/^## /s/^| *`\([^`]*\)` *|.*/\1/p' "$root/docs/PROFILES.md")
 ((${#keys[@]} == 11)) || give_up "docs/PROFILES.md: its table has ${#keys[@]} keys"
 for ((first = 1; first < ${#keys[@]}; first++)); do
     printf '{"BagIt-Profile-Info": {"BagIt-Profile-Identifier": "x"}%s}' "$(printf ', "%s": 5' "${keys[@]:first}")" >wrong.json
@@ -992,7 +939,7 @@ echo a >asks/deposit/a
 bagit --quiet --bagit-profile-identifier x asks/deposit
 echo '{"BagIt-Profile-Info": {"BagIt-Profile-Identifier": "x"}, "Serialization": "required"}' >asks/profile.json
 ! bagit --validate --profile asks/profile.json asks/deposit >printed || give_up 'docs/PROFILES.md: a folder is taken for an archive file'
-(cd asks && block docs/PROFILES.md 'Profiles that ask for an archive file' 1 | bash -e) >printed
+(cd asks && block docs/PROFILES.md 'Serialised bags' 1 | bash -e) >printed
 [[ $(<printed) == 'deposit is valid' ]] || give_up "docs/PROFILES.md: by the copy of a profile: $(<printed)"
 followed=$((followed + ${#keys[@]}))
 
@@ -1015,6 +962,20 @@ finds '810 tag-file-not-allowed x '
 rm mended/x
 mends bag-info.txt 'sed -i "s/us and/us\n and/" "$file"' 'is valid'
 finds '804 value-not-allowed bag-info.txt '
+
+# FAQ: its example in Python, of a bag that is created, and of one with a fault.
+rm -rf photographs
+mkdir photographs
+echo a >photographs/a
+{ block docs/FAQ.md 'In a Python program' 1 && block docs/FAQ.md 'In a Python program' 2; } >example.py
+example() { PYTHONPATH=$root/companions python3 example.py >printed 2>&1; }
+example && bagit --validate --quiet photographs || wrong 'docs/FAQ.md: its example fails'
+[[ $(grep -c '^Contact-Name: ' photographs/bag-info.txt) == 2 ]] || give_up 'docs/FAQ.md: its example loses a value'
+flip photographs/data/a
+sed -i s/^bag.=.*/'bag = bagit.Bag("photographs")'/ example.py
+example || wrong 'docs/FAQ.md: its example fails over a fault'
+grep -q '^data/a ' printed || wrong 'docs/FAQ.md: its example does not print the fault'
+followed=$((followed + 2))
 
 # LIBRARY: the crates that its commands copy are all that these need of this repository (they are linked here, as what is made of them
 # is large), and what it quotes stands in the crates of its examples, line by line.

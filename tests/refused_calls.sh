@@ -4,10 +4,13 @@
 # alone. Whatever is refused, no run hangs, statuses are 0, 1 and 3, and no file is lost:
 #
 # - of a making: the bytes of each file stand once, at the file's own path, in `.bagit-new` or in `data`; status 0 and `made` come only
-#   where a whole bag stands there, which the programs of coreutils accept; and moved back as docs/NOT_MADE.md says it, the folder is as it was;
+#   where a whole bag stands there, which the programs of coreutils accept; and moved back as docs/RECOVERY.md says it, the folder is as it was;
 # - of a check: what is written is the whole report, or its first lines and a closing line that counts them and says that something
 #   couldn't be read; or why nothing could be begun; or a first part of all that, where the output itself was refused or the program was
 #   killed. The folder is as it was.
+#
+# - of joining: what is written is the whole report, or a first part of it without its closing line, and one line says which report
+#   isn't joined, and why.
 #
 # Where the cause is `device`, standard error names what the system refused, and says why, as the system's error has it; nowhere else.
 #
@@ -85,7 +88,7 @@ is_whole_bag() {
         [[ $(wc -l <d/manifest-sha256.txt) == $(wc -l <files) && $(wc -l <d/tagmanifest-md5.txt) == 4 ]]
 }
 
-# Moves back what a making that didn't end has moved, as docs/NOT_MADE.md says it, but that the tag files aren't kept.
+# Moves back what a making that didn't end has moved, as docs/RECOVERY.md says it, but that the tag files aren't kept.
 move_back() {
     if [[ ! -e d/.bagit-new && -e d/w ]]; then return; fi
     (
@@ -148,6 +151,18 @@ checked() {
         says_why || is_wrong 'standard error says something else of why'
     fi
     diff -r pristine d >/dev/null || is_wrong 'the folder was changed'
+}
+
+joined() {
+    if [[ $status == 137 ]]; then
+        cmp -s -n "$(stat -c %s output)" whole output || is_wrong 'what was written is no first part of the report'
+    elif [[ $status == 3 ]]; then
+        cmp -s -n "$(stat -c %s output)" whole output && ! cmp -s whole output || is_wrong 'something else is written'
+        [[ $(wc -l <failures) == 1 ]] && grep -qE '^bagit: (p[12]: .+|out of memory|output refused)$' failures ||
+            is_wrong 'standard error says something else of why'
+    else
+        [[ $status == "$wanted" && ! -s failures ]] && cmp -s whole output || is_wrong 'something else is written'
+    fi
 }
 
 # Refuses each call of the program in turn, and kills it at each. Its arguments are what looks at the result, the wanted status, and the
@@ -231,15 +246,23 @@ complete='304 oxum-differs bag-info.txt - 1 200011.4:200008.4
 603 payload-file-not-listed data/extra sha256 - -
 601 payload-file-missing data/letters/z md5 - -
 601 payload-file-missing data/letters/z sha256 - -'
-in_turn checked 1 --validate --profile profile.json d <<END
-$complete
+report="$complete
 701 payload-sum-differs data/w md5 - $(sums md5)
 701 payload-sum-differs data/w sha256 - $(sums sha256)
 801 profile-identifier bag-info.txt - - urn:p
 802 label-required bag-info.txt - - Source-Organization
-d has faults: 9
-END
+d has faults: 9"
+in_turn checked 1 --validate --profile profile.json d <<<"$report"
 in_turn checked 1 --validate --completeness-only d <<<"$complete"$'\nd has faults: 5'
+
+# The reports of its parts, joined.
+folder
+for part in 1 2; do
+    status=0
+    "$program" --validate --profile profile.json --part "$part/2" d >"p$part" || status=$?
+    [[ $status == 1 ]]
+done
+in_turn joined 1 --validate --join p2 p1 <<<"$report"
 
 echo "killed $killed times"
 echo "$refused calls refused, $wrong wrong"

@@ -1,9 +1,9 @@
 #!/usr/bin/env bash
-# Checks small bags again and again, at each depth, above a cursor, up to a limit and by a profile, and each time refuses another of
-# the program's growths: the first, the second, and so on, until none is left to refuse. What is written must be the whole report; or
-# its first lines, and a closing line that counts them and says that memory ran out; or that alone, where there was no memory for the
-# words, for the profile or to begin a check. Of each check at least one growth must be reported as refused, and the bag must be as it
-# was.
+# Checks small bags again and again, at each depth, above a cursor, up to a limit and by a profile, and joins reports of parts, and each
+# time refuses another of the program's growths: the first, the second, and so on, until none is left to refuse. What is written must be
+# the whole report; or its first lines, and a closing line that counts them and says that memory ran out; or that alone, where there was
+# no memory for the words, for the profile or to begin a check, and of joined reports its first lines and that. Of each check at least
+# one growth must be reported as refused, and the bag must be as it was.
 #
 # Then the least number is sought for which no growth is refused while a bag is checked whose payload file has one byte, and one whose
 # payload file has 1,000,000: it must be the same, and so must be the most bytes that a growth asks for. It needs a C compiler.
@@ -34,6 +34,14 @@ is_right() {
         printf '%s unread - memory, faults: %d\n' "$name" "$(grep -vc '^unchecked ' front)" | cmp -s - <(tail -n 1 output)
 }
 
+# Whether an answer of joined reports is: the whole report; or its first lines, and that memory ran out.
+is_right_joined() {
+    if [[ $status == "$wanted" && ! -s errors ]] && cmp -s whole output; then return; fi
+    reported=$((reported + 1))
+    cp output front
+    is_out_of_memory && begins lines
+}
+
 # Refuses each growth of a check. Its arguments are the status and the words; standard input is what is written where no growth is
 # refused.
 in_turn() {
@@ -45,11 +53,12 @@ in_turn() {
     [[ ! -e d ]] || cp -r d kept
     refusing_none "$program" "$@"
     [[ $status == "$wanted" && ! -s errors ]] && diff whole output || give_up "$*: something else is written, with the status $status"
-    refusing_each : is_right "$program" "$@"
+    refusing_each : "$right" "$program" "$@"
     ((reported > 0)) || give_up "$*: no refusal is reported"
     [[ ! -e d ]] || diff -r kept d
 }
 
+right=is_right
 name=sample
 in_turn 0 <<<'sample has a good declaration'
 name=d
@@ -86,6 +95,16 @@ for file in a b c; do
 done >six
 echo 'd has faults: 6' >>six
 in_turn 1 --validate d <six
+
+# The reports of its parts, joined.
+for part in 1 2 3; do
+    status=0
+    "$program" --validate --part "$part/3" d >"p$part" || status=$?
+    [[ $status == 1 ]]
+done
+right=is_right_joined
+in_turn 1 --validate --join p3 p1 p2 <six
+right=is_right
 
 # Rules of a profile.
 bag; put manifest-md5.txt ''; put fetch.txt ''

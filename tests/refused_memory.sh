@@ -4,7 +4,7 @@
 #
 # - `made`, and the bag that is made of the folder, put together by coreutils;
 # - out of memory, on the output or, where there was no memory for the words, on the error output, and the folder as it was;
-# - a step that was refused, and the folder as the steps before it leave it (docs/NOT_MADE.md); where the step writes a tag file, that
+# - a step that was refused, and the folder as the steps before it leave it (docs/RECOVERY.md); where the step writes a tag file, that
 #   file may stand there too, with the first of its bytes.
 #
 # One file of the folder has 1 byte, and then 1,000,000: the least number for which no growth is refused must be the same for both, and

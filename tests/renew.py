@@ -24,6 +24,7 @@ DECLARATION, INFO, FETCH, BEGUN = b"bagit.txt", b"bag-info.txt", b"fetch.txt", b
 DECLARED = b"BagIt-Version: 1.0\nTag-File-Character-Encoding: UTF-8\n"
 OXUM = "Payload-Oxum"
 MANIFEST = re.compile(rb"(tag)?manifest-([a-z0-9]+)\.txt")
+OTHER = re.compile(rb"tagmanifest-[^/]*\.txt", re.S)
 LINE = re.compile(r"([0-9A-Fa-f]+)[ \t]+\*?(?:\./)?(.+)", re.S)
 FETCHED = re.compile(r"[^ \t]+[ \t]+(?:-|[0-9]+)[ \t]+(?:\./)?(.+)", re.S)
 BLANKS = " \t"
@@ -402,6 +403,11 @@ def unnameable(files, options):
     return [path for path in sorted(files) if re.match(found, path, re.S)]
 
 
+def outdated(files):
+    """The tag manifests, in order, that stay as they are, since no manifest has the name of their algorithm."""
+    return [path for path in sorted(files) if OTHER.fullmatch(path) and not MANIFEST.fullmatch(path)]
+
+
 def unlisted(files, options):
     """The payload files, in order, that by 0.97 only manifests name that are dropped, where none is written."""
     left = [*map(manifest_path, algorithms_left(files, options))]
@@ -421,6 +427,7 @@ def refusals(folder, files, options):
     for name in (BEGUN, DECLARATION, INFO, *map(manifest_path, ALGORITHMS), *map(tag_manifest_path, ALGORITHMS)):
         if os.path.isdir(os.path.join(os.fsencode(folder), name)) or name == BEGUN and is_named(files, name):
             yield f"{name.decode()} in the way"
+    yield from (f"{field(path)} would be out of date" for path in outdated(files)[:1])
     yield from (f"{field(path)} can't be named" for path in unnameable(files, options)[:1])
     yield from (f"{field(path)} would be in no manifest" for path in unlisted(files, options)[:1])
     if why_invalid(folder, reads_payload(files, options)):

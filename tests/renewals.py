@@ -23,7 +23,8 @@ BAD = (("", "x"), ("a:b", "x"), ("a ", "x"), ("Payload-Oxum", "1.1"), ("payload-
 IN_THE_WAY = (BEGUN.decode(), f"{BEGUN.decode()}/a", "bag-info.txt/a", "tagmanifest-sha224.txt/a")
 MODES = (0o644, 0o644, 0o600, 0o640, 0o664)
 COUNTED = ("bags", "renewed", "of 0.97 that stay so", "of 0.97 to 1.0", "without reading the payload", "manifests printed")
-REASONS = ("fault", "fetch.txt", "can't be named", "would be in no manifest")
+OUTDATED = ("tagmanifest-sha3_256.txt", "tagmanifest-MD5.txt", "tagmanifest-.txt", "tagmanifest-a\n.txt")
+REASONS = ("fault", "fetch.txt", "can't be named", "would be in no manifest", "would be out of date")
 COUNTS = dict.fromkeys((*COUNTED, "refused", *REASONS), 0)
 
 
@@ -79,6 +80,8 @@ def make_bag(draw, top):
             files[name] = draw.randbytes(9)
     if draw.random() < 0.03:
         files[draw.choice(UNNAMEABLE)] = b"x"
+    if draw.random() < 0.03:
+        files[draw.choice(OUTDATED)] = b"x"
     encoding = draw.choice(("UTF-8", "UTF-8", "utf-8"))
     files["bagit.txt"] = f"BagIt-Version: {version}\nTag-File-Character-Encoding: {encoding}\n".encode()
     algorithms = draw.sample(ALGORITHMS, draw.choice((1, 1, 2, 3)))
@@ -116,9 +119,14 @@ def shares(draw, payload, algorithms, version):
     return named
 
 
+def is_nameable(path, version):
+    """Whether a manifest can name a path: by 0.97 what looks like an escaped end of a line is read as one."""
+    return path[0] not in "*\t " and (version == "1.0" or not re.search("%0[AaDd]", path))
+
+
 def add_tag_manifests(draw, version, files):
     """Some, none, or all, of any algorithms: each names all payload manifests, and of other tag files some."""
-    named = {path: content for path, content in files.items() if not path.startswith("data/") and path[0] not in "*\t "}
+    named = {path: content for path, content in files.items() if not path.startswith("data/") and is_nameable(path, version)}
     free = [algorithm for algorithm in ALGORITHMS if f"tagmanifest-{algorithm}.txt/a" not in files]
     for algorithm in draw.sample(free, draw.choice((0, 1, 1, 2))):
         share = draw.choice((1, 1, 0.5))

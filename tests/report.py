@@ -5,8 +5,8 @@ usage: tests/report.py cases FOLDER FAULTS.md OUT
        tests/report.py json|csv|tsv <DATA
 
 The first writes files of OUT: `faults`, every line of a fault in the case files; `no-faults`, those that their rows
-call none; `status-N`, the reports that they want of `bagit` with that status. The second prints the lines that the data
-say.
+call none; `status-N`, the reports that they want of `bagit` with that status, and those of parts that it joins. The
+second prints the lines that the data say.
 """
 import csv
 import json
@@ -18,6 +18,7 @@ ESCAPE = re.compile(r"\\(x[0-9A-Fa-f]{2}|.)|\$\{([^}*]+)(?:\*(\d+))?\}")
 LETTERS = {"n": "\n", "r": "\r", "t": "\t", "s": " "}
 NUL_READ = "\uE000"  # in place of a NUL, which csv can't read before Python 3.11
 FAULT = re.compile(r"([1-9]\d\d) ([a-z0-9-]+) ")
+CLASHES = {"": "", True: ", clashes", "true": ", clashes"}  # of JSON and of cells
 
 
 def encoded(text):
@@ -41,8 +42,10 @@ def line_of(record):
     if record["ended"] == "unread":
         line += f" {encoded(record['path'])} {record['cause']}"
     if record.get("part"):
-        counts = "".join(f", {name}: {record[name]}" for name in ("files", "bytes", "faults"))
-        return f"{encoded(record['bag'])} part {record['part']} {record['ended']}{counts}"
+        line = f"{encoded(record['bag'])} part {record['part']} {record['ended']}, files: {record['files']}, bytes: {record['bytes']}"
+        line += CLASHES[record.get("clashes", "")]
+        profile = f", profile: {record['profile']}" if record.get("profile") else ""
+        return f"{line}{profile}, faults: {record['faults']}"
     if record["ended"] == "has faults":
         return f"{line}: {record['faults']}"
     return f"{line}, faults: {record['faults']}" if record.get("faults") not in (None, "") else line
@@ -106,12 +109,13 @@ class Cases:
         self.files = {"faults": [], "no-faults": []}
 
     def take_file(self, path):
-        texts, reader = {}, ""
+        texts, given, reader = {}, {}, ""
         for head, below in entries_of(path):
             kind, _, rest = head.partition(" ")
-            if kind == "text":
+            if kind in ("text", "beside"):
                 name, is_here, value = rest.partition(" = ")
-                texts[name] = expanded(value, texts) if is_here else "".join(wanted_lines(below, texts))
+                into = texts if kind == "text" else given
+                into[name] = expanded(value, texts) if is_here else "".join(wanted_lines(below, texts))
             elif kind == "read":
                 reader = rest
             elif kind == "-" and reader == "line":
@@ -121,6 +125,9 @@ class Cases:
                     self.files["no-faults" if right == "not a fault line" else "faults"].append(f"{left}\n")
             elif kind == "$":
                 self.take_output(head, below, list(wanted_lines(below, texts)), path.parent.name == "broken")
+                if " --join " in head and "? 3" not in below:
+                    parts = "".join(given[word] for word in head.split() if word in given)
+                    self.files["status-1"] += parts.splitlines(True)  # the status of each part
 
     def take_output(self, command, below, lines, is_broken):
         """The faults among the lines, and a whole report. Files of `broken` want what isn't so, as another word."""
@@ -136,7 +143,7 @@ class Cases:
 
 
 def write_cases(folder, page, out):
-    cases = Cases(set(re.findall(r"^\| (\d{3}) \| `([a-z0-9-]+)` ", Path(page).read_text(), re.M)))
+    cases = Cases(set(re.findall(r"^\| *(\d{3}) *\| *`([a-z0-9-]+)`", Path(page).read_text(), re.M)))
     for path in sorted(Path(folder).rglob("*.cases")):
         cases.take_file(path)
     for name, lines in cases.files.items():

@@ -1,97 +1,47 @@
 #!/usr/bin/env bash
-# Checks bags by bagit-check-large, over a disk that fails now and then. The report that is written in pieces must be
-# that of one check of the bag, byte for byte, whichever calls fail, and also if it is killed and goes on. A bag that
-# wasn't read to its end, or was altered in between, is never called valid.
+# Checks bags by `bagit-keep check`, over a disk that fails now and then. The report must be that of one check of the bag, byte for byte,
+# whichever calls fail, and also if it is killed and goes on: a part that is done is never read again. A bag that wasn't read to its end,
+# or was altered in between, is never called valid. No clock, lock, stream or user changes that.
 #
 # usage: tests/segments.sh [PROGRAM]
 #
-# PROGRAM is crates/bagit/out/bagit by default, which `rt run` and `rt ci` leave there.
+# PROGRAM is crates/bagit/out/bagit by default, which `rt run` and `rt ci` leave there. As root it mounts disks, where that is allowed.
 set -euo pipefail
 source "$(dirname "$0")/common.sh"
 for tool in cc python3; do needs "$tool"; done
 take_program bagit "${1:-}"
-enter pieces
+enter segments
+trap 'umount "$work"/{disk,d/data/x} 2>/dev/null || true; rm -rf "$work"' EXIT
 mkdir bin
 ln -s "$(python3 -c 'import sys; print(sys.executable)')" bin/python3
-export PATH=$work/bin:$PATH
+export PATH=$work/bin:$PATH PYTHONDONTWRITEBYTECODE=1
+keep=$root/companions/bagit-keep
 
-# Runs bagit-check-large, whose report is to be `report`: what it writes is in `end` and `errors`.
-check_large() {
+# Runs `bagit-keep check`: what it writes is in `end` and `errors`.
+check() {
     status=0
-    "$root/packaging/bagit-check-large" "$@" >end 2>errors || status=$?
+    "$keep" check --wait 0 "$@" >end 2>errors || status=$?
+    ! grep Traceback errors || { cat errors; give_up "it went wrong: $*"; }
 }
 
 # What is left of a check that came to its end: the report, as in this file or of this line, and nothing beside it.
 has_report() {
     [[ -e $1 ]] || { echo "$1" >line && set -- line "${@:2}"; }
-    [[ $status == "$2" && $(<end) == "$(tail -n 1 "$1")" ]] || give_up "$3: it ends with $status: $(tail -n 3 errors)"
+    [[ $status == "$2" && $(<end) == "$(tail -n 1 "$1")" ]] || give_up "$3: it ends with $status: $(cat end; tail -n 3 errors)"
     diff "$1" report
     [[ $(echo report*) == report ]] || give_up "$3: it leaves $(echo report*)"
+    rm report
 }
 
 # What is left of a check that didn't come to its end: no report.
 has_no_report() {
     [[ $status == 3 && ! -s end && ! -e report ]] || give_up "$1: it ends with $status: $(cat end errors)"
 }
+says() { grep -qF -- "$1" errors || give_up "it doesn't say '$1', but: $(<errors)"; }
+altered() { has_no_report "$1" && says "$2 was altered since the check began; remove report.parts to begin anew"; }
 
-# A bag whose folder isn't there in each third call.
-cat >bin/bagit <<END
-#!/usr/bin/env bash
-calls=\$((\$(cat "$work/calls") + 1))
-echo "\$calls" >"$work/calls"
-if ((calls % 3 == 0)); then mv d away; fi
-"$program" "\$@"
-status=\$?
-if ((calls % 3 == 0)); then mv away d; fi
-exit "\$status"
-END
-chmod +x bin/bagit
-
-bag
-for file in a b c d e f g; do
-    put "data/$file" "$file"
-    for alg in md5 sha1; do
-        echo "$(sum other $alg)  data/$file" >>d/manifest-$alg.txt
-        echo "701 payload-sum-differs data/$file $alg - $(sum other $alg):$(sum "$file" $alg)" >>wanted
-    done
-done
-echo 'd has faults: 14' >>wanted
-diff <("$program" --validate d) wanted
-for most in 1 2 3 100; do
-    echo 0 >calls
-    rm -f report
-    check_large d --piece "$most" report --wait 0
-    has_report wanted 1 "at most $most faults a piece"
-    failures=$(grep -c '^bagit-check-large: ' errors || true)
-    [[ $failures == $(($(<calls) / 3)) ]] || give_up "$failures failures are said of $(($(<calls) / 3))"
-    echo "at most $most faults a piece: $(<calls) calls, $failures of which failed, and the report of one check"
-done
-
-# Killed where it rests after a failure, and gone on with; at last the report isn't written again.
-killed=0
-rm -f report
-echo 0 >calls
-while [[ ! -e report ]]; do
-    : >errors
-    "$root/packaging/bagit-check-large" --piece 1 d report >end 2>errors &
-    until grep -q ' unread ' errors || [[ -e report ]]; do sleep 0.05; done
-    signal=$((killed % 2 == 0 ? 9 : 15))
-    [[ -e report ]] || kill -"$signal" "$!" 2>/dev/null || true
-    status=0
-    wait "$!" 2>/dev/null || status=$?
-    [[ -e report || $status == $((signal == 9 ? 137 : 3)) ]] || give_up "killed, it ends with $status"
-    killed=$((killed + 1))
-    ((killed < 30)) || give_up 'it does not go on where it was killed'
-done
-diff wanted report
-((killed > 3)) || give_up "it was killed $killed times alone"
-check_large d report
-[[ $status == 2 ]] || give_up 'a report that is there is written again'
-diff wanted report
-echo "killed $((killed - 1)) times, and the report of one check"
-
-# From here on calls of the program fail by EIO: each so-many-th opening of a payload file, or reading of one. Openings
-# take some time if that is asked for.
+# Calls of the program fail by EIO: each so-many-th opening of a payload file, or reading of one. Openings take some time if that is asked
+# for. And a system without locks.
 cat >failing.c <<'END'
 #define _GNU_SOURCE
 #include <dlfcn.h>
@@ -155,57 +105,43 @@ ssize_t read(int fd, void *to, size_t most) {
 }
 END
 cc -O1 -shared -fPIC -o failing.so failing.c -ldl
+cat >no_locks.c <<'END'
+#define _GNU_SOURCE
+#include <dlfcn.h>
+#include <errno.h>
+#include <fcntl.h>
+#include <stdarg.h>
+#include <stdlib.h>
+
+static int no_lock(void) {
+    errno = getenv("NO_LOCKS")[0] == 'S' ? ENOSYS : ENOLCK;
+    return -1;
+}
+int flock(int fd, int how) { return no_lock(); }
+#define FCNTL(name) \
+    int name(int fd, int command, ...) { \
+        va_list rest; \
+        va_start(rest, command); \
+        void *argument = va_arg(rest, void *); \
+        va_end(rest); \
+        if (command == F_SETLK || command == F_SETLKW || command == F_OFD_SETLK) return no_lock(); \
+        int (*next)(int, int, ...) = dlsym(RTLD_NEXT, #name); \
+        return next(fd, command, argument); \
+    }
+FCNTL(fcntl)
+FCNTL(fcntl64)
+END
+cc -O1 -shared -fPIC -o no_locks.so no_locks.c -ldl
 cat >bin/bagit <<END
 #!/bin/sh
+echo "\$*" >>"$work/calls"
 echo "\$\$" >"$work/pid"
 LD_PRELOAD=$work/failing.so exec "$program" "\$@"
 END
+chmod +x bin/bagit
 export OPENINGS=$work/openings READINGS=$work/readings
 
-# How many calls a check made; begins to count again.
-counted() {
-    wc -c <"$1"
-    rm -f "$1"
-}
-
-# 1,000 good files, in folders.
-rm -rf d
-for folder in {0..9}; do
-    mkdir -p "d/$folder"
-    for file in {00..99}; do echo "$folder $file" >"d/$folder/$file"; done
-done
-"$program" --md5 --sha256 d >made
-bagit --validate d >wanted
-diff wanted - <<<'d is valid'
-whole=$(counted openings)
-[[ $whole == 1000 ]] || give_up "one check opens $whole files of the payload"
-rm -f report
-FAILING_OPENING=100 check_large d report --wait 0
-failures=$(grep -c '^bagit-check-large: ' errors || true) openings=$(counted openings)
-has_report wanted 0 'each hundredth opening fails'
-((failures == 10 && openings * 100 <= whole * 102)) || give_up "$failures failures and $openings openings"
-echo "each hundredth opening fails: $failures failures, and $openings openings of the payload, $whole by one check"
-
-# Killed after any number of openings, it goes on at the file at which it stopped last.
-killed=0
-rm -f report
-: >openings
-until [[ -e report ]]; do
-    most=$(($(stat -c %s openings) + 1 + RANDOM % 150))
-    FAILING_OPENING=20 PAUSE=1000 "$root/packaging/bagit-check-large" d report --wait 0 >end 2>errors &
-    until (($(stat -c %s openings) >= most)) || [[ ! -e /proc/$! ]]; do sleep 0.01; done
-    kill -"$((RANDOM % 2 ? 9 : 15))" "$!" 2>/dev/null || true
-    wait "$!" 2>/dev/null || true
-    killed=$((killed + 1))
-    ((killed < 200)) || give_up 'killed again and again, a good bag does not come to its end'
-done
-openings=$(counted openings)
-diff wanted report
-((killed > 3 && openings < 2500)) || give_up "it was killed $killed times, with $openings openings"
-echo "killed at any time, $killed times: $openings openings, and the report of one check"
-
-# Damaged bags, whose names are what they may be: the same report, whichever openings and readings fail.
-rm -rf d
+# Damaged bags, whose names are what they may be: the same report, whichever openings and readings fail, in any number of parts.
 mkdir -p d/x 'd/x y' d/é
 for name in plain 'two words' '100%' '%25' "it's" '"quoted"' $'two\nlines' $'tab\tand\rreturn' - '$(touch ran)' \
     'a;touch ran' x/1 x/2 'x y/1' é/1 $'\e[2J' ' unread data' 'z device, faults: 0'; do
@@ -229,18 +165,19 @@ damage() {
     [[ $1 == 2 ]] || : >d/data/unlisted
 }
 checks=0
-for every in 2 3 5; do
+for every in 2 3; do
     damage "$every"
     bagit --validate d >wanted || [[ $? == 1 ]]
     (($(wc -l <wanted) > 10)) || give_up 'too little is damaged'
-    for failing in OPENING={2,7} READING={3,9}; do
-        for most in 1 1000; do
-            rm -f report openings readings
+    for failing in OPENING=20 READING=40; do
+        for parts in 1 6; do
+            head -c 15 /dev/zero >openings
+            head -c 31 /dev/zero >readings
             export "FAILING_$failing"
-            check_large --wait 0 --piece "$most" d report
+            check --parts "$parts" d report
             export -n "FAILING_${failing%=*}"
-            has_report wanted 1 "$failing, $most faults a piece"
-            [[ -s errors ]] || give_up "no ${failing%=*} fails"
+            has_report wanted 1 "$failing, $parts parts"
+            says ' unread data/'
             checks=$((checks + 1))
         done
     done
@@ -248,234 +185,297 @@ done
 [[ ! -e ran && ! -e d/ran ]] || give_up 'a name runs a command'
 echo "damaged bags: $checks checks give the report of one"
 
-# One file that can't be read, however often it is tried: what is before it is found, and no more is said. Then it can.
-damage 3
-bagit --validate d >wanted || [[ $? == 1 ]]
-rm -f report
-BAD_FILE=/data/x/ check_large --wait 0 --tries 4 d report
-has_no_report 'a file that is bad'
-[[ $(grep -c ' unread data/x/.* device, ' errors) == 4 ]] || give_up "it tries $(wc -l <errors) times"
-cp report.part kept
-check_large --wait 0 d report
-has_report wanted 1 'a file that was bad'
-for ((lines = 1; lines <= $(wc -l <kept); lines += 4)); do
-    rm report
-    head -n "$lines" kept >report.part
-    tail -n 1 kept | head -c 7 >>report.part
-    check_large --wait 0 d report
-    has_report wanted 1 "the first $lines lines are left"
-done
-rm report
-cat >cut_off <<'END'
+# A bag whose folder isn't there in each third call.
+cat >coming <<END
 #!/usr/bin/env bash
-[[ $* == *--completeness-only* ]] || exec bagit "$@"
-bagit "$@" | head -c 250
-exit 137
-END
-chmod +x cut_off
-cp kept report.part
-BAGIT=$work/cut_off check_large --wait 0 d report
-has_no_report 'the last look is cut off'
-check_large --wait 0 d report
-has_report wanted 1 'the last look was cut off'
-rm report
-FAILING_OPENING=1 check_large --wait 0 --tries 3 d report
-has_no_report 'no file can be read'
-[[ $(grep -c ' unread data/.* device, ' errors) == 3 ]] || give_up "it tries $(wc -l <errors) times"
-check_large --wait 0 d report
-has_report wanted 1 'all files can be read again'
-echo "a file that can't be read: no report until it can be, also if the end of what was found is lost"
-
-# A good bag that isn't there, or is another, when the check goes on at a file: never valid.
-good() {
-    rm -rf d report report.part openings
-    mkdir d
-    for file in a b c d e; do echo "$file" >"d/$file"; done
-    "$program" --md5 d >made
-    BAD_FILE=/data/d check_large --wait 0 --tries 1 d report
-    has_no_report 'one file is bad'
-    [[ $(tail -n 1 report.part) == 'd unread data/d device, faults: 0' ]] || give_up 'its place is lost'
-}
-goes_on_beside() {
-    good
-    cat >swapping <<END
-#!/usr/bin/env bash
-if [[ \$* == *--after* ]]; then $1; fi
-"$program" "\$@"
+calls=\$((\$(cat "$work/turns") + 1))
+echo "\$calls" >"$work/turns"
+if ((calls % 3 == 0)); then mv d away; mkdir d; fi
+bagit "\$@"
 status=\$?
-if [[ \$* == *--after* ]]; then $2; fi
+if ((calls % 3 == 0)); then rmdir d; mv away d; fi
 exit "\$status"
 END
-    chmod +x swapping
-    BAGIT=$work/swapping check_large --wait 0 --tries 2 d report
-    has_no_report "$1"
-    rm -rf d away
-}
-goes_on_beside 'mv d away; mkdir d' ':'
-goes_on_beside 'mv d away; mkdir d' 'rmdir d; mv away d'
-goes_on_beside 'mv d/data away' 'mv away d/data'
-goes_on_beside 'rm d/data/a' ':'
-goes_on_beside 'rm d/manifest-md5.txt' ':'
-goes_on_beside 'mv d/data/d away' 'mv away d/data/d'
+chmod +x coming
+echo 0 >turns
+BAGIT=$work/coming check --parts 4 d report
+has_no_report 'another folder was there for a while'
+rm -rf report.parts
 
-# The bag is altered or exchanged while a check waits after a failure, or between two runs; the clock was set back since
-# it began; or the program's closing line has another name.
-ends_saying() {
-    has_no_report "$1"
-    [[ $(tail -n 1 errors) == "bagit-check-large: $2" ]] || give_up "$1: $(<errors)"
-}
-in_the_wait() {
-    good
-    rm report.part
-    touch -r d before
-    cat >waited <<END
-#!/usr/bin/env bash
-[[ \$* != *--after* || -e ../past_wait ]] || { touch ../past_wait; $1; }
-[[ \$* == *--after* ]] || export BAD_FILE=/data/d
-exec bagit "\$@"
-END
-    sed -i "s#\.\./past_wait#$work/past_wait#g" waited
-    chmod +x waited
-    rm -f past_wait
-    BAGIT=$work/waited check_large --wait 0 --tries 3 d report
-    [[ -e past_wait ]] || give_up "$1: it did not go on"
-    ends_saying "in the wait: $1" "$2 was altered since the check began; remove report.part to begin anew"
-    rm -rf d away
-}
-in_the_wait 'printf X | dd conv=notrunc of=d/data/b 2>said; touch -r before d/data/b' "$work/d/data/b"
-in_the_wait 'rm d/data/b; printf "b\n" >d/data/b' "$work/d/data"
-in_the_wait 'cp -a d away; rm -r d; mv away d' d
-in_the_wait 'mv d away; mkdir d; cp -a away/. d' d
-good
-mv d away
-cp -a away d
-check_large --wait 0 d report
-ends_saying 'exchanged between two runs' 'd was altered since the check began; remove report.part to begin anew'
-good
-sed -i "1s/\"begun\": [0-9.]*/\"begun\": $(($(date +%s) + 3600)).5/" report.part
-check_large --wait 0 d report
-ends_saying 'the clock was set back' \
-    'report.part is of a check that began later than now; remove it to begin anew'
-for other in e ./d "$work/d" D; do
-    good
-    rm -rf report.part
-    printf '#!/bin/sh\necho "%s is valid"\n' "$other" >misnaming
-    chmod +x misnaming
-    BAGIT=$work/misnaming check_large --wait 0 d report
-    ends_saying "the closing line is of $other" "bagit wrote the report of another bag: $other is valid"
+# One file that can't be read, however often it is tried: no report, and what was found is named. With --go-past, what comes after it is
+# checked too. Then it can be read, and only its part is.
+damage 3
+bagit --validate d >wanted || [[ $? == 1 ]]
+BAD_FILE=/data/x/ check --tries 4 --parts 5 d report
+has_no_report 'a file that is bad'
+[[ $(grep -c ' unread data/x/.* device, ' errors) == 4 ]] || give_up "it tries $(grep -c unread errors) times"
+bad=$(sed -n 's/.*part \([1-5]\) of 5: .*unread.*/\1/p' errors | head -n 1)
+says "of 5 parts these aren't done: $bad"
+BAD_FILE=/data/x/ check --tries 1 --go-past d report
+has_no_report 'a file that is passed by'
+says "part $bad of 5: d unread data/x/1 device, faults: "
+says "part $bad of 5: d part $bad of 5 rest done, "
+says "of 5 parts these aren't done: $bad"
+cat report.parts/*.part report.parts/"$bad".*.{try,past} | grep '^[1-8]' | sort -u >found
+diff <(grep -v ' data/x/' wanted | grep '^[1-8]' | sort) <(grep -v ' data/x/' found) || give_up 'beyond a bad file it finds others'
+: >calls
+check d report
+has_report wanted 1 'a file that was bad'
+[[ $(grep -c -- --part calls) == 1 ]] || give_up 'parts that were done are read again'
+for cause in 'mkfifo d/data/pipe' 'rm d/data/pipe; chmod 0 d/data/x'; do
+    eval "$cause"
+    if [[ $cause == *chmod* && $(id -u) == 0 ]]; then
+        # Another user than root: what it may not read is never taken for read, and once it may the check is made.
+        chmod 777 . && chmod -R a+rwX d bin failing.so && chmod 0 d/data/x
+        as_nobody() { setpriv --reuid 65534 --regid 65534 --clear-groups "$@"; }
+        as_nobody test -x "$program" && as_nobody test -r "$keep" || continue
+        status=0
+        as_nobody env BAGIT="$program" "$keep" check --wait 0 --tries 2 d report >end 2>errors || status=$?
+        has_no_report 'what nobody may read'
+        chmod 755 d/data/x
+        rm -rf report.parts
+        as_nobody env BAGIT="$program" "$keep" check --wait 0 --tries 2 d report >end 2>errors || status=$?
+        [[ $status == 1 && $(<end) == "$(tail -n 1 report)" ]] || give_up "as nobody it ends with $status: $(<errors)"
+        rm -f report
+    elif [[ $cause == mkfifo* ]]; then
+        : >calls
+        check --tries 4 d report
+        has_no_report "$cause"
+        [[ $(wc -l <calls) == 1 ]] || give_up 'a pipe is tried again'
+    fi
+    rm -rf report.parts
 done
-rm -rf away
-altered() {
-    good
-    touch -r d before
-    (cd d && bash -e <<<"$1")
-    touch -r before d
-    check_large --wait 0 d report
-    has_no_report "$1"
-    [[ $(tail -n 1 errors) == *' was altered since the check began; remove report.part to begin anew' ]] ||
-        give_up "$1: $(<errors)"
-    rm report.part
-    check_large --wait 0 d report
-    diff report <("$program" --validate d)
-}
-altered 'echo b >>data/b'
-altered 'touch -r data/b ../kept; printf X | dd conv=notrunc of=data/b 2>../said; touch -r ../kept data/b'
-altered 'cp -p data/b data/b2; mv data/b2 data/a'
-altered 'touch data/f'
-altered 'mv data/a data/A'
-altered 'echo x >manifest-sha1.txt'
-good
-mv d away
+chmod -R u+rwX d
+echo "a file that can't be read: no report until it can be"
+
+# Killed after any number of openings, it goes on: a part that is done isn't read again. No process is left.
+rm -rf d
 mkdir d
-touch -r away d
-check_large --wait 0 d report
-has_no_report 'only the folder is there, as of a disk that is not mounted'
-rmdir d
-mv away d
-check_large --wait 0 d report
-has_report 'd is valid' 0 'it was not altered'
-echo 'a bag that is not there, or was altered, is not called valid'
-
-# What isn't of this check is left as it is.
-for other in 'a text' '{"begun": 1}' '["begun"]' '701 payload-sum-differs data/z - - -' ''; do
-    rm -f report
-    printf '%s\n' "$other" >report.part
-    check_large d report
-    [[ $status == 2 && $(<report.part) == "$other" ]] || give_up "it goes on with '$other'"
+for file in {10..49}; do echo "$file" >"d/$file"; done
+"$program" --md5 d >made
+for end in KILL TERM INT HUP child guard; do
+    killed=0
+    : >openings
+    until [[ -e report ]]; do
+        : >calls
+        done_parts=$(ls report.parts 2>/dev/null | grep -c 'part$' || true)
+        most=$(($(stat -c %s openings) + 3 + RANDOM % 12))
+        (trap - INT; PAUSE=20000 exec setsid "$keep" check --wait 0 --tries 3 --parts 10 --jobs 2 d report) >end 2>errors &
+        until (($(stat -c %s openings) >= most)) || [[ ! -e /proc/$! ]]; do sleep 0.01; done
+        case $end in
+            child) kill -KILL "$(<pid)" 2>/dev/null || true ;;
+            guard) for guard in $(pgrep -P $! -f BAGIT_KEEP_GUARD); do kill -KILL "$guard" 2>/dev/null || true; done ;;
+            *) kill -"$end" "$!" 2>/dev/null || true ;;
+        esac
+        status=0
+        wait "$!" 2>/dev/null || status=$?
+        case $end in
+            KILL) [[ $status == 137 || -e report ]] || give_up "killed it ends with $status" ;;
+            TERM | INT | HUP) [[ $status == 3 || -e report ]] || give_up "ended by $end it ends with $status: $(<errors)" ;;
+            *) [[ $status == 0 && -e report ]] || give_up "a $end was killed, and it ends with $status: $(<errors)" ;;
+        esac
+        for _ in {1..100}; do
+            pgrep -f "$program --validate .* -- d\$" >/dev/null || break
+            sleep 0.05
+        done
+        ! pgrep -f "$program --validate .* -- d\$" || give_up "$end leaves a process"
+        killed=$((killed + 1))
+        ((killed < 60)) || give_up 'killed again and again, a good bag does not come to its end'
+        (($(grep -c -- --part calls || true) <= 10 - done_parts + 3)) || give_up "done parts are read again: $done_parts, $(<calls)"
+    done
+    diff report <(echo 'd is valid')
+    [[ $(echo report*) == report ]] || give_up "$end: it leaves $(echo report*)"
+    rm report
+    echo "$end, $killed times: $(stat -c %s openings) openings of 40 files, and the report of one check"
 done
-good
-sed -i 's/data\/d device/bagit.txt device/' report.part
-check_large d report
-has_no_report 'a line that was edited'
-good
-check_large --fast d report
-[[ $status == 2 ]] || give_up 'it goes on by other options'
-check_large --wait 0 d report
-has_report 'd is valid' 0 'by the options of before'
-rm report
+
+# Two at once are refused, by locks and without them; what a killed one has left there says whose it was.
+printf '#!/bin/sh\ntouch "%s/held"\nuntil [ -e "%s/go" ]; do sleep 0.1; done\nexec bagit "$@"\n' "$work" "$work" >holding
+chmod +x holding
+for locks in '' SYS LCK; do
+    preload=$([[ ! $locks ]] || echo "$work/no_locks.so")
+    for words in '--parts 2' '--task 1/2'; do
+        rm -f held go
+        # shellcheck disable=SC2086
+        BAGIT=$work/holding NO_LOCKS=$locks LD_PRELOAD=$preload "$keep" check --wait 0 $words d report >first 2>&1 &
+        until [[ -e held ]]; do sleep 0.05; done
+        # shellcheck disable=SC2086
+        BAGIT=$work/holding NO_LOCKS=$locks LD_PRELOAD=$preload check $words d report
+        has_no_report "two at once, with $words"
+        says 'another process is at work in report.parts'
+        [[ ! $locks ]] || says "$(hostname) $!. If it isn't, remove that file"
+        kill -KILL $!
+        wait $! 2>/dev/null || true
+    done
+    rm -f report.parts/*.locked
+    touch go
+    BAGIT=$work/holding NO_LOCKS=$locks LD_PRELOAD=$preload check --jobs 2 d report
+    has_report 'd is valid' 0 'one after the other'
+done
+echo 'two at once are refused, with locks and without'
+
+# What is altered between two parts is seen, whatever the clocks say.
+goes_on_after() {
+    check --task 1/3 d report
+    (eval "$1") 2>said
+    check "${@:3}" --parts 3 d report
+    altered "$1" "$2"
+    check --join d report
+    has_no_report "$1"
+    rm -rf report.parts away
+}
+goes_on_after 'touch -r d/data/20 kept; printf X | dd conv=notrunc of=d/data/20; touch -r kept d/data/20' d/data/20
+goes_on_after 'rm d/data/20; echo 20 >d/data/20' d/data/20
+goes_on_after 'cp -p d/data/20 d/data/200; mv d/data/200 d/data/20' d/data/20
+goes_on_after 'touch d/data/late; rm d/data/late' d/data
+goes_on_after 'touch d/late' d/late
+goes_on_after 'cp -a d away; rm -r d; mv away d' d/bag-info.txt
+goes_on_after 'mv d away; mkdir d' d/bag-info.txt
+rm -rf d
+mkdir d
+for file in {10..29}; do echo "$file" >"d/$file"; done
+"$program" --md5 d >made
+looked='clocks as they are'
+if type -P faketime >/dev/null; then
+    for hours in +1h -1h; do
+        faketime -f "$hours" "$keep" check --wait 0 --task 1/2 d report >end 2>errors
+        faketime -f "-30m" "$keep" check --wait 0 --task 2/2 d report >end 2>errors
+        check --join d report
+        has_report 'd is valid' 0 "clocks of two machines, one $hours"
+        faketime -f "$hours" "$keep" check --wait 0 --task 1/2 d report >end 2>errors
+        printf X | dd conv=notrunc of=d/data/10 2>said
+        check --jobs 2 d report
+        altered "the clock was $hours" d/data/10
+        status=0
+        faketime -f +2h "$keep" check --wait 0 d report >end 2>errors || status=$?
+        altered 'the time has come' d/data/10
+        printf 1 | dd conv=notrunc of=d/data/10 2>said
+        rm -r report.parts
+    done
+    looked='clocks that are ahead or back'
+fi
+
+# A folder that is mounted in between, and a disk that keeps whole seconds.
+mkdir -p other d/data/x disk
+echo 10 >other/10
+if mount --bind other d/data/x 2>/dev/null; then
+    umount d/data/x
+    check --task 2/2 d report
+    mount --bind other d/data/x
+    check --task 1/2 d report
+    altered 'a mounted folder' d/data/x/10
+    umount d/data/x
+    rm -r report.parts
+    looked+=', a folder that is mounted'
+fi
+rmdir d/data/x
+if truncate -s 8M image && mkfs.ext4 -q -I 128 image 2>/dev/null && mount -o loop image disk 2>/dev/null; then
+    cp -r d disk/d
+    for _ in 1 2 3; do
+        python3 -c 'import time; time.sleep(1.02 - time.time() % 1)'
+        echo 10 >disk/d/data/10
+        check --task 1/2 disk/d report
+        touch -r disk/d/data/10 kept
+        printf X | dd conv=notrunc of=disk/d/data/10 2>said
+        touch -r kept disk/d/data/10
+        check --task 2/2 disk/d report
+        altered 'a disk of whole seconds' disk/d/data/10
+        rm -r report.parts
+    done
+    umount disk
+    looked+=', a disk of whole seconds'
+fi
+echo "what is altered between two parts is seen: $looked"
+
+# What isn't of this check is left as it is, and nothing is overwritten.
+mkdir report.parts
+touch report.parts/{mine,joined}
+check d report
+[[ $status == 2 && $(ls report.parts) == $'joined\nmine' ]] || give_up "a folder of mine: it ends with $status"
+rm -r report.parts
 for report in d/report d/data/report ./d/../d/report; do
-    check_large d "$report"
+    check d "$report"
     [[ $status == 2 ]] || give_up "it writes $report into the bag"
 done
 [[ $(find d -name 'report*' | wc -l) == 0 ]] || give_up 'it leaves a file in the bag'
 ln -s d link
-check_large link link/report
+check link link/report
 [[ $status == 2 ]] || give_up 'it writes the report into the bag by a link'
-for words in '--piece 0' '--tries x' '--wait -1' '--unknown' '--piece' '--profile'; do
-    check_large d report $words
-    [[ $status == 2 && $(<errors) == 'bagit-check-large: '* && ! -e report ]] || give_up "it takes $words"
+cp -a d e
+check --task 1/2 link report
+ln -sfn e link
+check --task 2/2 link report
+[[ $status == 2 ]] && says 'is of a check of another bag' || give_up 'a link names another bag'
+rm -r report.parts link e
+for words in '--piece 1' '--parts 0' '--parts 65537' '--tries x' '--wait -1' '--unknown' '--profile' '--fast' '--jobs 0' '--task 3/2' \
+    '--task 1/70000' '--join --jobs 2' '--task 1/2 --parts 2'; do
+    check d report $words
+    [[ $status == 2 && $(<errors) == 'bagit-keep: '* && ! -e report && ! -e report.parts ]] || give_up "it takes $words"
 done
-check_large nowhere report
+check d report extra
+[[ $status == 2 ]] || give_up 'it takes three operands'
+echo mine >report
+check d report
+[[ $status == 2 && $(<report) == mine ]] || give_up 'a report that is there is written again'
+rm report
+printf '#!/bin/sh\ncase "$*" in *--join*) echo mine >"%s/report";; esac\nexec "%s" "$@"\n' "$work" "$program" >late
+chmod +x late
+BAGIT=$work/late check d report
+[[ $status == 3 && $(<report) == mine ]] || give_up "what came meanwhile is overwritten: $status"
+rm -r report report.parts
+check nowhere report
 has_no_report 'a folder that is not there'
-check_large d nowhere/report
+check d nowhere/report
 has_no_report 'no folder for the report'
+BAGIT=nowhere check d report
+has_no_report 'no program'
 mv d ./-d
-check_large --wait 0 --clashes -- -d report
+check --clashes -- -d report
 has_report '-d is valid' 0 'a name like an option'
 mv ./-d d
-for depth in fast:'agrees with its oxum' completeness-only:'is complete'; do
-    rm report
-    check_large d --"${depth%%:*}" report
-    has_report "d ${depth#*:}" 0 "${depth%%:*}"
+for closed in '2>&-' '<&-'; do
+    status=0
+    eval '"$keep" check d report >end '"$closed" || status=$?
+    : >errors
+    has_report 'd is valid' 0 "with $closed"
 done
+status=0
+"$keep" check d report >&- 2>errors || status=$?
+[[ $status == 0 && $(<report) == 'd is valid' && ! -e report.parts ]] || give_up "with a closed output it ends with $status: $(<errors)"
+rm report
+bytes=$(printf 'd\xff')
+mv d "$bytes"
+check "$bytes" report
+has_report '. is valid' 0 'a name that is no UTF-8'
+mv "$bytes" d
+tar -cf d.tar d
+check --parts 3 d.tar report
+has_report 'd.tar is valid' 0 'a bag in a .tar'
 
 # The disk of the report is full: no report; then there is room, and it goes on.
-damage 3
-bagit --validate d >wanted || [[ $? == 1 ]]
-rm -f report
-for blocks in 1 2 4; do
+for blocks in 0 1; do
     status=0
     (
-        ulimit -f "$blocks"
         trap '' XFSZ
-        exec "$root/packaging/bagit-check-large" --wait 0 --piece 5 d report
+        ulimit -f "$blocks"
+        exec "$keep" check --wait 0 --tries 2 --parts 3 d report
     ) >end 2>errors || status=$?
     has_no_report "a disk of $blocks blocks"
 done
-check_large --wait 0 d report
-has_report wanted 1 'there is room again'
-echo 'a full disk: no report until there is room'
+check --parts 3 d report
+has_report 'd is valid' 0 'there is room again'
 
-# How far it is, once a second: on lines of its own if it is asked for, on one line on a terminal, and no name controls
-# that.
+# How far it is, on a terminal: no name controls that.
 rm -rf d
 mkdir d
 for number in {10..40}; do head -c 100000 /dev/zero >d/$'\e[2J\n'"$number"; done
 "$program" --md5 d >made
-rm -f report
-PAUSE=100000 check_large --wait 0 --progress d report
-has_report 'd is valid' 0 'it says how far it is'
-read_so_far='[0-9.]+ [kM]B of 3\.1 MB, [0-9.]+ [kM]B/s, 0:00:[0-9][0-9] left, faults: 0'
-[[ $(wc -l <errors) -ge 2 ]] && ! grep -vE "^bagit-check-large: data/%1B\[2J%0A[1-4][0-9] $read_so_far\$" errors ||
-    give_up 'it says otherwise how far it is'
-sed -i '/Payload-Oxum/d' d/bag-info.txt
-rm -f report d/tagmanifest*
-[[ $(python3 - "$root/packaging/bagit-check-large" 2>&1 <<'END'
+[[ $(python3 - "$keep" 2>&1 <<'END'
 import os, pty, re, sys
 os.environ["PAUSE"] = "100000"
 pid, fd = pty.fork()
 if pid == 0:
-    os.execv(sys.argv[1], [sys.argv[1], "d", "report"])
+    os.execv(sys.argv[1], [sys.argv[1], "check", "--parts", "3", "d", "report"])
 text = b""
 try:
     while chunk := os.read(fd, 4096):
@@ -483,21 +483,8 @@ try:
 except OSError:
     pass
 status = os.waitstatus_to_exitcode(os.waitpid(pid, 0)[1])
-shown = re.findall(rb"\r\S*J%0A[1-4][0-9] [0-9.]+ [kM]B of 3\.1 MB, ", text)
-print(status, len(shown) >= 2, text.count(b"\n"), b"\x1b" in text)
+shown = re.findall(rb"\r[0-3] of 3 parts, [0-9.]+ \w+ of 3\.1 MB, [0-9:?]+ left, at work: part [1-3] *\r", text)
+print(status, len(shown) >= 2, b"\x1b" in text)
 END
-) == '0 True 1 False' ]] || give_up 'on a terminal it says otherwise how far it is'
-rm report
-for signal in TERM HUP; do
-    : >errors
-    PAUSE=100000 "$root/packaging/bagit-check-large" --progress d report >end 2>errors &
-    until [[ -s errors ]]; do sleep 0.1; done
-    process=$(<pid)
-    [[ -e /proc/$process ]] || give_up 'there is no check to be ended'
-    kill -"$signal" "$!"
-    status=0
-    wait "$!" || status=$?
-    has_no_report "ended by $signal"
-    [[ ! -e /proc/$process && $(echo report*) == 'report*' ]] || give_up 'it leaves a process or a file behind'
-done
-echo 'how far it is, is said each second, and no process is left behind'
+) == '0 True False' ]] || give_up 'on a terminal it says otherwise how far it is'
+echo 'how far it is, is said each second'

@@ -1,29 +1,31 @@
-"""Changes archives of valid bags, and compares what bagit reads of each with what GNU tar and Python unpack. tests/tars.py calls it."""
+"""Changes archives of valid bags, and compares what bagit reads of each with what other programs unpack. tests/tars.py calls it."""
 import os
 import posixpath
 import random
 import shutil
 import subprocess
 import tarfile
+import unicodedata
 from pathlib import Path
 from typing import Dict, List, Optional
 
 from tar_bags import Wrong, headers, sealed, write
 
 Files = Dict[str, bytes]
+OTHERS = (["bsdtar", "-xof"], ["busybox", "tar", "-xof"])
+"""Readers that may complain of what is valid, as busybox does of headers without a magic."""
 
 
-def unpacked_by_tar(archive: str) -> Optional[Files]:
-    """The files that GNU tar unpacks, or none where it complains."""
-    target = Path("by-tar")
+def unpacked_by(command: List[str], archive: str, folder: str) -> Optional[Files]:
+    """The files that a program unpacks into a folder, or none where it complains."""
+    target = Path(folder)
     shutil.rmtree(target, ignore_errors=True)
     target.mkdir()
-    command = ["tar", "--no-same-owner", "-xf", archive, "-C", str(target)]
-    ended = subprocess.run(command, capture_output=True, check=False)
+    ended = subprocess.run([*command, os.path.abspath(archive)], cwd=target, capture_output=True, check=False)
     for path, folders, _ in os.walk(target):
-        for folder in folders:
-            os.chmod(os.path.join(path, folder), 0o755)
-    if ended.returncode:
+        for name in folders:
+            os.chmod(os.path.join(path, name), 0o755)
+    if ended.returncode or ended.stderr and command[0] != "tar":
         return None
     files = [file for file in target.rglob("*") if file.is_file() and not file.is_symlink()]
     for file in files:
@@ -86,9 +88,10 @@ def is_valid_bag(program: str, files: Files) -> bool:
 
 
 def same_to_readers(program: str, archive: str, content: bytes) -> None:
-    """What bagit calls valid GNU tar and Python unpack alike, as one valid bag."""
+    """What bagit calls valid GNU tar and Python unpack alike, as one valid bag; bsdtar and busybox, where they are, complain or unpack the
+    same."""
     write(archive, content)
-    by_tar = unpacked_by_tar(archive)
+    by_tar = unpacked_by(["tar", "--no-same-owner", "-xf"], archive, "by-tar")
     by_python = unpacked_by_python(archive)
     if by_tar is None or by_python is None:
         raise Wrong(f"{archive} is valid, and {'GNU tar' if by_tar is None else 'Python'} complains")
@@ -96,6 +99,15 @@ def same_to_readers(program: str, archive: str, content: bytes) -> None:
         raise Wrong(f"{archive} is valid, and GNU tar and Python unpack other files: {sorted(by_tar)} and {sorted(by_python)}")
     if not is_valid_bag(program, by_tar):
         raise Wrong(f"{archive} is valid, and GNU tar unpacks no valid bag")
+    for command in OTHERS:
+        other = unpacked_by(command, archive, "by-another") if shutil.which(command[0]) else None
+        if other is not None and composed(other) != composed(by_tar):
+            raise Wrong(f"{archive} is valid, and {command[0]} unpacks other files: {sorted(by_tar)} and {sorted(other)}")
+
+
+def composed(files: Files) -> Files:
+    """The files by names in their composed form, since bsdtar composes what records say."""
+    return {unicodedata.normalize("NFC", path): content for path, content in files.items()}
 
 
 def verdicts(program: str, archives: List[bytes]) -> List[str]:

@@ -141,15 +141,26 @@ def end_of(*members: bytes) -> bytes:
     return b"".join(members) + bytes(1024)
 
 
+def old(archive: bytes, at: int) -> bytes:
+    """The archive with an old header at a place: its flag is NUL, and it has no magic."""
+    return altered(altered(archive, at, 156, b"\0"), at, 257, bytes(8))
+
+
 DECLARED = member("d/bagit.txt", b"BagIt-Version: 1.0\nTag-File-Character-Encoding: UTF-8\n")
 FILE = member("d/data/a", b"a")
 LONG_NAME = "d/data/" + "l" * 120 + "/"
 LONG_FOLDER = member(LONG_NAME, kind=tarfile.DIRTYPE)
+LONG_OLD_FOLDER = old(LONG_FOLDER, len(LONG_FOLDER) - 512)
+LONG_LINK = member("././@LongLink", b"d/data/a\0", kind=tarfile.GNUTYPE_LONGLINK)
+EMPTY, FOLDER = member("d/data/e"), member("d/data/f/", kind=tarfile.DIRTYPE)
+LINK = member("d/data/h", kind=tarfile.LNKTYPE, link="d/data/a")
+DEEP = f"d/data/{'/'.join(['n' * 200] * 21)}"[:4095]
+"""A path for which systems have just room."""
 
 
 def record(text: bytes) -> bytes:
     """A record of an extended header, which begins with its own length."""
-    size = next(n for n in range(len(text), len(text) + 9) if n == len(str(n)) + len(text) + 2)
+    size = next(n for n in range(len(text), len(text) + 12) if n == len(str(n)) + len(text) + 2)
     return b"%d %s\n" % (size, text)
 
 
@@ -185,7 +196,23 @@ REFUSED = {
     "a-key-after-a-blank": (end_of(extended(b" path=d/data/b"), FILE), "d/PaxHeaders/a damaged"),
     "an-empty-key": (end_of(extended(b"=x"), FILE), "d/PaxHeaders/a damaged"),
     "a-sparse-file-of-Solaris": (end_of(extended(b"SUN.holesdata= 0 1"), FILE), "d/PaxHeaders/a special"),
-    "two-names-of-an-old-folder": (end_of(FILE, altered(LONG_FOLDER, len(LONG_FOLDER) - 512, 156, b"\0")), LONG_NAME + " damaged"),
+    "two-names-of-an-old-folder": (end_of(FILE, LONG_OLD_FOLDER), LONG_NAME + " damaged"),
+    "a-sparse-file-by-GNU's-magic": (end_of(altered(FILE, 0, 386, b"0")), "d/data/a damaged"),
+    "another-size-by-GNU's-magic": (end_of(altered(FILE, 0, 483, b"00000000002")), "d/data/a damaged"),
+    "an-empty-file-with-a-link": (end_of(FILE, altered(EMPTY, 0, 157, b"d/data/a")), "d/data/e damaged"),
+    "an-empty-file-with-a-long-link": (end_of(FILE, LONG_LINK, EMPTY), "d/data/e damaged"),
+    "an-empty-file-with-a-link-in-a-record": (end_of(FILE, extended(b"linkpath=d/data/a"), EMPTY), "d/data/e damaged"),
+    "an-old-flag-and-a-slash": (end_of(FILE, altered(FOLDER, 0, 156, b"\0")), "d/data/f/ name"),
+    "another-size-in-a-record": (end_of(extended(b"size=2"), FILE), "d/data/a damaged"),
+    "no-size-but-in-a-record": (end_of(extended(b"size=1"), EMPTY, bytes(512)), "d/data/e damaged"),
+    "a-link-with-a-size": (end_of(FILE, extended(b"size=0"), altered(LINK, 0, 124, b"00000000001")), "d/data/h damaged"),
+    "a-drive": (end_of(member("C:/data/a", b"a")), "C:/data/a name"),
+    "a-drive-before-a-name": (end_of(member("z:d/data/a", b"a")), "z:d/data/a name"),
+    "a-backslash-at-the-top": (end_of(member("\\/data/a", b"a")), "\\/data/a name"),
+    "a-long-component": (end_of(FILE, member(f"d/data/{'n' * 256}", b"a")), f"d/data/{'n' * 256} name"),
+    "a-long-path": (end_of(FILE, member(DEEP + "n", b"a")), DEEP + "n name"),
+    "a-link-of-a-long-path": (end_of(FILE, member(DEEP + "n", kind=tarfile.LNKTYPE, link="d/data/a")), DEEP + "n name"),
+    "a-long-record": (end_of(extended(b"comment=" + b"x" * 1_000_000), FILE), "d/PaxHeaders/a damaged"),
 }
 """Archives that hold no bag, with the member and the cause that are named."""
 
@@ -195,6 +222,7 @@ def see_refused(program: str) -> str:
         write(f"{title}.tar", archive)
     by_tar = {"from-within": (["-C", "d", "."], r"\S+ no-base"), "sparse": (["-S", "d"], "d/data/hole special")}
     by_tar["sparse-by-pax"] = (["--format=pax", "-S", "d"], r"\S+ special")
+    by_tar["the-name-of-a-volume"] = (["--label=volume", "d"], "volume special")
     small_bag()
     with open("d/data/hole", "wb") as hole:
         hole.truncate(1 << 20)
@@ -225,8 +253,15 @@ def see_no_archives(program: str) -> str:
     return f"{len(wanted)} no archives"
 
 
+def sized(archive: bytes) -> bytes:
+    """The archive with a record before a file, that has the size of its header."""
+    at = next(at for at in headers(archive) if archive[at + 124:at + 136] == b"%011o\0" % 600)
+    return archive[:at] + extended(b"size=600") + archive[at:]
+
+
 def see_kept(program: str) -> str:
-    """Hard links are files, a folder may come twice, and what follows the end isn't looked at."""
+    """Hard links are files, a folder may come twice, and what follows the end isn't looked at. Device numbers may be blank, an old folder
+    may be known by a slash, and a record may say a header's size again."""
     small_bag()
     os.link("d/data/a", "d/data/linked")
     Path("d/manifest-md5.txt").write_bytes(Path("d/manifest-md5.txt").read_bytes() + manifest("md5", {"data/linked": b"a" * 600}))
@@ -236,12 +271,15 @@ def see_kept(program: str) -> str:
     write("e.tar", end_of(member("e/data/a", b"other")))
     write("joined.tar", Path("linked.tar").read_bytes() + Path("e.tar").read_bytes())
     write("odd-end.tar", Path("linked.tar").read_bytes() + b"odd")
+    write("blank.tar", altered(Path("linked.tar").read_bytes(), 0, 329, b" " * 16))
+    write("sized.tar", sized(Path("linked.tar").read_bytes()))
+    write("old.tar", old(Path("linked.tar").read_bytes(), 0))
     with tarfile.open("linked.tar") as tar:
         if not any(info.islnk() for info in tar):
             raise Wrong("GNU tar wrote no hard link")
-    archives = ["linked.tar", "twice.tar", "joined.tar", "odd-end.tar"]
+    archives = ["linked.tar", "twice.tar", "joined.tar", "odd-end.tar", "blank.tar", "sized.tar", "old.tar"]
     same_everywhere(program, archives, random.Random(2))
-    return f"{len(archives)} with links and more after the end"
+    return f"{len(archives)} with links and more"
 
 
 def with_hole(form: int, size: int) -> Optional[str]:

@@ -4,13 +4,16 @@ Nothing here judges a bag: each verdict is a status and a closing line that
 `bagit` has written. The modules:
 
 lines       what `bagit` writes, line by line
+files       read, written so that they are on the disk, named, locked
 program     runs of `bagit`, and what each says of a bag
 seal        a digest that changes with any tag file of a bag
 report      `bagit-keep report`: reports as JSON, CSV or a summary
+check       `bagit-keep check`: a large bag, checked in parts
+fingerprint  whether a bag is the same still
 go_round    `bagit-keep round`: many bags, checked in a round
 rounds      what is on the disk of a round
 checks      the checks of a round, several at a time
-progress    how far they are
+progress    how far checks are
 table       the table of a round, also beside an earlier one
 bagit       bags by the names of bagit-python
 errors      what it raises, and the details of faults
@@ -31,7 +34,6 @@ archives    what a .tar or a .zip has
 serialization  what a profile says of archive files
 receipts    what came, what was found, what became of it
 received    the receipts of a register
-meanings    what the codes of faults mean, by FAULTS.md
 fetch       `bagit-keep fetch`: the files that fetch.txt names
 send        `bagit-keep send`: a bag, packed as a .tar that is checked
 register    the memory of an archive's bags, a database
@@ -44,7 +46,8 @@ premis      events of a bag as PREMIS 3
 places      folders in which something is made, and names given once
 commands    which commands there are, and how any of them ends
 supported   refuses a Python that is too old
-messages    what they say to people, and how they read their words
+messages    what they say to people
+usage       how they read their words, by the text of their help
 """
 
 __version__ = "1.0.0"

@@ -1,38 +1,32 @@
-"""What a .tar or a .zip has. Where readers of archive files would read one
-differently, it is Unfit."""
-import bz2
-import gzip
-import lzma
+"""What a .tar or a .zip has.
+
+Of a .tar `bagit` has read each header before: what readers of archive files
+would read differently it hasn't read. Of a .zip that is Unfit here.
+"""
 import os
 import stat
 import struct
+import subprocess
 import tarfile
 import time
 import zipfile
 import zlib
 from contextlib import contextmanager, suppress
-from typing import IO, Any, Iterator, List, Mapping, Optional, cast
+from lzma import LZMAError
+from typing import IO, Iterator, List, Optional, Sequence
 
+from .files import PIECE
 from .lines import encoded
-from .members import PIECE, Content, Limits, Member, Unfit, shown
+from .members import ANY_BYTES, Content, Limits, Member, Unfit
+from .messages import first_line
 
-LARGEST_HEADER = 1 << 21
 MOST_TIMES = 1000
-END_MARK = 1024
-CUT_OFF = "it was cut off: it lacks its end mark"
 TOO_DENSE = f"it is compressed more than {MOST_TIMES:,} times"
+AFTER_END = "something comes after its end"
 
 BROKEN = (
-    tarfile.TarError,
-    zipfile.BadZipFile,
-    zlib.error,
-    lzma.LZMAError,
-    struct.error,
-    EOFError,
-    ValueError,
-    LookupError,
-    ArithmeticError,
-    RuntimeError,
+    tarfile.TarError, zipfile.BadZipFile, zlib.error, LZMAError, struct.error,
+    EOFError, ValueError, LookupError, ArithmeticError, RuntimeError,
 )
 
 FORMS = {
@@ -45,19 +39,13 @@ FORMS = {
 }
 """How files begin; all others are read as a .tar."""
 
-TYPES = {
-    tarfile.SYMTYPE: "a link",
-    tarfile.LNKTYPE: "a hard link",
-    tarfile.CHRTYPE: "a device",
-    tarfile.BLKTYPE: "a device",
-    tarfile.FIFOTYPE: "a pipe",
-    tarfile.GNUTYPE_SPARSE: "a sparse file",
-}
+TOOLS = {"tar.gz": "gzip", "tar.bz2": "bzip2", "tar.xz": "xz",
+         "tar.zst": "zstd"}
+"""What unpacks a compressed .tar."""
+
 PLAIN = (tarfile.REGTYPE, tarfile.AREGTYPE, tarfile.DIRTYPE)
 METHODS = (
-    zipfile.ZIP_STORED,
-    zipfile.ZIP_DEFLATED,
-    zipfile.ZIP_BZIP2,
+    zipfile.ZIP_STORED, zipfile.ZIP_DEFLATED, zipfile.ZIP_BZIP2,
     zipfile.ZIP_LZMA,
 )
 
@@ -68,10 +56,8 @@ def understood() -> Iterator[None]:
     has a number, and stays one."""
     try:
         yield
-    except BROKEN as error:
-        raise Unfit(f"it can't be read: {error}") from error
-    except OSError as error:
-        if error.errno is not None:
+    except (*BROKEN, OSError) as error:
+        if isinstance(error, OSError) and error.errno is not None:
             raise
         raise Unfit(f"it can't be read: {error}") from error
 
@@ -85,91 +71,68 @@ def form_of(file: IO[bytes]) -> str:
     return next(found, "tar")
 
 
-class Stream:
-    """The bytes of a .tar, of which no header is large. Where there are more
-    than `most` it is Unfit, and `why` says of what."""
-
-    def __init__(self, file: IO[bytes], most: int, why: str) -> None:
-        self.file = file
-        self.most = most
-        self.why = why
-
-    def tell(self) -> int:
-        return self.file.tell()
-
-    def seek(self, at: int) -> int:
-        if not 0 <= at <= self.most:
-            raise Unfit(self.why)
-        return self.file.seek(at)
-
-    def read(self, size: int) -> bytes:
-        if size > LARGEST_HEADER:
-            raise Unfit(f"it has a header of {size} bytes")
-        piece = self.file.read(size)
-        if self.file.tell() > self.most:
-            raise Unfit(self.why)
-        return piece
-
-
-def opened(form: str, file: IO[bytes], size: int) -> Stream:
-    """The .tar in a file of this form and size."""
-    file.seek(0)
-    if form == "tar":
-        return Stream(file, size, CUT_OFF)
-    if form == "tar.gz":
-        unpacked: Any = gzip.GzipFile(fileobj=file)
-    else:
-        readers = {"tar.bz2": bz2.BZ2File, "tar.xz": lzma.LZMAFile}
-        unpacked = readers[form](file)
-    return Stream(unpacked, size * MOST_TIMES, TOO_DENSE)
+def run_into(
+    words: Sequence[str], file: IO[bytes], most: int, of: int, why: str
+) -> str:
+    """Has a program, which reads the open file `of`, write into a file, at
+    most so many bytes, or else it is Unfit; gives what it says on its
+    standard error."""
+    left = most
+    pipe = subprocess.PIPE
+    with subprocess.Popen(words, stdin=of, stdout=pipe, stderr=pipe) as ran:
+        assert ran.stdout is not None and ran.stderr is not None
+        try:
+            while piece := ran.stdout.read(PIECE):
+                left -= len(piece)
+                if left < 0:
+                    raise Unfit(why)
+                file.write(piece)
+            said = ran.stderr.read()
+        except BaseException:
+            ran.kill()
+            raise
+    if ran.returncode != 0:
+        raise Unfit(
+            first_line(said) or f"{words[0]} ended with {ran.returncode}"
+        )
+    return said.decode("utf-8", "replace")
 
 
-def tar_content(
-    stream: Stream, names: Optional[str], limits: Limits
-) -> Content:
-    """What a .tar has. Once `bagit` itself reads .tar files, it is asked here
-    first."""
-    members = []
+def decompress(form: str, file: IO[bytes], size: int, to: str) -> None:
+    """Writes the .tar that a file of this form and size has."""
+    number = file.fileno()
+    os.lseek(number, 0, os.SEEK_SET)
+    with open(to, "xb") as tar:
+        words = [TOOLS[form], "-dqc"]
+        run_into(words, tar, size * MOST_TIMES, number, TOO_DENSE)
+
+
+def tar_content(file: IO[bytes], limits: Limits) -> Content:
+    """What a .tar has."""
     tar = tarfile.open(
-        fileobj=cast(IO[bytes], stream),
-        mode="r:",
-        encoding=names or "utf-8",
-        errors="surrogateescape",
+        fileobj=file, mode="r:", encoding="utf-8", errors=ANY_BYTES
     )
-    for it in tar:
-        members.append(limits.count(tar_member(it, tar.pax_headers or {})))
-        if it.offset_data + it.size > stream.most:
-            raise Unfit(stream.why)
-    refuse_cut(stream, tar.offset)
+    members = [limits.count(tar_member(it)) for it in tar]
+    file.seek(tar.offset)
+    while piece := file.read(PIECE):
+        if piece.strip(b"\0"):
+            raise Unfit(AFTER_END)
 
-    def read(member: Member) -> Iterator[bytes]:
-        left = member.size
-        stream.seek(member.source)
-        while left and (piece := stream.read(min(PIECE, left))):
-            left -= len(piece)
-            yield piece
+    def open_member(member: Member) -> IO[bytes]:
+        file = tar.extractfile(member.source)
+        assert file is not None
+        return file
 
-    return Content(members, read)
+    return Content(members, open_member)
 
 
-def tar_member(it: tarfile.TarInfo, common: Mapping[str, str]) -> Member:
+def tar_member(it: tarfile.TarInfo) -> Member:
     """A member of a .tar, or Unfit."""
-    written = it.pax_headers.get("path", it.name)
-    why = TYPES.get(it.type)
-    if why is None and it.type not in PLAIN:
-        why = f"of the unknown type {it.type!r}"
-    elif it.sparse is not None:
-        why = "a sparse file"
-    elif it.size < 0 or it.isdir() and it.size:
-        why = f"of {it.size} bytes"
-    elif it.isfile() and written.endswith("/"):
-        why = "a file with the name of a folder"
-    elif {"path", "size"} & common.keys():
-        why = "named by a header for all"
-    if why is not None:
-        raise Unfit(f"{shown(it.name)} is {why}")
+    if it.issparse() or it.type not in PLAIN:
+        what = "a hard link" if it.islnk() else "no plain file"
+        raise Unfit(f"{encoded(it.name)} is {what}")
     path = bare(it.name, it.isdir())
-    return Member(path, it.isdir(), it.size, it.mtime, it.offset_data)
+    return Member(path, it.isdir(), it.size, it.mtime, it)
 
 
 def bare(path: str, is_folder: bool) -> str:
@@ -180,19 +143,6 @@ def bare(path: str, is_folder: bool) -> str:
     return path.removeprefix("./")
 
 
-def refuse_cut(stream: Stream, at: int) -> None:
-    """A .tar ends with two blocks of zeros. More may follow, and nothing
-    else."""
-    zeros = 0
-    stream.seek(at)
-    while piece := stream.read(PIECE):
-        if piece.count(0) != len(piece):
-            raise Unfit(f"at byte {at} there is neither a header nor its end")
-        zeros += len(piece)
-    if zeros < END_MARK:
-        raise Unfit(CUT_OFF)
-
-
 def zip_content(
     file: IO[bytes], size: int, names: Optional[str], limits: Limits
 ) -> Content:
@@ -200,19 +150,14 @@ def zip_content(
     packed = zipfile.ZipFile(file)
     file.seek(-22 - len(packed.comment), os.SEEK_END)
     if file.read(4) != b"PK\5\6":
-        raise Unfit("something comes after its end")
+        raise Unfit(AFTER_END)
     infos = packed.infolist()
     refuse_overlaps(infos)
     if sum(it.file_size for it in infos) > size * MOST_TIMES:
         raise Unfit(TOO_DENSE)
     members = [limits.count(zip_member(it, names)) for it in infos]
-
-    def read(member: Member) -> Iterator[bytes]:
-        with packed.open(member.source) as file:
-            while piece := file.read(PIECE):
-                yield piece
-
-    return Content(members, read, zip_remarks(infos, names))
+    remarks = zip_remarks(infos, names) if names else []
+    return Content(members, lambda it: packed.open(it.source), remarks)
 
 
 def refuse_overlaps(infos: List[zipfile.ZipInfo]) -> None:
@@ -220,7 +165,7 @@ def refuse_overlaps(infos: List[zipfile.ZipInfo]) -> None:
     end = 0
     for it in sorted(infos, key=lambda it: it.header_offset):
         if it.header_offset < end:
-            raise Unfit(f"{shown(it.orig_filename)} lies in another file")
+            raise Unfit(f"{encoded(it.orig_filename)} lies in another file")
         end = it.header_offset + 30 + it.compress_size
 
 
@@ -242,7 +187,7 @@ def zip_member(it: zipfile.ZipInfo, names: Optional[str]) -> Member:
     elif "\\" in name and it.create_system != 3:
         why = "written with a backslash: --names, as of cp850, reads a slash"
     if why is not None:
-        raise Unfit(f"{shown(name)} is {why}")
+        raise Unfit(f"{encoded(name)} is {why}")
     when = None
     with suppress(ValueError, OverflowError):
         when = time.mktime((*it.date_time, 0, 0, -1))
@@ -265,12 +210,8 @@ def zip_name(it: zipfile.ZipInfo, names: Optional[str]) -> str:
     return name.replace("\\", "/") if names else name
 
 
-def zip_remarks(
-    infos: List[zipfile.ZipInfo], names: Optional[str]
-) -> List[str]:
+def zip_remarks(infos: List[zipfile.ZipInfo], names: str) -> List[str]:
     """How names were read, where it isn't as they are written."""
-    if names is None:
-        return []
     raw = [it for it in infos if not it.flag_bits & 0x800]
     coded = sum(not it.orig_filename.isascii() for it in raw)
     slashed = sum("\\" in it.orig_filename for it in infos)

@@ -2,7 +2,6 @@
 import argparse
 import json
 import os
-import re
 import shutil
 import time
 from contextlib import closing, suppress
@@ -11,64 +10,23 @@ from os.path import join
 from typing import Dict, Iterator, List, Optional, Sequence, Tuple
 
 from . import rounds
-from .checks import Checks, now
-from .go_round import jobs_of, set_aside, task_of
-from .messages import Parser, Refused, explained, printable, say
+from .checks import Checks
+from .files import text_of
+from .go_round import rows_left
+from .messages import Refused, explained, now, printable, say
 from .news import found_of, is_past, miss, remind, settle, state_of
 from .news import welcome
-from .program import Asked, Program, find, knows_tar
-from .progress import Progress, bytes_of
+from .program import Asked
+from .progress import bytes_of
 from .received import look
 from .register import Register, Row, alone, path_of
-from .rounds import Round, text_of
+from .rounds import Round
 from .rounds import Row as Result
 from .seal import is_tar
-
-USAGE = "bagit-keep audit [OPTIONS] REGISTER"
-ABOUT = """\
-Reads bags of a register whole, those first that were read longest ago, and
-says what is new: faults, and bags that are altered, missing, not read or
-overdue. An audit that was cut off is gone on with. Without an option it reads
-all bags."""
-END = """\
-Exit status:
-  0  there is no news
-  1  there is news, which the first line counts
-  2  the arguments are wrong
-  3  something couldn't be read or written; nothing is known then"""
+from .usage import COUNT, JOBS, read, share_of
 
 FULL = Asked()
 LAST_ROUNDS = 40
-
-
-def number_of(word: str) -> int:
-    if not re.fullmatch("[1-9][0-9]{0,17}", word):
-        raise argparse.ArgumentTypeError(f"not a number: {word}")
-    return int(word)
-
-
-def read_words(words: Sequence[str]) -> argparse.Namespace:
-    parser = Parser("bagit-keep audit", USAGE, ABOUT, END)
-    add = parser.option
-    add("--share", "this share of all bags, as 1/7", "K/N", type=task_of)
-    add(
-        "--days", "bags not read for so many days", "D", type=number_of
-    )
-    add("--bytes", "bags of so many bytes together", "B", type=number_of)
-    add("--hours", "begin no check after so many hours", "H", type=number_of)
-    add("--jobs", "so many at a time (the processors)", "J", type=jobs_of)
-    add(
-        "--task",
-        "check a share of the audit, for job arrays, and leave the rest to"
-        " others; an audit without --task then takes all in",
-        "K/N",
-        type=task_of,
-    )
-    add("--progress", "say each minute how far it is, as on a terminal")
-    read = parser.read(words)
-    if len(read.operands) != 1:
-        raise Refused("it takes a register; --help says more")
-    return read
 
 
 def in_order(bags: List[Row]) -> List[Row]:
@@ -171,30 +129,17 @@ def check(
 ) -> List[bytes]:
     """Checks the bags of these numbers of a round; gives those for which
     there was no time."""
-    bagit = find()
-    program = Program(bagit) if bagit is not None else None
-    sought = os.environ.get("BAGIT") or "bagit"
-    checks = Timed(a_round, program, sought, None)
+    checks = Timed(a_round, None)
     if asked.hours is not None:
         checks.until = time.monotonic() + asked.hours * 3600
-    progress = Progress(checks, numbers)
-    if asked.progress or progress.is_terminal:
-        progress.begin()
-    try:
-        checks.run(numbers, asked.jobs or len(os.sched_getaffinity(0)))
-    finally:
-        progress.end()
+    checks.run(numbers, asked.jobs, asked.progress)
     return checks.late
 
 
 def left_of(a_round: Round, task: Tuple[int, int]) -> List[int]:
     """The bags of a share of a round that have no result."""
     numbers = range(task[0], len(a_round.directories) + 1, task[1])
-    return [
-        number
-        for number in numbers
-        if a_round.row(number).status == 3 or set_aside(a_round, number)
-    ]
+    return list(rows_left(a_round, numbers))
 
 
 def tell_of(error: OSError) -> None:
@@ -203,20 +148,16 @@ def tell_of(error: OSError) -> None:
 
 def bags_in(stores: List[str]) -> Iterator[bytes]:
     """The bags in some folders, but none within another one, or in a folder
-    of which the name begins with a dot; and each .tar, if `bagit` reads it."""
-    bagit = find()
-    tars = bagit is not None and knows_tar(bagit)
+    of which the name begins with a dot; and each .tar."""
     for store in stores:
         for place, names, files in os.walk(path_of(store), onerror=tell_of):
             if b"bagit.txt" in files:
                 names.clear()
                 yield place
-            elif tars:
-                yield from (
-                    join(place, it) for it in sorted(files)
-                    if it[:1] != b"." and is_tar(join(place, it))
-                )
+                continue
             names[:] = sorted(it for it in names if it[:1] != b".")
+            shown = (join(place, it) for it in files if it[:1] != b".")
+            yield from filter(is_tar, sorted(shown))
 
 
 def take_in(
@@ -313,7 +254,10 @@ def tell(register: Register, cut_off: Optional[Row] = None) -> int:
 
 def run(words: Sequence[str]) -> int:
     """Does what the command is asked for, and says its status."""
-    asked = read_words(words)
+    asked = read(
+        "audit", words, share=share_of, days=COUNT, bytes=COUNT, hours=COUNT,
+        jobs=JOBS, task=share_of,
+    )
     folder = os.path.abspath(os.fsencode(asked.operands[0]))
     with alone(folder, shared=asked.task is not None):
         with closing(Register(folder)) as register:

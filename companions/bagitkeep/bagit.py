@@ -27,7 +27,7 @@ from typing import (
     Union,
 )
 
-from . import __version__, supported, tags  # noqa: F401
+from . import __version__, files, supported, tags  # noqa: F401
 from .elements import (
     elements_in,
     info_of,
@@ -54,7 +54,6 @@ from .errors import (
 from .messages import explained, printable
 from .program import Asked
 from .runs import BagReport, Tell, alone, check, make, renew
-from .trees import opened
 
 __all__ = [
     "Bag",
@@ -110,7 +109,7 @@ def reading(path: str) -> Iterator[None]:
 
 def content_of(path: str) -> bytes:
     """The bytes of a file. A pipe isn't waited for, nor a link followed."""
-    with opened(path) as file:
+    with files.opened(path) as file:
         return file.read()
 
 
@@ -128,6 +127,27 @@ def declaration_of(path: str) -> Dict[str, str]:
     if missing:
         raise BagError(f"Missing required tag in bagit.txt: {missing}")
     return declared
+
+
+def manifests_in(bag: str, is_tag: bool) -> Dict[str, str]:
+    """The paths of the manifests of one kind that `bagit` reads, by their
+    algorithms."""
+    name = "tagmanifest" if is_tag else "manifest"
+    begin = os.path.join(bag, name)
+    paths = {it: f"{begin}-{it}.txt" for it in CHECKSUM_ALGOS}
+    return {it: path for it, path in paths.items() if os.path.isfile(path)}
+
+
+def entries_in(bag: str, is_tag: bool, is_old: bool) -> Entries:
+    """The digests that these manifests give, by algorithms, by paths."""
+    entries: Entries = {}
+    for algorithm, path in manifests_in(bag, is_tag).items():
+        with reading(path):
+            content = content_of(path)
+            found = tags.entries_of(content, algorithm, is_tag, is_old)
+        for name, digest in found.items():
+            entries.setdefault(name, {})[algorithm] = digest
+    return entries
 
 
 def version_info_of(version: str) -> Tuple[int, int]:
@@ -203,23 +223,17 @@ class Bag:
         """Whether there is a Payload-Oxum."""
         return any(map(is_oxum, self.info))
 
-    def _manifests(self, kind: str) -> Iterator[Tuple[str, str]]:
-        for algorithm in CHECKSUM_ALGOS:
-            path = os.path.join(self.path, f"{kind}-{algorithm}.txt")
-            if os.path.isfile(path):
-                yield algorithm, path
-
     def manifest_files(self) -> Iterator[str]:
         """The paths of the payload manifests that `bagit` reads."""
-        return (path for _, path in self._manifests("manifest"))
+        return iter(manifests_in(self.path, False).values())
 
     def tagmanifest_files(self) -> Iterator[str]:
         """The paths of the tag manifests that `bagit` reads."""
-        return (path for _, path in self._manifests("tagmanifest"))
+        return iter(manifests_in(self.path, True).values())
 
     def _read_algorithms(self) -> List[str]:
-        payload, tag = map(self._manifests, ("manifest", "tagmanifest"))
-        return list(dict.fromkeys(it for it, _ in [*payload, *tag]))
+        both = manifests_in(self.path, False), manifests_in(self.path, True)
+        return list({**both[0], **both[1]})
 
     @property
     def algorithms(self) -> List[str]:
@@ -237,19 +251,11 @@ class Bag:
     def entries(self) -> Entries:
         """The digests that manifests give, by algorithms, by paths."""
         if self._entries is None:
-            entries: Entries = {}
-            for kind in "manifest", "tagmanifest":
-                for algorithm, path in self._manifests(kind):
-                    with reading(path):
-                        found = tags.entries_of(
-                            content_of(path),
-                            algorithm,
-                            kind == "tagmanifest",
-                            self._is_old,
-                        )
-                    for name, digest in found.items():
-                        entries.setdefault(name, {})[algorithm] = digest
-            self._entries = entries
+            payload, tag = [
+                entries_in(self.path, is_tag, self._is_old)
+                for is_tag in (False, True)
+            ]
+            self._entries = {**payload, **tag}
         return self._entries
 
     def payload_entries(self) -> Entries:
@@ -264,17 +270,10 @@ class Bag:
 
     def payload_files(self) -> Iterator[str]:
         """The paths of the payload files that are there."""
-        folders = ["data"]
-        while folders:
-            below = folders.pop()
-            place = os.path.join(self.path, below)
-            with reading(place), os.scandir(place) as entries:
-                for entry in entries:
-                    path = f"{below}/{entry.name}"
-                    if entry.is_dir(follow_symlinks=False):
-                        folders.append(path)
-                    else:
-                        yield path
+        place = os.path.join(os.fsencode(self.path), b"")
+        with reading(self.path):
+            for entry in files.files_below(place + b"data"):
+                yield os.fsdecode(entry.path[len(place):])
 
     def fetch_entries(self) -> Iterator[Tuple[str, str, str]]:
         """The URL, the length and the path of each file to fetch."""
@@ -287,6 +286,18 @@ class Bag:
     def files_to_be_fetched(self) -> Iterator[str]:
         """The paths of the files to fetch."""
         return (path for _, _, path in self.fetch_entries())
+
+    def compare_fetch_with_fs(self) -> List[str]:
+        """The paths of the files to fetch that aren't there yet."""
+        return list(filter(self._lacks, self.files_to_be_fetched()))
+
+    def missing_optional_tagfiles(self) -> Iterator[str]:
+        """The paths of tag files that a tag manifest names and that aren't
+        there."""
+        return filter(self._lacks, self.tagfile_entries())
+
+    def _lacks(self, path: str) -> bool:
+        return not os.path.isfile(os.path.join(self.path, path))
 
     def report(
         self,

@@ -9,31 +9,21 @@ import os
 import secrets
 import shutil
 import sys
-from contextlib import contextmanager, suppress
+from contextlib import suppress
 from os.path import dirname, isdir, join, lexists
-from typing import Any, Callable, Dict, Iterator, Sequence
+from typing import Any, Callable, Dict, Sequence
 
 from .bagit import content_of, reading
 from .errors import BagError
-from .lines import encoded
-from .messages import Refused, say
+from .files import sync_folder, write_synced
+from .messages import Refused, say, shown
 from .program import Asked
-from .rounds import sync_folder, write_synced
 from .runs import BagReport, alone, check
 
 RECORD = "bagit-keep.json"
 DRAFT = "bagit-keep.json.part"
 WORK = "bag"
 TEXT = "text"
-
-
-def shown(path: str) -> str:
-    """A path for people, with nothing that a terminal obeys."""
-    return encoded(os.fsencode(path))
-
-
-def sync(path: str) -> None:
-    sync_folder(os.fsencode(path))
 
 
 def kept_of(bag: str) -> str:
@@ -97,10 +87,10 @@ class Beside:
         with suppress(FileNotFoundError):
             os.unlink(draft)
         content = json.dumps({"command": self.command, **record})
-        write_synced(os.fsencode(draft), content.encode())
+        write_synced(draft, content.encode())
         os.rename(draft, join(self.path, RECORD))
-        sync(self.path)
-        sync(dirname(self.path))
+        sync_folder(self.path)
+        sync_folder(dirname(self.path))
 
     def clear(self) -> None:
         """Removes the folder, and what was noted last."""
@@ -113,7 +103,7 @@ class Beside:
                 os.unlink(join(self.path, name))
         with suppress(FileNotFoundError):
             os.rmdir(self.path)
-            sync(dirname(self.path))
+            sync_folder(dirname(self.path))
 
     def is_done(self, words: Sequence[str]) -> bool:
         """Whether a command with these words, which was killed at its end,
@@ -152,7 +142,7 @@ class Beside:
         self.note(words=list(words), kept=kept)
         os.chmod(self.work, mode | 0o700)  # else it isn't renamed
         os.rename(self.bag, kept)
-        sync(dirname(self.bag))
+        sync_folder(dirname(self.bag))
         os.rename(self.work, self.bag)
         os.chmod(self.bag, mode)
         self.sync_both()
@@ -161,24 +151,14 @@ class Beside:
 
     def sync_both(self) -> None:
         """Syncs the two folders between which the new bag was moved."""
-        sync(self.path)
-        sync(dirname(self.bag))
+        sync_folder(self.path)
+        sync_folder(dirname(self.bag))
 
 
 def by_force(function: Callable[[str], Any], path: str, error: Any) -> None:
     """Removes what is in a folder that has been made read-only."""
     os.chmod(dirname(path), 0o700)
     function(path)
-
-
-@contextmanager
-def refusing(bag: str) -> Iterator[None]:
-    """Ends the command by 3 where what it was asked can't be done."""
-    try:
-        with reading(bag):
-            yield
-    except BagError as error:
-        raise Refused(str(error), 3) from error
 
 
 def path_in_bag(word: str) -> str:

@@ -6,25 +6,26 @@ import socket
 import stat
 import threading
 import time
-from concurrent.futures import ThreadPoolExecutor, wait
 from contextlib import suppress
+from functools import lru_cache
 from os.path import join
-from typing import IO, Dict, List, Optional, Tuple
+from typing import (
+    IO, Any, Callable, ContextManager, Dict, List, Optional, Tuple, TypeVar,
+)
 
 from . import __version__
+from .files import (
+    EXCLUSIVE, Path, give_name, has_lock, naming, sha256_of, sync_folder,
+    text_of,
+)
 from .lines import encoded
-from .messages import explained, say
-from .program import Program, Stopped, Verdict, named
-from .rounds import NO_LOCKS, Record, Round, naming, sha256_of, sync_folder
-from .rounds import text_of
+from .messages import explained, now, say
+from .program import Program, Stopped, Verdict, find, named, sought
+from .progress import Far, bytes_of, read_by, shown
+from .rounds import Record, Round
 from .seal import is_tar, payload_of, seal_of
 
-NO_LINKS = (errno.ENOSYS, errno.EPERM, errno.EOPNOTSUPP, errno.EMLINK)
-
-
-def now() -> str:
-    """The time in UTC."""
-    return time.strftime("%Y-%m-%dT%H:%M:%SZ", time.gmtime())
+Found = TypeVar("Found")
 
 
 def random_name() -> bytes:
@@ -43,111 +44,89 @@ def obstacle(directory: bytes) -> Optional[str]:
     return "is not a folder"
 
 
-def sealed(directory: bytes) -> Optional[str]:
-    """The seal of a bag, or None where a tag file can't be read."""
+def found_of(
+    directory: bytes, look: Callable[[bytes], Found]
+) -> Optional[Found]:
+    """What a look finds of a bag; None where something can't be read."""
     with suppress(OSError):
-        return seal_of(directory)
+        return look(directory)
     return None
 
 
-def counted(directory: bytes) -> Tuple[Optional[int], Optional[int]]:
-    """The files and bytes of a payload, if it can be listed."""
-    with suppress(OSError):
-        return payload_of(directory)
-    return None, None
-
-
-def put(file: bytes, name: bytes) -> bool:
-    """Gives a file its name; says whether the name was still free."""
-    with suppress(FileExistsError):
-        try:
-            os.link(file, name)
-        except OSError as error:
-            if error.errno not in NO_LINKS or os.path.lexists(name):
-                raise
-            os.rename(file, name)
-            return True
-        os.unlink(file)
-        return True
-    return False
-
-
-class Records:
-    """The file into which this process writes a line for each check."""
-
-    def __init__(self, folder: bytes) -> None:
-        host = encoded(socket.gethostname()).replace("/", "%2F")
-        name = f"{host}-{os.getpid()}-".encode() + random_name() + b".jsonl"
-        self.path = join(folder, b"records", name)
-        self._lock = threading.Lock()
-
-    def add(self, record: Record) -> None:
-        """Writes a record, and syncs it. It begins a line of its own, also
-        below one that was cut off."""
-        line = b"\n" + record.line()
-        flags = os.O_WRONLY | os.O_CREAT | os.O_APPEND
-        with naming(self.path), self._lock:
-            file = os.open(self.path, flags, 0o666)
-            try:
-                if os.write(file, line) != len(line):
-                    raise OSError(errno.ENOSPC, os.strerror(errno.ENOSPC))
-                os.fsync(file)
-            finally:
-                os.close(file)
+@lru_cache(maxsize=8)
+def digest_as(path: Path, *state: int) -> str:
+    """The SHA-256 of a file in a state, by which it is read once."""
+    return sha256_of(path)
 
 
 class Checks:
-    """The checks of bags of a round. Each is one of `at_work`, by its number,
-    and then one of `done`.
+    """The checks of bags of a round, for so many seconds at most. Each is one
+    of `at_work`, by its number, and then one of `done`. `worst` is the
+    greatest status that wasn't put into the round."""
 
-    `program` is None where there is none; `bagit` is what was looked for.
-    """
-
-    def __init__(
-        self,
-        a_round: Round,
-        program: Optional[Program],
-        bagit: str,
-        seconds: Optional[float],
-    ) -> None:
-        self.round, self.program, self.bagit = a_round, program, bagit
-        self.seconds = seconds
+    def __init__(self, a_round: Round, seconds: Optional[float]) -> None:
+        self.round, self.seconds = a_round, seconds
+        self.program = Program(find() or sought())
         self.at_work: Dict[int, bytes] = {}
         self.done: List[int] = []
         self.worst = 0
-        self._records = Records(a_round.folder)
         self._locks: Optional[IO[bytes]] = None
-        self._digests: Dict[Tuple[int, ...], str] = {}
+        self._writing = threading.Lock()
+        host = encoded(socket.gethostname()).replace("/", "%2F")
+        name = f"{host}-{os.getpid()}-".encode() + random_name() + b".jsonl"
+        self._records = join(a_round.folder, b"records", name)
 
-    def run(self, numbers: List[int], jobs: int) -> None:
-        """Checks the bags of these numbers, so many at a time. If this is
-        interrupted, all processes are killed, and no other is started."""
+    def run(
+        self, numbers: List[int], jobs: Optional[int], is_told: bool
+    ) -> None:
+        """Checks the bags of these numbers, so many at a time, or as many as
+        there are processors."""
         folder = self.round.folder
         for name in b"reports", b"tries", b"records":
             os.makedirs(join(folder, name), exist_ok=True)
         with open(join(folder, b"lock"), "ab") as self._locks:
-            pool, is_done = ThreadPoolExecutor(min(jobs, len(numbers))), False
-            try:
-                begun = [pool.submit(self.begin, it) for it in numbers]
-                wait(begun)
-                is_done = True
-            finally:
-                if self.program is not None:
-                    self.program.stop()
-                pool.shutdown(is_done, cancel_futures=True)
-        for future in begun:
-            future.result()
+            jobs = jobs or len(os.sched_getaffinity(0))
+            with self.program, self.shown(numbers, is_told):
+                self.program.each(self.begin, numbers, jobs)
         for name in b"reports", b"records":
             sync_folder(join(folder, name))
+
+    def shown(
+        self, numbers: List[int], is_told: bool
+    ) -> ContextManager[None]:
+        """Says how far the checks are. The sizes of the bags are found beside
+        them."""
+        sizes: Dict[int, int] = {}
+
+        def measure() -> None:
+            for number in numbers:
+                directory = self.round.directories[number - 1]
+                sizes[number] = bytes_of(directory)
+
+        def far() -> Far:
+            done = list(self.done)
+            read = sum(sizes.get(it, 0) for it in done)
+            is_known = len(sizes) == len(numbers)
+            return Far(
+                "bags",
+                len(numbers),
+                len(done),
+                [encoded(it) for it in list(self.at_work.values())],
+                read + read_by(self.program),
+                sum(sizes.values()) if is_known else None,
+            )
+
+        return shown(far, is_told, measure)
 
     def begin(self, number: int) -> None:
         """Checks the bag of a number, unless another process is at it.
 
         Whatever happens is a message: the status of the round is taken from
-        what is in its folder.
+        what is in its folder. The file of locks is opened once, since a
+        process that closes one of its files loses its locks there.
         """
         directory = self.round.directories[number - 1]
-        is_locked = self.lock(number)
+        is_locked = has_lock(fcntl.lockf, self._locks, EXCLUSIVE, 1, number)
         self.at_work[number] = directory
         try:
             if is_locked is False:
@@ -163,96 +142,73 @@ class Checks:
             pass
         finally:
             if is_locked:
-                self.unlock(number)
+                has_lock(fcntl.lockf, self._locks, fcntl.LOCK_UN, 1, number)
             del self.at_work[number]
             self.done.append(number)
-
-    def lock(self, number: int) -> Optional[bool]:
-        """Whether this process alone is at the bag of a number; None where
-        the system can't say. The file is opened once, since a process that
-        closes one of its files loses its locks there."""
-        assert self._locks is not None
-        try:
-            how = fcntl.LOCK_EX | fcntl.LOCK_NB
-            fcntl.lockf(self._locks, how, 1, number)
-        except OSError as error:
-            return None if error.errno in NO_LOCKS else False
-        return True
-
-    def unlock(self, number: int) -> None:
-        assert self._locks is not None
-        with suppress(OSError):
-            fcntl.lockf(self._locks, fcntl.LOCK_UN, 1, number)
 
     def try_bag(self, number: int, directory: bytes, is_alone: bool) -> None:
         """Checks a bag, and leaves its record and its report."""
         begun, why = now(), obstacle(directory)
-        if why is None and self.program is None:
-            why = f"was not checked: there is no program {self.bagit}"
+        if why is None and find() is None:
+            why = f"was not checked: there is no program {sought()}"
         if why is not None:
-            result = f"{encoded(directory)} {why}"
-            bag, at = text_of(directory), time.time_ns()
-            self._records.add(
-                Record(number, bag, "", begun, now(), at, result)
-            )
-            say(result)
+            why = f"{encoded(directory)} {why}"
+            self.note(number, begun, why)
+            say(why)
             return
         name = self.round.name_of(number) + b"." + random_name() + b".txt"
         file = join(self.round.folder, b"tries", name)
         with naming(file), open(file, "x+b") as out:
             verdict, seal = self.check(directory, out)
             os.fsync(out)
-        assert self.program is not None
         if verdict.status == 3 and self.program.is_stopped:
             return
-        self._records.add(self.record(number, begun, file, verdict, seal))
+        path = self.round.report_path(number) if verdict.status != 3 else file
+        files, size = found_of(directory, payload_of) or (None, None)
+        self.note(
+            number,
+            begun,
+            verdict.result if verdict.closing is None else None,
+            version=__version__,
+            bagit_sha256=self.digest_of_program(),
+            report=os.path.relpath(path, self.round.folder).decode(),
+            report_sha256=sha256_of(file),
+            seal=seal,
+            files=files,
+            size=size,
+        )
         if verdict.status != 3:
             file = self.publish(number, file, verdict, is_alone)
         if verdict.status != 0:
-            tell(directory, verdict, file)
+            say(told_of(directory, verdict, file))
 
-    def record(
-        self,
-        number: int,
-        begun: str,
-        file: bytes,
-        verdict: Verdict,
-        seal: Optional[str],
-    ) -> Record:
-        """The record of a check whose report is in a file."""
-        directory = self.round.directories[number - 1]
-        files, size = counted(directory)
-        report = b"tries/" + os.path.basename(file)
-        if verdict.status != 3:
-            report = b"reports/" + self.round.name_of(number) + b".txt"
-        return Record(
-            number,
-            text_of(directory),
-            text_of(os.path.realpath(directory)),
-            begun,
-            now(),
-            time.time_ns(),
-            verdict.result if verdict.closing is None else None,
-            __version__,
-            self.digest_of_program(),
-            report.decode(),
-            sha256_of(file),
-            seal,
-            files,
-            size,
+    def note(
+        self, number: int, begun: str, why: Optional[str], **known: Any
+    ) -> None:
+        """Writes a line for a check that has ended, and syncs it. It begins a
+        line of its own, also below one that was cut off."""
+        bag = self.round.directories[number - 1]
+        real, ended = text_of(os.path.realpath(bag)), (now(), time.time_ns())
+        record = Record(
+            number, text_of(bag), real, begun, *ended, why, **known
         )
+        line = b"\n" + record.line()
+        with naming(self._records), self._writing:
+            with open(self._records, "ab", buffering=0) as file:
+                if file.write(line) != len(line):
+                    raise OSError(errno.ENOSPC, os.strerror(errno.ENOSPC))
+                os.fsync(file)
 
     def check(
         self, directory: bytes, out: IO[bytes]
     ) -> Tuple[Verdict, Optional[str]]:
         """What `bagit` says of a bag, and its seal. If its tag files are
         altered meanwhile, nothing is known of it."""
-        assert self.program is not None
-        seal, asked = sealed(directory), self.round.asked
+        seal, asked = found_of(directory, seal_of), self.round.asked
         verdict = self.program.check(directory, asked, out, self.seconds)
         if verdict.status == 3:
             return verdict, None
-        if sealed(directory) != seal:
+        if found_of(directory, seal_of) != seal:
             why = "its tag files were altered while it was checked"
             return Verdict(3, why, verdict.faults), None
         return verdict, seal
@@ -263,32 +219,29 @@ class Checks:
         """Gives a report its name, and removes those of earlier tries; says
         where the report is. If another process has given one, that stands."""
         path = self.round.report_path(number)
-        if not put(file, path):
+        try:
+            give_name(file, path)
+        except FileExistsError:
             self.worst = max(self.worst, verdict.status)
             return file
-        if is_alone:
-            for name in self.round.tries_of(number):
-                with suppress(OSError):
-                    os.unlink(name)
+        for name in self.round.tries_of(number) if is_alone else ():
+            with suppress(OSError):
+                os.unlink(name)
         return path
 
     def digest_of_program(self) -> Optional[str]:
         """The SHA-256 of the program, which is read again if it was put
         anew."""
-        assert self.program is not None
-        path = os.fsencode(self.program.path)
         with suppress(OSError):
-            now = os.stat(path)
-            key = now.st_dev, now.st_ino, now.st_mtime_ns, now.st_ctime_ns
-            if key not in self._digests:
-                self._digests[key] = sha256_of(path)
-            return self._digests[key]
+            it, path = os.stat(self.program.path), self.program.path
+            times = it.st_mtime_ns, it.st_ctime_ns
+            return digest_as(path, it.st_dev, it.st_ino, *times)
         return None
 
 
-def tell(directory: bytes, verdict: Verdict, file: bytes) -> None:
-    """Says how a bag is that isn't without faults."""
+def told_of(directory: bytes, verdict: Verdict, file: bytes) -> str:
+    """How a bag is that isn't without faults, for people."""
     is_named = verdict.closing is not None and named(directory)[1] is None
     name = "" if is_named else f"{encoded(directory)}: "
     where = f" ({encoded(file)})" if verdict.faults else ""
-    say(f"{name}{verdict.result}{where}")
+    return f"{name}{verdict.result}{where}"

@@ -8,31 +8,33 @@ from importlib import import_module
 from typing import Any, List, NoReturn
 
 from . import __version__
+from .errors import BagError
 from .messages import Refused, explained, say
 
 COMMANDS = {
-    "make": ("make", "make folders bags, after a look at all of them"),
-    "receive": ("receive", "take a bag that came into a store of bags"),
-    "fetch": ("fetch", "fetch the files that fetch.txt of a bag names"),
-    "send": ("send", "pack a bag as a .tar that is checked"),
+    "make": ("make", "turn directories into bags, after a look at all"),
+    "receive": ("receive", "take a deposit into a store of bags"),
+    "fetch": ("fetch", "fetch the files that a holey bag lists"),
+    "send": ("send", "pack a bag as a .tar, and check that"),
     "edit": ("edit", "change a tag file of a bag"),
     "repack": ("repack", "add, remove or rename payload files of a bag"),
     "restore": ("restore", "restore files of a bag from copies of it"),
-    "info": ("info", "write what the tag files of a bag say"),
-    "report": ("report", "write reports of bagit as data, or a summary"),
-    "round": ("go_round", "check many bags, and write the table of a round"),
-    "init": ("keeping", "make a register of bags"),
-    "adopt": ("keeping", "take bags into a register, by a full check"),
-    "audit": ("audit", "read bags of a register whole, and say what is new"),
-    "status": ("keeping", "say what is new in a register"),
+    "info": ("info", "print what the tag files of a bag contain"),
+    "report": ("report", "print reports of bagit as data, or a summary"),
+    "check": ("check", "check a large bag in parts, which bagit joins"),
+    "round": ("go_round", "check many bags, and print the table of a round"),
+    "init": ("keeping", "create a register of bags"),
+    "adopt": ("keeping", "take bags into a register, by a fixity check"),
+    "audit": ("audit", "read bags of a register whole, and print the news"),
+    "status": ("keeping", "print the news of a register"),
     "known": ("keeping", "note that a finding is known"),
-    "accept": ("keeping", "take a bag as it is now for good"),
-    "retire": ("keeping", "note that a bag isn't kept any more"),
+    "accept": ("keeping", "accept a bag as it is now"),
+    "retire": ("keeping", "note that a bag is no longer kept"),
     "moved": ("keeping", "note that a bag is at another place"),
-    "renew": ("renewal", "renew a bag of a register"),
-    "history": ("keeping", "write all that happened to a bag"),
-    "dump": ("keeping", "write all that a register says, as JSON"),
-    "premis": ("keeping", "write what happened to a bag as PREMIS 3"),
+    "renew": ("renewal", "update a bag of a register"),
+    "history": ("keeping", "print all that happened to a bag"),
+    "dump": ("keeping", "print all that a register holds, as JSON"),
+    "premis": ("keeping", "print what happened to a bag, as PREMIS 3"),
     "page": ("page", "write a register, a round or a report as pages"),
 }
 SIGNALS = (signal.SIGINT, signal.SIGTERM, signal.SIGHUP)
@@ -40,7 +42,7 @@ SIGNALS = (signal.SIGINT, signal.SIGTERM, signal.SIGHUP)
 USAGE = """\
 usage: bagit-keep COMMAND [OPTIONS] ..
 
-What stands beside bagit, which makes and checks BagIt bags. Each COMMAND says
+Stands beside bagit, which creates and checks BagIt bags. Each COMMAND prints
 more by --help:
 
 """
@@ -52,7 +54,7 @@ class Interrupted(BaseException):
 
 def help_text() -> str:
     lines = [f"  {name:9} {says}\n" for name, (_, says) in COMMANDS.items()]
-    options = "  -h, --help    say this\n  --version     say the version\n"
+    options = "  -h, --help    print this\n  --version     print the version\n"
     return f"{USAGE}{''.join(lines)}\nOptions:\n{options}"
 
 
@@ -97,6 +99,8 @@ def status_of(words: List[str]) -> int:
     except Refused as refused:
         say(refused)
         return refused.status
+    except BagError as error:
+        say(error)
     except OSError as error:
         say(explained(error))
     except MemoryError:

@@ -5,39 +5,18 @@ import subprocess
 from os.path import basename, join, lexists
 from typing import Optional, Sequence
 
-from .bagit import content_of
+from .bagit import content_of, reading
 from .beside import (
-    Beside,
-    folder_of,
-    kept_of,
-    path_in_bag,
-    refusing,
-    replaced,
-    show,
-    shown,
+    Beside, folder_of, kept_of, path_in_bag, replaced, show,
 )
 from .errors import BagError
+from .files import write_synced
 from .lines import encoded
-from .mending import Changes, build
-from .messages import Parser, Refused, say
+from .mending import Changes, build, untold
+from .messages import Refused, say, shown
 from .program import Asked
-from .rounds import write_synced
 from .runs import check
-
-USAGE = "bagit-keep edit [OPTIONS] DIRECTORY FILE .."
-ABOUT = """\
-Changes a tag file of a bag, such as bag-info.txt, by the editor that VISUAL or
-EDITOR names, and its lines in the tag manifests. FILE is its path in the bag,
-and may be new; several are changed together. What the bag is to be is made
-beside it, of links, and takes its place if a full check by bagit ends with 0;
-the old bag is kept beside it. A digest is written anew only of a file that had
-the one that stood there."""
-END = """\
-Exit status:
-  0  the bag is valid, with this file
-  1  it would have faults, which are written; nothing was changed
-  2  the arguments aren't understood
-  3  something couldn't be read or written, or another process is at the bag"""
+from .usage import MANY, read
 
 
 def content_at(path: str) -> Optional[bytes]:
@@ -48,7 +27,7 @@ def content_at(path: str) -> Optional[bytes]:
 def by_editor(old: Optional[bytes], file: str) -> bytes:
     """What an editor makes of a file, in one of its own."""
     words = os.environ.get("VISUAL") or os.environ.get("EDITOR") or "vi"
-    write_synced(os.fsencode(file), old or b"")
+    write_synced(file, old or b"")
     status = subprocess.call([*shlex.split(words), file])
     if status != 0:
         raise BagError(f"the editor ended with {status}")
@@ -69,11 +48,21 @@ def edited(bag: str, paths: Sequence[str], folder: str) -> Changes:
     return changes
 
 
+def refuse_untold(bag: str, new: str) -> None:
+    """Refuses a new bag that tells less of damage than the old one."""
+    for path, algorithm in untold(bag, new):
+        raise Refused(
+            f"{encoded(path)} hasn't its {algorithm} checksum, and with this"
+            " change nothing would say so",
+            1,
+        )
+
+
 def keep_text(bag: str, changes: Changes) -> None:
     """Keeps what was written by an editor, and doesn't come into the bag."""
     for path, text in changes.items():
         kept = kept_of(bag)
-        write_synced(os.fsencode(kept), text or b"")
+        write_synced(kept, text or b"")
         say(f"what was written into {encoded(path)} is {shown(kept)}")
 
 
@@ -88,28 +77,29 @@ def change(bag: str, paths: Sequence[str], given: Optional[Changes]) -> int:
         nonlocal changes
         changes = given or edited(bag, paths, place.text)
         build(bag, work, changes)
+        refuse_untold(bag, work)
 
     words = [*paths, *([] if given else ["by an editor"])]
-    status = replaced(bag, "edit", words, make)
-    if status == 1 and not given:
-        keep_text(bag, changes)
+    status = 1
+    try:
+        status = replaced(bag, "edit", words, make)
+    finally:
+        if status == 1 and not given:
+            keep_text(bag, changes)
     return status
 
 
 def run(words: Sequence[str]) -> int:
     """Does what the command `edit` is asked for, and says its status."""
-    parser = Parser("bagit-keep edit", USAGE, ABOUT, END)
-    parser.option("--from", "take what comes into the one FILE here", "FILE")
-    parser.option("--remove", "remove each FILE, and its lines")
-    asked = parser.read(words)
+    asked = read("edit", words, 2, MANY)
     source, names = getattr(asked, "from"), asked.operands[1:]
-    if not names or source and (asked.remove or len(names) > 1):
+    if source and (asked.remove or len(names) > 1):
         raise Refused("it takes a bag, paths in it, and at most one option")
     bag, paths = folder_of(asked.operands[0]), list(map(path_in_bag, names))
     for path in paths:
         if path.split("/")[0] == "data":
             raise Refused(f"{shown(path)} is no tag file")
-    with refusing(bag):
+    with reading(bag):
         if source:
             return change(bag, paths, {paths[0]: content_of(source)})
         gone: Changes = dict.fromkeys(paths)

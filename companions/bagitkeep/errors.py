@@ -32,11 +32,16 @@ class BagNotChecked(BagError):
 
 
 class ManifestErrorDetail(BagError):
-    """A fault of a bag, at a path in it."""
+    """A fault of a bag, at a path in it, and what is said of this."""
+
+    says = ""
 
     def __init__(self, path: str) -> None:
         super().__init__(path)
         self.path = path
+
+    def __str__(self) -> str:
+        return f"{printable(self.path)} {self.says}".rstrip()
 
 
 class BagValidationError(BagError):
@@ -81,21 +86,13 @@ class ChecksumMismatch(ManifestErrorDetail):
 class FileMissing(ManifestErrorDetail):
     """A manifest names a file that isn't there."""
 
-    def __str__(self) -> str:
-        return (
-            f"{printable(self.path)} exists in manifest but was not found on"
-            " filesystem"
-        )
+    says = "exists in manifest but was not found on filesystem"
 
 
 class UnexpectedFile(ManifestErrorDetail):
     """A payload file that a manifest should name, and doesn't."""
 
-    def __str__(self) -> str:
-        return (
-            f"{printable(self.path)} exists on filesystem but is not in the"
-            " manifest"
-        )
+    says = "exists on filesystem but is not in the manifest"
 
 
 class BagManifestConflict(ManifestErrorDetail):

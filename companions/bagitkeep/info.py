@@ -4,23 +4,10 @@ import os
 import sys
 from typing import Any, Dict, Iterator, List, Optional, Sequence
 
-from . import tags
-from .bagit import Bag, BagError, content_of, reading
-from .lines import encoded
-from .messages import Parser, Refused, printable
+from . import tags, usage
+from .bagit import Bag, content_of, reading
+from .messages import Refused, printable, shown
 from .seal import payload_of, seal_of
-
-USAGE = "bagit-keep info [OPTIONS] DIRECTORY"
-ABOUT = """\
-Writes what the tag files of a bag say: its version, its manifests with how
-many files each names, and its elements; how many files and bytes are listed
-in its payload; and its seal, a SHA-512 that changes with any tag file.
-Nothing of it says that the bag is valid: that is asked of bagit."""
-END = """\
-Exit status:
-  0  it was written
-  2  the arguments aren't understood
-  3  the folder isn't a bag, or something can't be read or written"""
 
 
 def manifests_of(bag: Bag) -> Iterator[Dict[str, Any]]:
@@ -64,7 +51,7 @@ def description_of(directory: str) -> Dict[str, Any]:
 def text_of(description: Dict[str, Any]) -> str:
     """The same for people, with nothing that a terminal obeys."""
     rows = [
-        ("bag", encoded(os.fsencode(description["bag"]))),
+        ("bag", shown(description["bag"])),
         ("version", description["version"]),
         ("encoding", description["encoding"]),
         ("payload", "files: {files}, bytes: {bytes}".format(**description)),
@@ -88,15 +75,8 @@ def lines_of(elements: List[List[str]]) -> Iterator[str]:
 
 def run(words: Sequence[str]) -> int:
     """Does what the command `info` is asked for, and says its status."""
-    parser = Parser("bagit-keep info", USAGE, ABOUT, END)
-    parser.option("--json", "an object, with all texts as they are")
-    asked = parser.read(words)
-    if len(asked.operands) != 1:
-        raise Refused("it takes one bag")
-    try:
-        description = description_of(asked.operands[0])
-    except BagError as error:
-        raise Refused(str(error), 3) from error
+    asked = usage.read("info", words)
+    description = description_of(asked.operands[0])
     if sys.stdout is None:
         raise Refused("standard output is closed", 3)
     if asked.json:

@@ -5,63 +5,22 @@ Texts in them (a bag's name, a path, a detail) are encoded: each byte that
 isn't printable ASCII, a space and a `%` as `%` and two hex digits; the empty
 text as `-`, and the text `-` as `%2D`.
 """
+import json
 import re
+from contextlib import suppress
 from dataclasses import dataclass
-from typing import Dict, Iterable, Optional, Union
+from pathlib import Path
+from typing import Any, Dict, Iterable, Iterator, List, Optional, Union
 from urllib.parse import quote, unquote_to_bytes
 
-WORDS = {
-    101: "no-declaration",
-    102: "declaration-not-utf8",
-    103: "declaration-line-count",
-    104: "declaration-line",
-    105: "version-unsupported",
-    106: "encoding-unsupported",
-    201: "no-payload-folder",
-    202: "no-payload-manifest",
-    203: "algorithm-unsupported",
-    204: "not-utf8",
-    301: "info-line",
-    302: "oxum-malformed",
-    303: "oxum-again",
-    304: "oxum-differs",
-    305: "no-oxum",
-    401: "fetch-line",
-    402: "fetch-escape",
-    403: "fetch-unsafe-path",
-    404: "fetch-outside-payload",
-    405: "fetch-not-in-manifest",
-    501: "manifest-line",
-    502: "digest-length",
-    503: "manifest-escape",
-    504: "manifest-unsafe-path",
-    505: "manifest-outside-payload",
-    506: "tagmanifest-names-payload",
-    507: "tagmanifest-names-tagmanifest",
-    508: "named-again",
-    509: "payload-manifest-not-listed",
-    601: "payload-file-missing",
-    602: "tag-file-missing",
-    603: "payload-file-not-listed",
-    604: "name-clash",
-    701: "payload-sum-differs",
-    702: "tag-sum-differs",
-    801: "profile-identifier",
-    802: "label-required",
-    803: "label-repeated",
-    804: "value-not-allowed",
-    805: "manifest-required",
-    806: "manifest-not-allowed",
-    807: "tagmanifest-required",
-    808: "tagmanifest-not-allowed",
-    809: "tag-file-required",
-    810: "tag-file-not-allowed",
-    811: "fetch-not-allowed",
-    812: "version-not-accepted",
-    813: "serialization-required",
-    814: "serialization-forbidden",
+TEXTS = Path(__file__).parent / "templates"
+
+FAULTS: Dict[int, List[str]] = {
+    int(code): row
+    for code, row in json.loads((TEXTS / "faults.json").read_bytes()).items()
 }
-"""The word of each code, as docs/FAULTS.md has them."""
+"""The word of each code, what it means, and what to do, as docs/FAULTS.md has
+them; a test compares the two."""
 
 VERDICTS = {
     "full": "is valid",
@@ -83,6 +42,7 @@ STATUSES = {
 }
 """The status that `bagit` ends with, by how its last line ends."""
 
+ANY_BYTES = "utf-8", "surrogateescape"
 MOST_LINES = (1 << 64) - 1
 MOST_PARTS = 65536
 PRINTABLE = "".join(map(chr, range(0x21, 0x7F))).replace("%", "")
@@ -97,6 +57,7 @@ CAUSE = (
 )
 NUMBER = "[1-9][0-9]{0,39}"
 COUNT = f"(?:0|{NUMBER})"
+NUMBERS = {"faults", "part", "parts", "files", "bytes"}
 STOP = f"(?P<path>{TEXT}) {CAUSE}"
 
 FAULT = re.compile(
@@ -115,7 +76,9 @@ CLOSINGS = [
         f"(?P<ended>unread) {STOP}, faults: (?P<faults>{COUNT})",
         f"part (?P<part>{NUMBER}) of (?P<parts>{NUMBER})"
         f" (?P<ended>done|rest done), files: (?P<files>{COUNT})"
-        f", bytes: (?P<bytes>{COUNT}), faults: (?P<faults>{COUNT})",
+        f", bytes: (?P<bytes>{COUNT})(?P<clashes>, clashes)?"
+        "(?:, profile: (?P<profile>[0-9a-f]{64}))?"
+        f", faults: (?P<faults>{COUNT})",
         r"(?P<ended>not made): (?P<reason>no algorithm|\.bagit-new is there"
         "|bad value|out of memory)",
         f"(?P<ended>not made): (?P<reason>read) {STOP}",
@@ -132,7 +95,10 @@ def encoded(text: Union[str, bytes]) -> str:
     """A text as reports have it, which can't command a terminal."""
     if text in ("", b""):
         return "-"
-    return "%2D" if text in ("-", b"-") else quote(text, safe=PRINTABLE)
+    if text in ("-", b"-"):
+        return "%2D"
+    raw = text.encode(*ANY_BYTES) if isinstance(text, str) else text
+    return quote(raw, safe=PRINTABLE)
 
 
 def decoded(field: str) -> str:
@@ -155,7 +121,7 @@ class Fault:
     @property
     def word(self) -> str:
         """The word of the code, such as `payload-file-missing`."""
-        return WORDS[self.code]
+        return FAULTS[self.code][0]
 
     def __str__(self) -> str:
         fields = (self.algorithm or "-", self.line or "-")
@@ -180,8 +146,9 @@ class Closing:
     """The last line about a bag: how its check, or its making, ended.
 
     `ended` is a key of STATUSES. What a line of its kind doesn't have is
-    None. `path` and `cause` are of what couldn't be read; `part`, `parts`,
-    `files` and `bytes` of a part; `reason` of a bag that wasn't made.
+    None. `path` and `cause` are of what couldn't be read; `part` to `profile`
+    of a part, the last two where it was asked for them, the profile by its
+    SHA-256; `reason` of a bag that wasn't made.
     """
 
     bag: str
@@ -193,6 +160,8 @@ class Closing:
     parts: Optional[int] = None
     files: Optional[int] = None
     bytes: Optional[int] = None
+    clashes: bool = False
+    profile: Optional[str] = None
     reason: Optional[str] = None
 
     @property
@@ -213,6 +182,8 @@ class Closing:
             line += f" {self.cause}"
         if self.files is not None:
             line += f", files: {self.files}, bytes: {self.bytes}"
+            line += ", clashes" if self.clashes else ""
+            line += f", profile: {self.profile}" if self.profile else ""
         if self.ended == "has faults":
             return f"{line}: {self.faults}"
         if self.faults is None:
@@ -241,7 +212,8 @@ def fault_of(text: str) -> Optional[Fault]:
         return None
     code, word, path, algorithm, number, detail = found.groups()
     line = None if number == "-" else int(number)
-    if WORDS.get(int(code)) != word or (line or 0) > MOST_LINES:
+    known = FAULTS.get(int(code), [""])[0]
+    if known != word or (line or 0) > MOST_LINES:
         raise NotALine("bagit writes no such fault")
     name = None if algorithm == "-" else algorithm
     return Fault(int(code), decoded(path), name, line, decoded(detail))
@@ -257,27 +229,26 @@ def other_of(text: str) -> Union[Unchecked, Closing]:
     raise NotALine("bagit writes no such line")
 
 
-def closing_of(fields: Dict[str, str]) -> Closing:
+def closing_of(found: Dict[str, Optional[str]]) -> Closing:
     """The closing line of these fields."""
-
-    def number(name: str) -> Optional[int]:
-        return int(fields[name]) if name in fields else None
-
-    closing = Closing(
-        bag=decoded(fields["bag"]),
-        ended=fields["ended"],
-        faults=number("faults"),
-        path=decoded(fields["path"]) if "path" in fields else None,
-        cause=fields.get("cause"),
-        part=number("part"),
-        parts=number("parts"),
-        files=number("files"),
-        bytes=number("bytes"),
-        reason=fields.get("reason"),
-    )
+    fields: Dict[str, Any] = {
+        name: int(text) if name in NUMBERS else decoded(text)
+        for name, text in found.items()
+        if text is not None
+    }
+    fields["clashes"] = "clashes" in fields
+    closing = Closing(**fields)
     if not (closing.part or 1) <= (closing.parts or 1) <= MOST_PARTS:
         raise NotALine("there is no such part")
     return closing
+
+
+def faults_in(lines: Iterable[bytes]) -> Iterator[Fault]:
+    """The faults of a report, each from its line."""
+    for text in lines:
+        with suppress(NotALine):
+            if isinstance(line := line_of(text), Fault):
+                yield line
 
 
 @dataclass(frozen=True)

@@ -10,31 +10,18 @@ import re
 from os.path import isdir, join, lexists
 from typing import Any, Dict, List, Sequence
 
-from .bagit import content_of, words_of_making
-from .beside import Beside, folder_of, kept_of, refusing, show, shown, sync
+from .bagit import content_of, reading, words_of_making
+from .beside import Beside, folder_of, kept_of, show
 from .elements import elements_in, refuse_unwritable
 from .errors import BagError
+from .files import sync_folder
 from .lines import encoded
-from .messages import Parser, Refused, explained, say
+from .messages import Refused, explained, say, shown
 from .program import Asked, find
 from .runs import alone, check, find_renew, make, renew
 from .seal import tag_files
 from .tags import MANIFEST_NAME, Element
-
-USAGE = "bagit-keep make [OPTIONS] DIRECTORY .."
-ABOUT = """\
-Makes each folder a bag, in place, and checks it in full. All are looked at
-first: if one isn't a folder, is a bag, or lies in a bag, nothing is made. What
-comes to the top of a folder while it is made, and is in no manifest, is named.
-After a kill the same command goes on, or moves all files back and begins
-again."""
-END = """\
-Exit status:
-  0  each folder is a valid bag
-  1  a bag has faults, which are written
-  2  the arguments aren't understood, or one isn't a folder to be made a bag
-  3  a folder wasn't made a bag, something came while it was made, or another
-     process is at it"""
+from .usage import MANY, read
 
 MOVED = ".bagit-new"
 TAG_FILE = re.compile(r"bagit\.txt|bag-info\.txt|" + MANIFEST_NAME.pattern)
@@ -114,16 +101,16 @@ class Making:
         own, moved = self.own(), join(self.folder, MOVED)
         if "data" in own and MOVED not in own:
             os.rename(join(self.folder, "data"), moved)
-            sync(self.folder)
+            sync_folder(self.folder)
         self.set_aside([it for it in own if it not in (MOVED, "data")])
         if lexists(moved):
             for name in os.listdir(moved):
                 if lexists(join(self.folder, name)):
                     raise BagError(f"{shown(name)} is there, and in {MOVED}")
                 os.rename(join(moved, name), join(self.folder, name))
-            sync(self.folder)
+            sync_folder(self.folder)
             os.rmdir(moved)
-            sync(self.folder)
+            sync_folder(self.folder)
 
     def set_aside(self, names: List[str]) -> None:
         """Moves tag files of the making out of the folder."""
@@ -133,7 +120,7 @@ class Making:
         os.mkdir(kept)
         for name in names:
             os.rename(join(self.folder, name), join(kept, name))
-        sync(kept)
+        sync_folder(kept)
         say(f"tag files of a making that was cut off are in {shown(kept)}")
 
     def make(self, may_be_bag: bool) -> int:
@@ -243,14 +230,12 @@ def elements_given(file: str, words: Sequence[str]) -> List[Element]:
 
 def folders_of(words: Sequence[str], may_be_bags: bool) -> List[str]:
     """The whole paths of the folders, after a look at all."""
-    if not words:
-        raise Refused("it takes folders")
     folders = [folder_of(word) for word in words]
     for folder in folders:
         others = [it for it in folders if it != folder]
         if any(folder.startswith(join(other, "")) for other in others):
             raise Refused(f"{shown(folder)} lies in another of the folders")
-        with refusing(folder):
+        with reading(folder):
             is_begun = Making(folder, [], []).is_begun()
         if not is_begun and not may_be_bags:
             look(folder)
@@ -259,22 +244,7 @@ def folders_of(words: Sequence[str], may_be_bags: bool) -> List[str]:
 
 def run(words: Sequence[str]) -> int:
     """Does what the command `make` is asked for, and says its status."""
-    parser = Parser("bagit-keep make", USAGE, ABOUT, END)
-    parser.group.add_argument(
-        "--label",
-        action="append",
-        default=[],
-        metavar="LABEL=VALUE",
-        help="an element of bag-info.txt; as often as wanted",
-    )
-    parser.option(
-        "--labels", "elements: labels, each with its values, as JSON", "FILE"
-    )
-    parser.option(
-        "--algorithms", "those of the manifests, else sha256,sha512", "ALG,.."
-    )
-    parser.option("--bag-in-bag", "make bags of what is a bag, or in one")
-    asked = parser.read(words)
+    asked = read("make", words, 1, MANY)
     try:
         algorithms = algorithms_in(asked.algorithms or "sha256,sha512")
         elements = elements_given(asked.labels, asked.label)
@@ -282,16 +252,12 @@ def run(words: Sequence[str]) -> int:
         raise Refused(str(error)) from error
     if find() is None or elements and find_renew() is None:
         raise Refused("there is no program bagit, or no bagit-renew", 3)
-    may_be_bags = bool(asked.bag_in_bag)
-    status = 0
+    status, may_be_bags = 0, bool(asked.bag_in_bag)
     for folder in folders_of(asked.operands, may_be_bags):
         making = Making(folder, algorithms, elements)
         try:
             status = max(status, making.make(may_be_bags))
-        except BagError as error:
-            say(error)
-            status = 3
-        except OSError as error:
-            say(explained(error))
+        except (BagError, OSError) as error:
+            say(explained(error) if isinstance(error, OSError) else error)
             status = 3
     return status

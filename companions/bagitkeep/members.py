@@ -1,38 +1,24 @@
-"""The files and folders that come: listed, judged by their paths, and
-unpacked.
+"""The files and folders that come: listed, judged by their paths, unpacked.
 
 A list is judged before anything of it is written. What no bag may have, or
 systems take differently, is Unfit, by its name.
 """
-import argparse
-import hashlib
 import os
-import re
 import stat
 import unicodedata
 from contextlib import suppress
 from dataclasses import dataclass, field
-from typing import (
-    IO,
-    Any,
-    Callable,
-    Dict,
-    Iterable,
-    Iterator,
-    List,
-    Optional,
-    Set,
-    Tuple,
-)
+from os.path import join
+from typing import IO, Any, Callable, Dict, Iterable, Iterator, List, Optional
 
-from . import tags
+from .files import PIECE, opened, settle, sync_folder
 from .lines import encoded
 from .messages import Refused
 
-PIECE = 1 << 20
 DEEPEST = 256
 LONGEST = 4000
 MANY = 1 << 62
+ANY_BYTES = "surrogateescape"
 
 
 class Unfit(Refused):
@@ -55,6 +41,16 @@ class Member:
 
 
 @dataclass
+class Content:
+    """What has come: its members, what opens a file of them, and what people
+    should know of how it was read."""
+
+    members: List[Member]
+    open: Callable[[Member], IO[bytes]]
+    remarks: List[str] = field(default_factory=list)
+
+
+@dataclass
 class Limits:
     """How many files and folders, and bytes of them, may still come."""
 
@@ -65,85 +61,37 @@ class Limits:
         """Counts a member, or is Unfit."""
         self.files -= 1
         self.bytes -= member.size
-        if self.files < 0:
-            raise Unfit("it has more files and folders than there may be")
-        if self.bytes < 0:
-            raise Unfit("it has more bytes than there may be")
+        if min(self.files, self.bytes) < 0:
+            what = "files and folders" if self.files < 0 else "bytes"
+            raise Unfit(f"it has more {what} than there may be")
         return member
 
 
-def room_in(
-    folder: str,
-    most_files: Optional[int] = None,
-    most_bytes: Optional[int] = None,
-) -> Limits:
-    """What may come into a folder: what fits, or what is said."""
+def room_in(folder: str, files: Optional[int], size: Optional[int]) -> Limits:
+    """What may come into a folder: what is said, or else what fits."""
     found = os.statvfs(folder)
-    files = found.f_favail if found.f_files else MANY
-    size = found.f_bavail * found.f_frsize
+    inodes = found.f_favail if found.f_files else MANY
+    room = found.f_bavail * found.f_frsize
     return Limits(
-        files if most_files is None else most_files,
-        size if most_bytes is None else most_bytes,
+        inodes if files is None else files, room if size is None else size
     )
-
-
-def digest_of(word: str) -> Tuple[str, str]:
-    """The algorithm and the digest that the sender says."""
-    name, _, digest = word.lower().partition(":")
-    length = tags.HEX_DIGITS.get(name.replace("-", ""))
-    if not re.fullmatch("[0-9a-f]+", digest) or len(digest) != length:
-        raise argparse.ArgumentTypeError(f"not ALGORITHM:DIGEST: {word}")
-    return name.replace("-", ""), digest
-
-
-def digests_of(file: IO[bytes], algorithms: Iterable[str]) -> Dict[str, str]:
-    """The digests of all bytes of a file."""
-    sums = {it: hashlib.new(it) for it in algorithms}
-    file.seek(0)
-    while piece := file.read(PIECE):
-        for it in sums.values():
-            it.update(piece)
-    return {name: it.hexdigest() for name, it in sums.items()}
-
-
-@dataclass
-class Content:
-    """What has come: its members, what reads a file of them, and what people
-    should know of how it was read."""
-
-    members: List[Member]
-    read: Callable[[Member], Iterator[bytes]]
-    remarks: List[str] = field(default_factory=list)
-
-
-def shown(path: str) -> str:
-    """A path as reports have it."""
-    return encoded(path.encode("utf-8", "surrogateescape"))
 
 
 def folder_content(folder: str, limits: Optional[Limits] = None) -> Content:
     """What a folder has. No link is followed."""
     members, folders = [], [""]
-    place = os.path.join(os.fsencode(folder), b"")
+    place = join(os.fsencode(folder), b"")
     for path in folders:
         with os.scandir(place + path.encode("utf-8")) as entries:
             for entry in sorted(entries, key=lambda it: it.name):
-                name = entry.name.decode("utf-8", "surrogateescape")
-                member = found_member(path + name, entry)
-                members.append(member)
+                name = path + entry.name.decode("utf-8", ANY_BYTES)
+                members.append(found_member(name, entry))
                 if limits is not None:
-                    limits.count(member)
-                if member.is_folder:
-                    refuse_path(member.path)
-                    folders.append(f"{path}{name}/")
-
-    def read(member: Member) -> Iterator[bytes]:
-        flags = os.O_RDONLY | os.O_NOFOLLOW | os.O_NONBLOCK
-        with open(os.open(place + member.source, flags), "rb") as file:
-            while piece := file.read(PIECE):
-                yield piece
-
-    return Content(members, read)
+                    limits.count(members[-1])
+                if members[-1].is_folder:
+                    refuse_path(name)
+                    folders.append(f"{name}/")
+    return Content(members, lambda it: opened(it.source))
 
 
 def found_member(path: str, entry: "os.DirEntry[bytes]") -> Member:
@@ -153,10 +101,9 @@ def found_member(path: str, entry: "os.DirEntry[bytes]") -> Member:
     if not is_folder and not stat.S_ISREG(found.st_mode):
         is_link = stat.S_ISLNK(found.st_mode)
         what = "a link" if is_link else "a device or a pipe"
-        raise Unfit(f"{shown(path)} is {what}")
+        raise Unfit(f"{encoded(path)} is {what}")
     size = 0 if is_folder else found.st_size
-    source = path.encode("utf-8", "surrogateescape")
-    return Member(path, is_folder, size, found.st_mtime, source)
+    return Member(path, is_folder, size, found.st_mtime, entry.path)
 
 
 def refuse_path(path: str) -> None:
@@ -169,11 +116,11 @@ def refuse_path(path: str) -> None:
     elif "\0" in path:
         why = "has a byte of 0"
     elif any("\ud800" <= it <= "\udfff" for it in path):
-        why = "isn't UTF-8; for archive files --names says what it is"
+        why = "isn't UTF-8; of a .zip --names says what it is"
     elif len(parts) > DEEPEST or len(path.encode("utf-8")) > LONGEST:
         why = "is too long"
     if why is not None:
-        raise Unfit(f"the path {shown(path)} {why}")
+        raise Unfit(f"the path {encoded(path)} {why}")
 
 
 def key_of(path: str) -> str:
@@ -190,46 +137,40 @@ def folders_of(path: str) -> Iterator[str]:
         at = path.find("/", at + 1)
 
 
-def refuse_twice(members: Iterable[Member], is_archive: bool = True) -> None:
-    """Each path is there once, in an archive file also by case and by normal
-    form. A folder may be listed again."""
-    seen: Dict[str, str] = {}
-    folders: Set[str] = set()
+def refuse_twice(members: Iterable[Member]) -> None:
+    """Each path is there once, also by case and by normal form. A folder may
+    be listed again."""
+    seen: Dict[str, Member] = {}
     for it in members:
-        places = [(path, True) for path in folders_of(it.path)]
-        for path, is_folder in [*places, (it.path, it.is_folder)]:
-            if is_folder and path in folders:
+        for path in [*folders_of(it.path), it.path]:
+            new = Member(path, it.is_folder or path != it.path)
+            known = seen.setdefault(key_of(path), new)
+            if known is new or known == new and new.is_folder:
                 continue
-            key = key_of(path) if is_archive else path
-            if key in seen:
-                raise Unfit(clash_of(seen[key], path))
-            seen[key] = path
-            if is_folder:
-                folders.add(path)
-
-
-def clash_of(known: str, path: str) -> str:
-    """Why two paths can't both be there."""
-    if known == path:
-        return f"{shown(path)} is there twice"
-    both = f"{shown(known)} and {shown(path)}"
-    return f"{both} differ by case or normal form alone"
+            why = f"{encoded(path)} is there twice"
+            if known.path != path:
+                both = f"{encoded(known.path)} and {encoded(path)}"
+                why = f"{both} differ by case or normal form alone"
+            raise Unfit(why)
 
 
 def unpack(content: Content, folder: str) -> None:
-    """Writes the members into an empty folder, and sees that they, and
-    nothing else, are there then."""
-    place = os.path.join(os.fsencode(folder), b"")
+    """Writes the members into an empty folder, where they are on the disk
+    then, and sees that they, and nothing else, are there."""
+    place = join(os.fsencode(folder), b"")
     wanted: Dict[str, int] = {}
+    folders = [place]
     for it in content.members:
-        folders = [*folders_of(it.path), *[it.path] * it.is_folder]
-        for path in folders:
+        for path in [*folders_of(it.path), *[it.path] * it.is_folder]:
             if path not in wanted:
-                os.mkdir(place + path.encode("utf-8"))
+                folders.append(place + path.encode("utf-8"))
+                os.mkdir(folders[-1])
                 wanted[path] = 0
         if not it.is_folder:
             write_member(content, it, place + it.path.encode("utf-8"))
             wanted[it.path] = it.size
+    for made in folders:
+        sync_folder(made)
     found = folder_content(folder).members
     if {it.path: it.size for it in found} != wanted:
         raise Unfit("what was unpacked isn't what was listed")
@@ -238,14 +179,15 @@ def unpack(content: Content, folder: str) -> None:
 def write_member(content: Content, member: Member, path: bytes) -> None:
     """Writes a file, with as many bytes as were listed."""
     left = member.size
-    with open(path, "xb") as file:
-        for piece in content.read(member):
+    with content.open(member) as source, open(path, "xb") as file:
+        while left >= 0 and (piece := source.read(PIECE)):
             left -= len(piece)
-            if left < 0:
-                break
             file.write(piece)
-    if left:
-        raise Unfit(f"{shown(member.path)} has not as many bytes as listed")
+        if left:
+            text = f"{encoded(member.path)} has not as many bytes as listed"
+            raise Unfit(text)
+        file.flush()
+        settle(file.fileno())
     if member.time is not None:
         with suppress(OSError, OverflowError, ValueError):
             os.utime(path, (member.time, member.time))

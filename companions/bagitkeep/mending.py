@@ -5,17 +5,16 @@ anew only of a file that had the one that stood there, so that damage never
 passes for a change.
 """
 import hashlib
-import os
 import re
 import shutil
-from os.path import dirname, isdir, join, lexists
-from typing import Callable, Dict, Iterable, Iterator, Optional, Tuple
+from os.path import basename, dirname, isdir, join, lexists
+from typing import Callable, Dict, Iterable, Iterator, Optional, Set, Tuple
 
 from . import tags
-from .bagit import Bag, content_of, reading
+from .bagit import Bag, content_of, manifests_in, reading
 from .errors import BagError
+from .files import digests_of, opened, sync_folder, write_synced
 from .messages import printable
-from .rounds import sync_folder, write_synced
 from .trees import dress, link_tree, make_folders
 
 Changes = Dict[str, Optional[bytes]]
@@ -33,29 +32,6 @@ def is_old(bag: str) -> bool:
         return Bag(bag).version == "0.97"
     except BagError:
         return False
-
-
-def manifests_of(bag: str, is_tag: bool) -> Iterator[Tuple[str, str]]:
-    """The algorithms of a bag's manifests of one kind, with their names."""
-    for name in sorted(os.listdir(bag)):
-        found = tags.MANIFEST_NAME.fullmatch(name)
-        if found and (found[1] is not None) == is_tag:
-            if found[2] in tags.HEX_DIGITS:
-                yield found[2], name
-
-
-def entries_in(bag: str, is_tag: bool) -> Dict[str, Dict[str, str]]:
-    """The digests that a bag's manifests of one kind give, by algorithms, by
-    paths."""
-    old = is_old(bag)
-    entries: Dict[str, Dict[str, str]] = {}
-    for algorithm, name in manifests_of(bag, is_tag):
-        with reading(join(bag, name)):
-            content = content_of(join(bag, name))
-            found = tags.entries_of(content, algorithm, is_tag, old)
-        for path, digest in found.items():
-            entries.setdefault(path, {})[algorithm] = digest
-    return entries
 
 
 def line_of(path: str, digest: str, old: bool) -> str:
@@ -113,8 +89,8 @@ def mended(bag: str, changes: Changes) -> Changes:
         for path in changes
     }
     result, old = dict(changes), is_old(bag)
-    for algorithm, name in manifests_of(bag, True):
-        if name in changes:
+    for algorithm, path in manifests_in(bag, True).items():
+        if (name := basename(path)) in changes:
             continue
 
         def change(path: str, digest: str) -> Optional[Entry]:
@@ -124,7 +100,7 @@ def mended(bag: str, changes: Changes) -> Changes:
             new = digest_of(changes[path], algorithm)
             return None if new is None else (path, new)
 
-        content = content_of(join(bag, name))
+        content = content_of(path)
         named = tags.entries_of(content, algorithm, True, old)
         added = [
             (path, digest_of(new, algorithm) or "")
@@ -137,6 +113,46 @@ def mended(bag: str, changes: Changes) -> Changes:
         path: new for path, new in result.items()
         if path in changes or new != content_of(join(bag, path))
     }
+
+
+def given_in(bag: str, is_tag: bool) -> Dict[Entry, Set[str]]:
+    """All digests that the manifests of one kind give, by path and
+    algorithm."""
+    found: Dict[Entry, Set[str]] = {}
+    for algorithm, place in manifests_in(bag, is_tag).items():
+        content, old = content_of(place), is_old(bag)
+        for path, digest in tags.given_by(content, algorithm, is_tag, old):
+            found.setdefault((path, algorithm), set()).add(digest)
+    return found
+
+
+def has_one(path: str, algorithm: str, digests: Set[str]) -> bool:
+    """Whether a file is there, and has one of these digests."""
+    try:
+        with opened(path) as file:
+            return digests_of(file, [algorithm])[algorithm] in digests
+    except (FileNotFoundError, NotADirectoryError):
+        return False
+
+
+def untold(bag: str, new: str) -> Iterator[Entry]:
+    """What the manifests of a bag tell of damage, and those of a new bag
+    don't: a path, and the algorithm by which its file hasn't the digest that
+    was given. A digest may come to a path that wasn't named."""
+    for is_tag in (False, True):
+        was, becomes = given_in(bag, is_tag), given_in(new, is_tag)
+        moved = {
+            (entry[1], digest) for entry, digests in becomes.items()
+            if entry not in was for digest in digests
+        }
+        for (path, algorithm), digests in was.items():
+            left = becomes.get((path, algorithm))
+            if left is None:
+                left = {it for it in digests if (algorithm, it) in moved}
+            if digests & left:
+                continue
+            if not has_one(join(bag, path), algorithm, digests):
+                yield path, algorithm
 
 
 def build(bag: str, to: str, changes: Changes) -> None:
@@ -155,10 +171,10 @@ def build(bag: str, to: str, changes: Changes) -> None:
         if content is not None:
             old, new = join(bag, path), join(to, path)
             make_folders(dirname(new), to)
-            write_synced(os.fsencode(new), content)
+            write_synced(new, content)
             like = old if lexists(old) else join(bag, "bagit.txt")
             dress(new, like if lexists(like) else bag)
-            sync_folder(os.fsencode(dirname(new)))
+            sync_folder(dirname(new))
     shutil.copystat(bag, to)
     dress(to, bag)
-    sync_folder(os.fsencode(to))
+    sync_folder(to)

@@ -6,11 +6,11 @@ from dataclasses import dataclass
 from datetime import datetime, timedelta, timezone
 from typing import Dict, Iterable, List, Optional, Set, Tuple
 
-from .checks import now
-from .lines import Fault, NotALine, encoded, line_of
+from .files import text_of
+from .lines import encoded, faults_in
+from .messages import now
 from .register import Register, Row, path_of
 from .rounds import Row as Result
-from .rounds import text_of
 
 MOST_FAULTS = 1000
 KINDS = {
@@ -44,21 +44,14 @@ Found = Set[Tuple[str, str]]
 """A kind, and a text that says what exactly."""
 
 
-def faults_in(
-    report: Iterable[bytes], count: int, digest: Optional[str]
-) -> Iterable[str]:
+def lines_of(
+    report: Iterable[bytes], count: Optional[int], digest: Optional[str]
+) -> List[str]:
     """The lines of the faults of a report; of very many only how many, and
     the digest of the report, so that others are other news."""
-    if count > MOST_FAULTS:
-        yield f"{count} faults, of the report with the SHA-256 {digest}"
-        return
-    for text in report:
-        try:
-            line = line_of(text)
-        except NotALine:
-            continue
-        if isinstance(line, Fault):
-            yield str(line)
+    if count is not None and count > MOST_FAULTS:
+        return [f"{count} faults, of the report with the SHA-256 {digest}"]
+    return list(map(str, faults_in(report)))
 
 
 def found_of(result: Result, seal: Optional[str]) -> Found:
@@ -70,9 +63,9 @@ def found_of(result: Result, seal: Optional[str]) -> Found:
         return {("unread", "its report can't be read")}
     record, found = result.record, set()
     if result.status == 1:
+        digest = record.report_sha256
         with open(result.report, "rb") as report:
-            count, digest = result.faults or 0, record.report_sha256
-            lines = list(faults_in(report, count, digest))
+            lines = lines_of(report, result.faults, digest)
         if not lines:
             return {("unread", "its report was altered")}
         found = {("fault", line) for line in lines}
@@ -83,6 +76,21 @@ def found_of(result: Result, seal: Optional[str]) -> Found:
     return found
 
 
+def find(register: Register, bag: Optional[Row], kind: str, text: str) -> None:
+    """Has the register say that this is found, of a bag or of none."""
+    number: Optional[int] = None if bag is None else bag["id"]
+    values = {"bag": number, "kind": kind, "text": text}
+    register.add("findings", **values, since=now(), known=None)
+    if bag is not None:
+        register.note("found", number, of=kind, text=text)
+
+
+def lose(register: Register, row: Row) -> None:
+    """Has it say that this isn't found of a bag any more."""
+    register.remove("findings", row)
+    register.note("gone", row["bag"], of=row["kind"], text=row["text"])
+
+
 def settle(register: Register, bag: Row, found: Found) -> None:
     """Has the register say that this is what is found of a bag now, but for
     what is overdue."""
@@ -90,15 +98,10 @@ def settle(register: Register, bag: Row, found: Found) -> None:
     for row in there:
         what = (row["kind"], row["text"])
         if what not in found and row["kind"] != "overdue":
-            register.remove("findings", row)
-            register.note("gone", bag["id"], of=what[0], text=what[1])
+            lose(register, row)
     known = {(row["kind"], row["text"]) for row in there}
     for kind, text in sorted(found - known):
-        register.add(
-            "findings", bag=bag["id"], kind=kind, text=text, since=now(),
-            known=None,
-        )
-        register.note("found", bag["id"], of=kind, text=text)
+        find(register, bag, kind, text)
 
 
 def miss(register: Register, bag: Row, is_there: bool) -> None:
@@ -106,14 +109,9 @@ def miss(register: Register, bag: Row, is_there: bool) -> None:
     where = "bag = ? AND kind = 'missing'"
     found = register.rows("findings", where, bag["id"])
     if found and is_there:
-        register.remove("findings", found[0])
-        register.note("gone", bag["id"], of="missing", text="")
+        lose(register, found[0])
     if not found and not is_there:
-        register.add(
-            "findings", bag=bag["id"], kind="missing", text="", since=now(),
-            known=None,
-        )
-        register.note("found", bag["id"], of="missing", text="")
+        find(register, bag, "missing", "")
 
 
 def is_past(time: Optional[str], days: float) -> bool:
@@ -140,10 +138,7 @@ def of_no_bag(register: Register, kind: str, paths: Set[str]) -> None:
             register.remove("findings", row)
         paths = paths - {row["text"]}
     for text in sorted(paths):
-        register.add(
-            "findings", bag=None, kind=kind, text=text, since=now(),
-            known=None,
-        )
+        find(register, None, kind, text)
 
 
 def remind(register: Register) -> None:
@@ -155,11 +150,7 @@ def remind(register: Register) -> None:
         is_late = is_past(bag["read"], days)
         if is_late and bag["id"] not in late:
             text = f"not read whole since {bag['read']}"
-            register.add(
-                "findings", bag=bag["id"], kind="overdue", text=text,
-                since=now(), known=None,
-            )
-            register.note("found", bag["id"], of="overdue", text=text)
+            find(register, bag, "overdue", text)
         if not is_late and bag["id"] in late:
             register.remove("findings", late[bag["id"]])
 

@@ -8,32 +8,18 @@ from dataclasses import dataclass, field
 from datetime import datetime, timedelta, timezone
 from importlib import import_module
 from os.path import join
-from pathlib import Path
-from typing import Any, Dict, Iterable, Iterator, List, Optional, Sequence, Set
+from typing import Any, Dict, Iterable, List, Optional, Sequence, Set
 from typing import Tuple
 
 from . import __version__, rounds
-from .checks import now
-from .go_round import absolute
-from .lines import Fault, NotALine, encoded, line_of, report_of
-from .meanings import meanings
-from .messages import Parser, Refused, printable
+from .files import absolute, read_bytes, sync_folder
+from .lines import FAULTS, TEXTS, encoded, faults_in, report_of
+from .messages import Refused, now, printable
 from .news import MOST_FAULTS, TO_DO, State, state_of
 from .receipts import page_of
-from .received import Noted, noted_in
+from .received import noted_in
 from .register import Register, Row, path_of
-from .rounds import sync_folder
-
-USAGE = "bagit-keep page [OPTIONS] REGISTER|ROUND|REPORT DIRECTORY"
-ABOUT = """\
-Writes pages of HTML into a folder: the news of a register, its bags, and what
-happened to them; or the bags of a round; or the faults of a report. They need
-no server and no script, and load nothing."""
-END = """\
-Exit status:
-  0  they were written
-  2  the arguments are wrong
-  3  something can't be read or written, or there is no Jinja2"""
+from .usage import read
 
 MARK = b"bagit-keep.page"
 MOST_BAGS = 500
@@ -41,17 +27,12 @@ MOST_GROUPS = 60
 WEEKS = 53
 AGES = ((7, "0 to 6"), (30, "7 to 29"), (90, "30 to 89"), (365, "90 to 364"))
 LAST_AGE = "365 or more, or never"
-MOVED = "old", "new"
 
+View = Dict[str, Any]
+"""What a template shows of something."""
 
-@dataclass(frozen=True)
-class FaultView:
-    file: str
-    code: int
-    word: str
-    algorithm: Optional[str]
-    means: str
-    todo: str
+Faults = List[Tuple[str, List[View]]]
+"""The faults of a bag, by folders."""
 
 
 @dataclass
@@ -65,28 +46,11 @@ class BagView:
     files: Optional[int] = None
     bytes: Optional[int] = None
     seal: Optional[str] = None
-    events: List[Dict[str, str]] = field(default_factory=list)
-    faults: List[Tuple[str, List[FaultView]]] = field(default_factory=list)
+    events: List[View] = field(default_factory=list)
+    faults: Faults = field(default_factory=list)
     page: str = ""
     is_certified: bool = False
-    receipts: List["ReceiptView"] = field(default_factory=list)
-
-
-@dataclass(frozen=True)
-class ReceiptView:
-    """A receipt as pages show it; `text` is its own page, which is empty
-    where the receipt isn't what was noted."""
-
-    number: str
-    received: str
-    decision: str
-    arrived: str
-    bag: str = ""
-    text: str = ""
-
-    @property
-    def page(self) -> str:
-        return f"receipt-{self.number}.html" if self.text else ""
+    receipts: List[View] = field(default_factory=list)
 
 
 @dataclass
@@ -95,197 +59,151 @@ class Site:
 
     first_line: str
     bags: List[BagView]
-    news: List[Dict[str, str]] = field(default_factory=list)
-    ages: List[Dict[str, Any]] = field(default_factory=list)
-    weeks: List[str] = field(default_factory=list)
-    year: str = ""
-    months: List[Dict[str, Any]] = field(default_factory=list)
-    lists: List[Dict[str, str]] = field(default_factory=list)
-    receipts: List[ReceiptView] = field(default_factory=list)
+    news: List[View] = field(default_factory=list)
+    ages: List[View] = field(default_factory=list)
+    year: View = field(default_factory=dict)
+    receipts: List[View] = field(default_factory=list)
+    lists: List[List[BagView]] = field(default_factory=list)
+
+    def __post_init__(self) -> None:
+        """Names the pages of the bags that have more to say than a row."""
+        for number, bag in enumerate(self.bags, 1):
+            says = bag.findings or bag.faults or bag.receipts
+            if says or len(bag.events) > 1 or len(self.bags) <= MOST_BAGS:
+                bag.page = f"bag-{number}.html"
+        for start in range(0, len(self.bags), MOST_BAGS):
+            self.lists.append(self.bags[start:][:MOST_BAGS])
 
 
-def by_folder(
-    lines: Iterable[str], means: Dict[int, Tuple[str, str]]
-) -> List[Tuple[str, List[FaultView]]]:
+def by_folder(lines: Iterable[str]) -> Faults:
     """The faults of these lines, by folders and then by files."""
-    folders: Dict[str, List[FaultView]] = defaultdict(list)
-    for text in lines:
-        try:
-            fault = line_of(text.encode() + b"\n")
-        except NotALine:
-            continue
-        if isinstance(fault, Fault):
-            folder, _, file = fault.path.rpartition("/")
-            says = means.get(fault.code, ("", ""))
-            folders[encoded(folder) if folder else "the bag"].append(
-                FaultView(
-                    encoded(file), fault.code, fault.word, fault.algorithm,
-                    *says,
-                )
-            )
+    folders: Dict[str, List[View]] = defaultdict(list)
+    for fault in faults_in(f"{text}\n".encode() for text in lines):
+        folder, _, file = fault.path.rpartition("/")
+        word, means, todo = FAULTS[fault.code]
+        says = f"{fault.code} {word} {fault.algorithm or ''}"
+        row = {"file": encoded(file), "says": says.strip()}
+        row.update(means=means, todo=todo)
+        folders[encoded(folder) if folder else "the bag"].append(row)
     return sorted(folders.items())
 
 
-def days_since(time: Optional[str]) -> Optional[int]:
-    if time is None:
-        return None
-    then = datetime.strptime(time[:10], "%Y-%m-%d")
-    today = datetime.now(timezone.utc).replace(tzinfo=None)
-    return max(0, (today - then).days)
+def day_of(time: str) -> datetime:
+    return datetime.strptime(time[:10], "%Y-%m-%d")
 
 
-def ages_of(bags: List[Row]) -> List[Dict[str, Any]]:
+def today() -> datetime:
+    return datetime.now(timezone.utc).replace(tzinfo=None)
+
+
+def ages_of(bags: List[Row]) -> List[View]:
     """How many bags were last read whole how long ago."""
     count: Counter[str] = Counter()
     for bag in bags:
-        days = days_since(bag["read"])
-        fits = (name for end, name in AGES if days is not None and days < end)
-        count[next(fits, LAST_AGE)] += 1
+        name = LAST_AGE
+        if bag["read"] is not None:
+            days = max(0, (today() - day_of(bag["read"])).days)
+            name = next((it for end, it in AGES if days < end), LAST_AGE)
+        count[name] += 1
     return [
         {
-            "days": name,
-            "bags": count[name],
-            "share": round(100 * count[name] / max(1, len(bags))),
+            "days": it,
+            "bags": count[it],
+            "share": round(100 * count[it] / max(1, len(bags))),
         }
-        for name in [*(name for _, name in AGES), LAST_AGE]
+        for it in [*(name for _, name in AGES), LAST_AGE]
     ]
 
 
-def week_of(time: str, first: datetime) -> int:
-    return (datetime.strptime(time[:10], "%Y-%m-%d") - first).days // 7
-
-
-def year_of(
-    bags: List[Row], results: List[Row], events: List[Row]
-) -> Tuple[str, List[Dict[str, Any]]]:
-    """The year as a picture of bags by weeks, and in numbers by months."""
-    today = datetime.now(timezone.utc).replace(tzinfo=None)
-    first = today - timedelta(days=7 * WEEKS - 1)
-    group = {
-        bag["id"]: number * min(MOST_GROUPS, len(bags)) // len(bags)
-        for number, bag in enumerate(bags)
-    }
+def year_of(bags: List[Row], results: List[Row], events: List[Row]) -> View:
+    """The year as bags, in groups, by weeks, and in numbers by months."""
+    first = today() - timedelta(days=7 * WEEKS - 1)
+    groups = min(MOST_GROUPS, len(bags))
+    group = {it["id"]: at * groups // len(bags) for at, it in enumerate(bags)}
     sizes = Counter(group.values())
-    reads: Dict[Tuple[int, int], Set[int]] = defaultdict(set)
-    months: Dict[str, List[int]] = defaultdict(lambda: [0, 0])
+    reads: Dict[Tuple[int, int], Set[str]] = defaultdict(set)
+    found: Set[Tuple[int, int]] = set()
+    months: Dict[str, Counter[str]] = defaultdict(Counter)
+
+    def week_of(time: str) -> int:
+        return (day_of(time) - first).days // 7
+
     for row in results:
-        week = week_of(row["ended"], first)
-        for number, status in json.loads(row["results"] or "{}").items():
-            if int(number) in group and status != 3 and week >= 0:
-                reads[group[int(number)], week].add(int(number))
-                months[row["ended"][:7]][0] += 1
-    found = set()
+        week = week_of(row["ended"])
+        for name, status in json.loads(row["results"] or "{}").items():
+            if int(name) in group and status != 3 and week >= 0:
+                reads[group[int(name)], week].add(name)
+                months[row["ended"][:7]]["read"] += 1
     for row in events:
-        week = week_of(row["at"], first)
+        week = week_of(row["at"])
         if row["kind"] == "found" and row["bag"] in group and week >= 0:
             found.add((group[row["bag"]], week))
-            months[row["at"][:7]][1] += 1
-    numbers = [
-        {"month": it, "read": months[it][0], "found": months[it][1]}
-        for it in sorted(months)
+            months[row["at"][:7]]["found"] += 1
+    squares = [
+        (*at, f"{0.25 + 0.75 * len(reads[at]) / sizes[at[0]]:.2f}")
+        for at in sorted(reads)
     ]
-    return picture(sizes, reads, found), numbers
+    return {
+        "groups": groups,
+        "weeks": WEEKS,
+        "squares": squares,
+        "found": sorted(found),
+        "months": sorted(months.items()),
+    }
 
 
-def picture(
-    sizes: Dict[int, int],
-    reads: Dict[Tuple[int, int], Set[int]],
-    found: Set[Tuple[int, int]],
-) -> str:
-    """The picture of a year: nothing of it comes from names."""
-    height = 12 * len(sizes) + 4
-    parts = [
-        f'<svg role="img" aria-label="The year, as the table below says it"'
-        f' width="{12 * WEEKS + 4}" height="{height}"'
-        f' viewBox="0 0 {12 * WEEKS + 4} {height}">'
-    ]
-    for (row, week), bags in sorted(reads.items()):
-        share = len(bags) / sizes[row]
-        parts.append(
-            f'<rect class="read" x="{12 * week + 2}" y="{12 * row + 2}"'
-            f' width="10" height="10" opacity="{0.25 + 0.75 * share:.2f}"/>'
-        )
-    for row, week in sorted(found):
-        parts.append(
-            f'<circle class="found" cx="{12 * week + 7}" cy="{12 * row + 7}"'
-            ' r="3"/>'
-        )
-    return "".join([*parts, "</svg>"])
+def grouped(rows: Iterable[Row]) -> Dict[Optional[int], List[Row]]:
+    """Rows by their bags."""
+    of_bag: Dict[Optional[int], List[Row]] = defaultdict(list)
+    for row in rows:
+        of_bag[row["bag"]].append(row)
+    return of_bag
 
 
 def site_of_register(register: Register) -> Site:
     """A register's news, bags and year."""
-    state, means = state_of(register), meanings()
-    events = register.rows("events")
-    of_bag: Dict[Optional[int], List[Row]] = defaultdict(list)
-    for row in events:
-        of_bag[row["bag"]].append(row)
-    found: Dict[int, List[Row]] = defaultdict(list)
-    for row in register.rows("findings"):
-        found[row["bag"]].append(row)
+    state, events = state_of(register), register.rows("events")
+    of_bag, found = grouped(events), grouped(register.rows("findings"))
     kept = [bag for bag in state.bags.values() if bag["is_kept"]]
     kept.sort(key=lambda bag: str(bag["path"]))
     views = {
-        bag["id"]: view_of(bag, found[bag["id"]], of_bag[bag["id"]], means)
-        for bag in kept
+        it["id"]: view_of(it, found[it["id"]], of_bag[it["id"]]) for it in kept
     }
-    site = Site(state.first_line(), list(views.values()))
+    receipts = []
     for it in noted_in(register):
         view = views.get(it.bag or 0)
-        site.receipts.append(receipt_view(it, view.name if view else ""))
+        bag = view.name if view else "-"
+        row: View = {"number": it.number, "bag": bag, "says": {}}
+        if it.says is not None:
+            row.update(says=it.says, page=f"receipt-{it.number}.html")
+            row["came"] = printable(it.says["arrived"]["name"])
+        receipts.append(row)
         if view is not None:
-            view.receipts.append(site.receipts[-1])
-    name_pages(site)
-    site.news = list(news_of(state, views))
+            view.receipts.append(row)
+    site = Site(state.first_line(), list(views.values()), receipts=receipts)
+    site.news = [news_of(state, views, row) for row in state.news]
     site.ages = ages_of(kept)
     if kept:
         ended = register.rows("rounds", "ended IS NOT NULL")
-        site.year, site.months = year_of(kept, ended, events)
-        site.weeks = ["shown"]
+        site.year = year_of(kept, ended, events)
     return site
 
 
-def receipt_view(it: Noted, bag: str) -> ReceiptView:
-    """A receipt of a register."""
-    if it.says is None:
-        return ReceiptView(it.number, "", "was altered, or isn't there", "")
-    says = it.says
-    return ReceiptView(
-        it.number, says["received"], says["decision"],
-        printable(says["arrived"]["name"]), bag, page_of(says),
-    )
-
-
-def view_of(
-    bag: Row,
-    found: List[Row],
-    events: List[Row],
-    means: Dict[int, Tuple[str, str]],
-) -> BagView:
+def view_of(bag: Row, found: List[Row], events: List[Row]) -> BagView:
     """A bag of a register."""
-    lines = [f"{row['kind']} {row['text']}".strip() for row in found]
-    faults = [row["text"] for row in found if row["kind"] == "fault"]
     kinds = Counter(row["kind"] for row in found)
     how = ", ".join(f"{kinds[it]} {it}" for it in sorted(kinds))
-    return BagView(
-        encoded(path_of(bag["path"])),
-        how or "no finding",
-        lines,
-        bag["read"],
-        bag["files"],
-        bag["bytes"],
-        bag["seal"],
-        [
-            {
-                "at": it["at"],
-                "kind": it["kind"],
-                "says": said_of_event(json.loads(it["data"])),
-            }
-            for it in events
-        ],
-        by_folder(faults, means),
-        is_certified=bool(bag["read"]) and not found,
-    )
+    view = BagView(encoded(path_of(bag["path"])), how or "no finding")
+    view.findings = [f"{row['kind']} {row['text']}".strip() for row in found]
+    view.read, view.seal = bag["read"], bag["seal"]
+    view.files, view.bytes = bag["files"], bag["bytes"]
+    view.events = [
+        {**it, "says": said_of_event(json.loads(it["data"]))} for it in events
+    ]
+    faults = [row["text"] for row in found if row["kind"] == "fault"]
+    view.faults = by_folder(faults)
+    view.is_certified = bool(bag["read"]) and not found
+    return view
 
 
 def said_of_event(data: Dict[str, Any]) -> str:
@@ -295,7 +213,8 @@ def said_of_event(data: Dict[str, Any]) -> str:
         row = {"kind": data["of"], "text": data["text"]}
         says.append(f"{data['of']} {said_of(row)}".strip())
     if "old" in data:
-        says.append(" to ".join(encoded(path_of(data[it])) for it in MOVED))
+        both = data["old"], data["new"]
+        says.append(" to ".join(encoded(path_of(it)) for it in both))
     if "decision" in data:
         says.append(f"receipt {data['number']}: {data['decision']}")
     if "seal" in data:
@@ -316,81 +235,51 @@ def said_of(row: Row) -> str:
     return str(row["text"])
 
 
-def news_of(
-    state: State, views: Dict[int, BagView]
-) -> Iterator[Dict[str, str]]:
-    for row in state.news:
-        view = views.get(row["bag"])
-        yield {
-            "what": row["kind"],
-            "bag": state.name_of(row),
-            "page": view.page if view is not None else "",
-            "says": said_of(row),
-            "todo": TO_DO[row["kind"]],
-            "since": row.get("since", "")[:10],
-        }
+def news_of(state: State, views: Dict[int, BagView], row: Row) -> View:
+    """One of the news."""
+    view = views.get(row["bag"])
+    return {
+        "what": row["kind"],
+        "bag": state.name_of(row),
+        "page": view.page if view is not None else "",
+        "says": said_of(row),
+        "todo": TO_DO[row["kind"]],
+        "since": row.get("since", "")[:10],
+    }
 
 
 def site_of_round(folder: bytes) -> Site:
     """The bags of a round."""
-    means, bags, a_round = meanings(), [], rounds.load(folder)
+    bags, a_round = [], rounds.load(folder)
     for row in a_round.rows():
-        record = row.record
-        lines: List[str] = []
+        view = BagView(encoded(row.bag), row.result)
+        view.findings = [row.result] if row.status else []
         if row.report is not None and (row.faults or 0) <= MOST_FAULTS:
-            lines = rounds.read_bytes(row.report).decode("ascii").splitlines()
-        view = BagView(
-            encoded(row.bag),
-            row.result,
-            [row.result] if row.status else [],
-            faults=by_folder(lines, means),
-        )
-        if record is not None:
-            view.files, view.bytes = record.files, record.size
-            view.seal = record.seal
+            report = read_bytes(row.report).decode("ascii")
+            view.faults = by_folder(report.splitlines())
+        if row.record is not None:
+            view.files, view.bytes = row.record.files, row.record.size
+            view.seal = row.record.seal
             is_whole = a_round.asked.depth == "full" and row.status != 3
-            view.read = record.ended if is_whole else None
+            view.read = row.record.ended if is_whole else None
             view.is_certified = is_whole and row.status == 0
         bags.append(view)
-    count = Counter(bool(bag.findings) for bag in bags)
-    site = Site(f"{count[True]} of {len(bags)} bags have news", bags)
-    name_pages(site)
-    return site
+    count = sum(bool(bag.findings) for bag in bags)
+    return Site(f"{count} of {len(bags)} bags have news", bags)
 
 
 def site_of_report(path: bytes) -> Site:
     """The faults of one report."""
-    text = rounds.read_bytes(path)
+    text = read_bytes(path)
     report = report_of(text.splitlines(keepends=True))
     if report.closing is None:
         why = report.wrong or "it was cut off"
         raise Refused(f"{encoded(path)} is no report: {why}", 3)
-    lines = text.decode("ascii").splitlines()[:MOST_FAULTS]
-    bag = BagView(
-        encoded(report.closing.bag), str(report.closing),
-        [str(report.closing)] if report.closing.status else [],
-        faults=by_folder(lines, meanings()),
-    )
-    site = Site(str(report.closing), [bag])
-    name_pages(site)
-    return site
-
-
-def name_pages(site: Site) -> None:
-    """Names the pages of the bags that have more to say than a row."""
-    for number, bag in enumerate(site.bags, 1):
-        says = bag.findings or bag.faults or bag.receipts
-        if says or len(bag.events) > 1 or len(site.bags) <= MOST_BAGS:
-            bag.page = f"bag-{number}.html"
-    for start in range(0, len(site.bags), MOST_BAGS):
-        some = site.bags[start:][:MOST_BAGS]
-        site.lists.append(
-            {
-                "page": f"bags-{start // MOST_BAGS + 1}.html",
-                "first": some[0].name,
-                "last": some[-1].name,
-            }
-        )
+    says = str(report.closing)
+    bag = BagView(encoded(report.closing.bag), says)
+    bag.findings = [says] if report.closing.status else []
+    bag.faults = by_folder(text.decode("ascii").splitlines()[:MOST_FAULTS])
+    return Site(says, [bag])
 
 
 def templates() -> Any:
@@ -399,12 +288,9 @@ def templates() -> Any:
         jinja2: Any = import_module("jinja2")
     except ImportError as error:
         raise Refused("there is no Jinja2 (python3-jinja2)", 3) from error
-    place = Path(__file__).parent / "templates"
     pages = jinja2.Environment(
-        loader=jinja2.FileSystemLoader(str(place)),
-        autoescape=True,
-        trim_blocks=True,
-        lstrip_blocks=True,
+        loader=jinja2.FileSystemLoader(str(TEXTS)), autoescape=True,
+        trim_blocks=True, lstrip_blocks=True,
     )
     pages.globals.update(now=now(), version=__version__)
     return pages
@@ -419,26 +305,21 @@ def write(site: Site, folder: bytes) -> None:
         with open(join(folder, os.fsencode(name)), "xb") as file:
             file.write(text.encode("utf-8", "backslashreplace"))
 
-    def put(name: str, template: str, **values: Any) -> None:
-        put_text(name, pages.get_template(template).render(**values))
+    def put(name: str, template: str, title: str, **values: Any) -> None:
+        page = pages.get_template(template)
+        put_text(name, page.render(site=site, title=title, **values))
 
-    put("index.html", "index.html", site=site, title=site.first_line, home=0)
-    for number, it in enumerate(site.lists):
-        start = number * MOST_BAGS
-        some = site.bags[start:][:MOST_BAGS]
-        title = f"{it['first']} to {it['last']}"
-        put(it["page"], "list.html", bags=some, title=title, home=1)
-    for bag in site.bags:
-        if bag.page:
-            put(bag.page, "bag.html", bag=bag, title=bag.name, home=1)
+    put("index.html", "index.html", site.first_line)
+    for number, some in enumerate(site.lists, 1):
+        title = f"{some[0].name} to {some[-1].name}"
+        put(f"bags-{number}.html", "list.html", title, bags=some, home=1)
+    for bag in filter(lambda it: it.page, site.bags):
+        put(bag.page, "bag.html", bag.name, bag=bag, home=1)
     if site.receipts:
-        put("receipts.html", "receipts.html", site=site, title="Receipts",
-            home=1)
-    for receipt in site.receipts:
-        if receipt.page:
-            put_text(receipt.page, receipt.text)
-    with open(join(folder, MARK), "xb"):
-        pass
+        put("receipts.html", "receipts.html", "Receipts", home=1)
+    for receipt in filter(lambda it: "page" in it, site.receipts):
+        put_text(receipt["page"], page_of(receipt["says"]))
+    put_text(os.fsdecode(MARK), "")
 
 
 def replace(site: Site, folder: bytes) -> None:
@@ -462,11 +343,7 @@ def replace(site: Site, folder: bytes) -> None:
 
 def run(words: Sequence[str]) -> int:
     """Does what the command is asked for, and says its status."""
-    parser = Parser("bagit-keep page", USAGE, ABOUT, END)
-    read = parser.read(words)
-    if len(read.operands) != 2:
-        raise Refused("it takes what to show, and a folder; --help says more")
-    source, folder = map(absolute, read.operands)
+    source, folder = map(absolute, read("page", words, 2, 2).operands)
     if os.path.isfile(join(source, b"register.sqlite")):
         with closing(Register(source)) as register:
             site = site_of_register(register)

@@ -15,15 +15,16 @@ import signal
 import subprocess
 import sys
 import threading
+from concurrent.futures import FIRST_EXCEPTION, ThreadPoolExecutor, wait
 from contextlib import suppress
 from dataclasses import dataclass, field
-from types import TracebackType
-from typing import IO, List, Optional, Sequence, Set, Tuple, Type, Union
+from typing import IO, Callable, List, Optional, Sequence, Set, Tuple, Union
 
-from .lines import VERDICTS, Closing, Report, encoded, report_of
+from .files import Path, read_bytes
+from .lines import VERDICTS, Closing, Report, report_of
+from .messages import Refused, explained, first_line
 from .seal import is_tar
 
-LONGEST_MESSAGE = 500
 LONGEST_STOP = 10
 MARK = "BAGIT_KEEP_GUARD"
 
@@ -44,7 +45,8 @@ while is_found:
     time.sleep(0.01)
 """
 
-Path = Union[str, bytes]
+Process = subprocess.Popen  # of bytes
+Out = Union[int, IO[bytes]]
 
 
 class Stopped(Exception):
@@ -54,20 +56,41 @@ class Stopped(Exception):
 @dataclass(frozen=True)
 class Asked:
     """What a check looks at: a depth, which is a key of VERDICTS; clashes of
-    names; and a profile, which is a file."""
+    names; a profile, which is a file; and, if this isn't all, the part K of N,
+    after a line of its report."""
 
     depth: str = "full"
     clashes: bool = False
     profile: Optional[Path] = None
+    part: Optional[Tuple[int, int]] = None
+    after: Optional[str] = None
+    quiet: bool = False
 
     def words(self) -> List[Path]:
         """The arguments that ask for it."""
-        words: List[Path] = ["--validate"]
-        if self.depth != "full":
-            words.append(f"--{self.depth}")
-        if self.clashes:
-            words.append("--clashes")
-        return words + (["--profile", self.profile] if self.profile else [])
+        flags = {
+            f"--{self.depth}": self.depth != "full",
+            "--clashes": self.clashes,
+            "--quiet": self.quiet,
+        }
+        words: List[Path] = ["--validate", *(it for it in flags if flags[it])]
+        part = self.part and "{}/{}".format(*self.part)
+        for option, value in (
+            ("--profile", self.profile), ("--part", part),
+            ("--after", self.after),
+        ):
+            words += [option, value] if value else []
+        return words
+
+    def is_answered(self, closing: Closing) -> bool:
+        """Whether a closing line is one of such a check."""
+        if closing.ended == "unread":
+            return True
+        if self.part is None:
+            return closing.ended in (VERDICTS[self.depth], "has faults")
+        ended = "done" if self.after is None else "rest done"
+        is_of_it = (closing.part, closing.parts) == self.part
+        return closing.ended == ended and is_of_it
 
 
 @dataclass(frozen=True)
@@ -83,12 +106,11 @@ class Ended:
         """The same for people, where it is no answer."""
         if self.status is None:
             return f"bagit {self.message}"
+        text = f"bagit ended with {self.status}"
         if self.status < 0:
             text = f"bagit was killed by signal {-self.status}"
-        else:
-            text = f"bagit ended with {self.status}"
-            if self.status < 2:
-                text += ", without its closing line"
+        elif self.status < 2:
+            text += ", without its closing line"
         return f"{text}: {self.message}" if self.message else text
 
 
@@ -107,26 +129,59 @@ class Verdict:
     closing: Optional[Closing] = field(default=None, compare=False)
 
 
-def verdict_of(ended: Ended, report: Report, name: str, depth: str) -> Verdict:
-    """The verdict of a check of the bag of this name, at this depth."""
+def verdict_of(
+    ended: Ended, report: Report, name: str, asked: Asked
+) -> Verdict:
+    """The verdict of a check of the bag of this name."""
     closing = report.closing
     if (
         closing is not None
         and closing.bag == name
-        and closing.ended in (VERDICTS[depth], "has faults", "unread")
+        and asked.is_answered(closing)
         and closing.status == ended.status
     ):
-        return Verdict(
-            closing.status, str(closing), report.faults, closing
-        )
+        return Verdict(closing.status, str(closing), report.faults, closing)
     return Verdict(3, ended.described(), report.faults)
 
 
+def sought() -> str:
+    """The name of `bagit`: what the variable BAGIT says, or this."""
+    return os.environ.get("BAGIT") or "bagit"
+
+
 def find(name: Optional[str] = None) -> Optional[str]:
-    """The path of `bagit`: of this program, else of the one that the variable
-    BAGIT names, else of the first one on PATH; None where there is none."""
-    path = shutil.which(name or os.environ.get("BAGIT") or "bagit")
+    """The path of `bagit`, or of this program; None where there is none."""
+    path = shutil.which(name or sought())
     return path and os.path.abspath(path)
+
+
+def needed() -> str:
+    """The path of `bagit`, which has to be there."""
+    found = find()
+    if found is None:
+        raise Refused(f"there is no program {sought()}", 3)
+    return found
+
+
+def read_profile(name: Optional[str]) -> Optional[bytes]:
+    """A profile's bytes; bagit says whether it is a profile before it comes
+    to a folder."""
+    if name is None:
+        return None
+    path = os.path.abspath(name)
+    try:
+        profile = read_bytes(path)
+    except OSError as error:
+        text = f"the profile can't be read: {explained(error)}"
+        raise Refused(text, 3) from error
+    words = [sought(), *Asked(profile=path).words(), "--", os.devnull]
+    with suppress(OSError):
+        tried = subprocess.run(
+            words, stdin=subprocess.DEVNULL, capture_output=True, check=False
+        )
+        if tried.returncode == 2:
+            raise Refused(first_line(tried.stderr))
+    return profile
 
 
 def named(directory: Path) -> Tuple[str, Optional[bytes]]:
@@ -142,42 +197,10 @@ def named(directory: Path) -> Tuple[str, Optional[bytes]]:
         return ".", path
 
 
-def knows_tar(program: str) -> bool:
-    """Whether `bagit` at a path checks a .tar where it lies."""
-    with suppress(OSError):
-        asked = subprocess.run(
-            [program, "--help"],
-            stdin=subprocess.DEVNULL,
-            capture_output=True,
-            check=False,
-        )
-        return b" --tar " in asked.stdout
-    return False
-
-
-def kill(process: "subprocess.Popen[bytes]") -> None:
+def kill(process: "Process[bytes]") -> None:
     """Kills a process, and all that it has started in its group."""
     with suppress(ProcessLookupError, PermissionError):
         os.killpg(process.pid, signal.SIGKILL)
-
-
-def first_line(messages: bytes) -> str:
-    """The first line of messages, with no character that a terminal obeys."""
-    line = messages.partition(b"\n")[0][:LONGEST_MESSAGE]
-    return encoded(line).replace("%20", " ") if line else ""
-
-
-def wait_for(
-    process: "subprocess.Popen[bytes]", seconds: Optional[float]
-) -> Ended:
-    """Waits until a process has ended, or kills it after so many seconds."""
-    try:
-        _, messages = process.communicate(timeout=seconds)
-    except subprocess.TimeoutExpired:
-        kill(process)
-        process.communicate()
-        return Ended(None, f"was killed after {seconds:g} seconds")
-    return Ended(process.returncode, first_line(messages))
 
 
 class Program:
@@ -192,27 +215,22 @@ class Program:
         self.path = path
         self._held = () if held is None else (held,)
         self._lock = threading.Lock()
-        self._running: Set["subprocess.Popen[bytes]"] = set()
-        self._is_stopped = False
+        self._running: Set["Process[bytes]"] = set()
+        self._stopped = threading.Event()
         self._mark = os.urandom(16).hex()
-        self._guard: Optional["subprocess.Popen[bytes]"] = None
+        self._guard: Optional["Process[bytes]"] = None
         self._pipe = -1
 
     def __enter__(self) -> "Program":
         return self
 
-    def __exit__(
-        self,
-        kind: Optional[Type[BaseException]],
-        error: Optional[BaseException],
-        trace: Optional[TracebackType],
-    ) -> None:
+    def __exit__(self, *error: object) -> None:
         self.stop()
 
     def run(
         self,
         words: Sequence[Path],
-        out: Union[int, IO[bytes]],
+        out: Out,
         folder: Optional[Path] = None,
         seconds: Optional[float] = None,
     ) -> Ended:
@@ -228,14 +246,19 @@ class Program:
             process = self._start(words, out, folder)
         except OSError as error:
             return Ended(None, f"couldn't be run: {error.strerror}")
-        try:
-            return wait_for(process, seconds)
-        finally:
-            if process.poll() is None:
-                kill(process)
-                process.wait()
-            with self._lock:
-                self._running.discard(process)
+        with process:
+            try:
+                _, messages = process.communicate(timeout=seconds)
+                return Ended(process.returncode, first_line(messages))
+            except subprocess.TimeoutExpired:
+                kill(process)  # what it has started, too, if it has ended
+                return Ended(None, f"was killed after {seconds:g} seconds")
+            finally:
+                if process.poll() is None:
+                    kill(process)
+                    process.wait()
+                with self._lock:
+                    self._running.discard(process)
 
     def check(
         self,
@@ -251,12 +274,34 @@ class Program:
         words = [*asked.words(), *tar, "--", name]
         ended = self.run(words, out, folder, seconds)
         out.seek(0)
-        return verdict_of(ended, report_of(out), name, asked.depth)
+        return verdict_of(ended, report_of(out), name, asked)
 
     @property
     def is_stopped(self) -> bool:
         """Whether no process is started any more."""
-        return self._is_stopped
+        return self._stopped.is_set()
+
+    def pause(self, seconds: float) -> None:
+        """Waits, unless it is Stopped."""
+        if self._stopped.wait(seconds):
+            raise Stopped
+
+    def each(
+        self, work: Callable[[int], None], numbers: Sequence[int], jobs: int
+    ) -> None:
+        """Does the work for these numbers, so many at a time. If it fails for
+        one, or this is interrupted, all processes are killed, and no other is
+        started."""
+        pool, is_done = ThreadPoolExecutor(min(jobs, len(numbers))), False
+        try:
+            begun = [pool.submit(work, it) for it in numbers]
+            for it in wait(begun, return_when=FIRST_EXCEPTION).done:
+                it.result()
+            is_done = True
+        finally:
+            if not is_done:
+                self.stop()
+            pool.shutdown(is_done, cancel_futures=True)
 
     def running(self) -> List[int]:
         """The numbers of the processes that are at work."""
@@ -267,7 +312,7 @@ class Program:
         """Kills all processes, and starts none any more. One that hangs in
         the system, as on a disk that is gone, isn't waited for."""
         with self._lock:
-            self._is_stopped = True
+            self._stopped.set()
             for process in self._running:
                 kill(process)
             if self._guard is not None:
@@ -277,13 +322,10 @@ class Program:
                 self._guard = None
 
     def _start(
-        self,
-        words: Sequence[Path],
-        out: Union[int, IO[bytes]],
-        folder: Optional[Path],
-    ) -> "subprocess.Popen[bytes]":
+        self, words: Sequence[Path], out: Out, folder: Optional[Path]
+    ) -> "Process[bytes]":
         with self._lock:
-            if self._is_stopped:
+            if self.is_stopped:
                 raise Stopped
             if self._guard is None:
                 self._guard = self._begin_guard()
@@ -300,7 +342,7 @@ class Program:
             self._running.add(process)
             return process
 
-    def _begin_guard(self) -> "subprocess.Popen[bytes]":
+    def _begin_guard(self) -> "Process[bytes]":
         end, self._pipe = os.pipe()
         python = sys.executable or "python3"
         words = [python, "-IS", "-c", GUARD, f"{MARK}={self._mark}"]

@@ -1,16 +1,16 @@
-"""How far a round is."""
+"""How far checks are."""
 import os
 import re
 import sys
 import threading
 import time
-from contextlib import suppress
+from contextlib import contextmanager, suppress
+from dataclasses import dataclass
 from datetime import timedelta
 from os.path import join
-from typing import Dict, List, Optional
+from typing import Callable, Iterator, List, Optional
 
-from .checks import Checks
-from .lines import encoded
+from .files import opened
 from .messages import say
 from .program import Program
 from .seal import payload_of
@@ -23,20 +23,19 @@ OXUM = re.compile(rb"(?im)^payload-oxum[ \t]*:[ \t]*(\d{1,20})\.\d+\s*$")
 
 def size(count: float) -> str:
     """A number of bytes for people."""
-    unit = "bytes"
-    for larger in ("kB", "MB", "GB", "TB"):
+    if count < 1000:
+        return f"{count:.0f} bytes"
+    for unit in ("kB", "MB", "GB", "TB"):
+        count /= 1000
         if count < 1000:
             break
-        count, unit = count / 1000, larger
-    return f"{count:.0f} {unit}" if unit == "bytes" else f"{count:.1f} {unit}"
+    return f"{count:.1f} {unit}"
 
 
 def bytes_of(directory: bytes) -> int:
     """The bytes of a payload: by Payload-Oxum, else by its listing."""
     with suppress(OSError):
-        flags = os.O_RDONLY | os.O_NONBLOCK | os.O_NOFOLLOW
-        path = join(directory, b"bag-info.txt")
-        with open(os.open(path, flags), "rb") as file:
+        with opened(join(directory, b"bag-info.txt")) as file:
             found = OXUM.search(file.read(1 << 20))
         if found:
             return int(found[1])
@@ -45,81 +44,85 @@ def bytes_of(directory: bytes) -> int:
     return 0
 
 
-def read_by(program: Optional[Program]) -> int:
+def read_by(program: Program) -> int:
     """How many bytes the processes at work have read."""
     count = 0
-    for pid in program.running() if program is not None else []:
+    for pid in program.running():
         with suppress(OSError), open(f"/proc/{pid}/io") as file:
             count += int(file.readline().split()[1])
     return count
 
 
-class Progress:
-    """Says how far checks are, while they are made: each second over the last
-    line of a terminal, else each minute."""
+@dataclass(frozen=True)
+class Far:
+    """How far checks are: how many are done of how many, which are at work,
+    how many bytes were read, and of how many, if that is known."""
 
-    def __init__(self, checks: Checks, numbers: List[int]) -> None:
-        self.checks, self.numbers = checks, numbers
-        self.sizes: Dict[int, int] = {}
-        self.is_terminal = sys.stderr is not None and sys.stderr.isatty()
-        self._width = 0
-        self._ended = threading.Event()
-        self._threads: List[threading.Thread] = []
-
-    def begin(self) -> None:
-        """Finds the sizes and says what is to be said, beside the checks."""
-        for work in self.measure, self.speak:
-            thread = threading.Thread(target=work, daemon=True)
-            thread.start()
-            self._threads.append(thread)
-
-    def end(self) -> None:
-        self._ended.set()
-        if self._threads:
-            self._threads[-1].join()
-
-    def measure(self) -> None:
-        for number in self.numbers:
-            if self._ended.is_set():
-                return
-            directory = self.checks.round.directories[number - 1]
-            self.sizes[number] = bytes_of(directory)
-
-    def speak(self) -> None:
-        begun = time.monotonic()
-        seconds = TERMINAL_SECONDS if self.is_terminal else SECONDS
-        while not self._ended.wait(seconds):
-            self.write(self.line(time.monotonic() - begun))
-        if self._width:
-            self.write("")
+    what: str
+    of: int
+    done: int
+    at_work: List[str]
+    read: int
+    total: Optional[int]
 
     def line(self, seconds: float) -> str:
-        """Bags, bytes, the time that is left, and what is at work."""
-        done, bags = list(self.checks.done), len(self.numbers)
-        read = sum(self.sizes.get(number, 0) for number in done)
-        read += read_by(self.checks.program)
-        total, share = "?", len(done) / bags
-        if len(self.sizes) == bags:
-            count = sum(self.sizes.values())
-            total, share = size(count), min(1, read / max(1, count))
-        left = "?"
+        """The same for people, after so many seconds."""
+        share, total, left = self.done / self.of, "?", "?"
+        if self.total is not None:
+            total = size(self.total)
+            share = min(1, self.read / max(1, self.total))
         if share > 0:
             left = str(timedelta(seconds=int(seconds / share - seconds)))
-        names = [encoded(it) for it in list(self.checks.at_work.values())]
-        text = ", ".join(names[:MOST_NAMES])
-        if len(names) > MOST_NAMES:
-            text += f" +{len(names) - MOST_NAMES}"
+        names = ", ".join(self.at_work[:MOST_NAMES])
+        if len(self.at_work) > MOST_NAMES:
+            names += f" +{len(self.at_work) - MOST_NAMES}"
         return (
-            f"{len(done)} of {bags} bags, {size(read)} of {total}, {left}"
-            f" left, at work: {text}"
+            f"{self.done} of {self.of} {self.what}, {size(self.read)} of"
+            f" {total}, {left} left, at work: {names}"
         )
 
-    def write(self, text: str) -> None:
-        if not self.is_terminal:
-            say(text)
-            return
-        with suppress(OSError):
-            columns = os.get_terminal_size(2).columns or 80
-            text = text[: columns - 1]
-            os.write(2, f"\r{text.ljust(self._width)}\r".encode())
-            self._width = len(text)
+
+def write_over(text: str, width: int) -> int:
+    """Writes a line over the last one of a terminal, which was so wide; says
+    how wide this one is."""
+    with suppress(OSError):
+        columns = os.get_terminal_size(2).columns or 80
+        text = text[: columns - 1]
+        os.write(2, f"\r{text.ljust(width)}\r".encode())
+    return len(text)
+
+
+@contextmanager
+def shown(
+    far: Callable[[], Far],
+    is_asked: bool,
+    prepare: Callable[[], None] = lambda: None,
+) -> Iterator[None]:
+    """Says how far checks are, while they are made: each second over the last
+    line of a terminal, else each minute if it is asked for. What prepares this
+    is done beside it."""
+    is_terminal = sys.stderr is not None and sys.stderr.isatty()
+    ended, begun = threading.Event(), time.monotonic()
+    if not is_asked and not is_terminal:
+        yield
+        return
+
+    def speak() -> None:
+        width = 0
+        while not ended.wait(TERMINAL_SECONDS if is_terminal else SECONDS):
+            text = far().line(time.monotonic() - begun)
+            if is_terminal:
+                width = write_over(text, width)
+            else:
+                say(text)
+        if is_terminal:
+            write_over("", width)
+
+    threading.Thread(target=prepare, daemon=True).start()
+    thread = threading.Thread(target=speak, daemon=True)
+    thread.start()
+    try:
+        yield
+    finally:
+        ended.set()
+        thread.join()

@@ -1,22 +1,21 @@
 """The receipt of a deposit: what came, what was found, what became of it."""
-import errno
-import hashlib
 import html
+import json
 import os
 import re
+from os.path import splitext
 from typing import Any, Dict, Iterable, Iterator, List, Optional, Tuple
 
 from . import __version__, tags
 from .bagit import Bag
 from .info import description_of
-from .lines import Fault
-from .meanings import meanings
-from .members import Member, folder_content, folders_of, key_of, shown
+from .files import sha256_of
+from .lines import FAULTS, TEXTS, Fault, encoded
+from .members import Member, folder_content, folders_of, key_of
 from .messages import printable
-from .places import Work, place
+from .places import place_text
 from .program import find
 from .received import enter
-from .rounds import read_bytes, write_synced
 
 SHOWN = 3
 WEAK = {"md5", "sha1"}
@@ -35,16 +34,8 @@ def text_of(remark: Remark) -> str:
     if not paths:
         return text
     more = ", .." if len(paths) > SHOWN else ""
-    first = ", ".join(map(shown, paths[:SHOWN]))
+    first = ", ".join(map(encoded, paths[:SHOWN]))
     return f"{text}: {len(paths)} ({first}{more})"
-
-
-def remarks_on(bag: Bag) -> List[str]:
-    """What a check passes over, and people should know of a bag."""
-    members = folder_content(bag.path).members
-    files = [it.path for it in members if not it.is_folder]
-    found = [*of_manifests(bag, files), *of_names(members, files)]
-    return [text_of(it) for it in found]
 
 
 def of_manifests(bag: Bag, files: List[str]) -> Iterator[Remark]:
@@ -52,21 +43,16 @@ def of_manifests(bag: Bag, files: List[str]) -> Iterator[Remark]:
     to_fetch = list(bag.files_to_be_fetched())
     if to_fetch:
         yield "files that fetch.txt names", to_fetch
-    named = bag.tagfile_entries()
     kinds = [it for it in map(tags.MANIFEST_NAME.fullmatch, files) if it]
-    strong = {it[2] for it in kinds if not it[1]} - WEAK
-    if not strong:
+    if not {it[2] for it in kinds if not it[1]} - WEAK:
         yield "no payload manifest but of MD5 or SHA-1", []
     if not any(it[1] for it in kinds):
         yield "no tag manifest, so no tag file was compared", []
         return
-    others = [
-        path
-        for path in files
-        if not path.startswith("data/")
-        and path not in named
-        and not path.startswith("tagmanifest-")
-    ]
+    named = bag.tagfile_entries()
+    begins = "data/", "tagmanifest-"
+    others = [it for it in files if not it.startswith(begins)]
+    others = [it for it in others if it not in named]
     if others:
         yield "tag files that no tag manifest names", others
 
@@ -74,15 +60,12 @@ def of_manifests(bag: Bag, files: List[str]) -> Iterator[Remark]:
 def of_names(members: List[Member], files: List[str]) -> Iterator[Remark]:
     """What names and folders say."""
     filled = {folder for path in files for folder in folders_of(path)}
+    folders = [it.path for it in members if it.is_folder]
     paths = [it.path for it in members]
     seen: Dict[str, str] = {}
     found = {
         "bags in the bag": [it for it in files if it.endswith("/bagit.txt")],
-        "empty folders": [
-            it.path
-            for it in members
-            if it.is_folder and it.path not in filled
-        ],
+        "empty folders": [it for it in folders if it not in filled],
         "names that Windows refuses": list(filter(refused_by_windows, paths)),
         "names that differ by case or normal form alone": [
             it for it in paths if seen.setdefault(key_of(it), it) != it
@@ -98,20 +81,24 @@ def refused_by_windows(path: str) -> bool:
 
 def explained_faults(faults: Iterable[Fault]) -> List[Dict[str, str]]:
     """Faults, each with what it means and what to do."""
-    known, found = meanings(), []
+    found = []
     for fault in faults:
-        means, asks = known.get(fault.code, ("", ""))
+        _, means, asks = FAULTS[fault.code]
         found.append({"fault": str(fault), "means": means, "to_do": asks})
     return found
 
 
-def description(bag: Bag, is_valid: bool) -> Dict[str, Any]:
-    """What a receipt says of a bag that could be opened. Files are called
-    compared only where the check says that all were."""
-    known = description_of(bag.path)
+def description(path: str, is_valid: bool) -> Tuple[Dict[str, Any], List[str]]:
+    """What a receipt says of a bag that can be opened, and remarks: what a
+    check passes over, and people should know. Files are called compared only
+    where the check says that all were."""
+    bag, known = Bag(path), description_of(path)
+    members = folder_content(path).members
+    files = [it.path for it in members if not it.is_folder]
+    tag_files = [it for it in files if not it.startswith("data/")]
     labels = {label.lower(): value for label, value in known["elements"][::-1]}
     compared = {it["file"]: it["entries"] for it in known["manifests"]}
-    files = [it for it in folder_content(bag.path).members if not it.is_folder]
+    remarks = [*of_manifests(bag, files), *of_names(members, files)]
     return {
         "external_identifier": labels.get("external-identifier"),
         "announced": labels.get("payload-oxum"),
@@ -119,51 +106,26 @@ def description(bag: Bag, is_valid: bool) -> Dict[str, Any]:
         "bytes": known["bytes"],
         "compared": compared if is_valid else {},
         "tag_files": {
-            it.path: sha256_of(os.path.join(bag.path, it.path))
-            for it in files
-            if not it.path.startswith("data/")
+            it: sha256_of(os.fsencode(os.path.join(path, it)))
+            for it in tag_files
         },
         "seal": known["seal"],
         "version": known["version"],
-    }
-
-
-def sha256_of(path: str) -> str:
-    """The SHA-256 of a file, which isn't large."""
-    return hashlib.sha256(read_bytes(os.fsencode(path))).hexdigest()
+    }, [text_of(it) for it in remarks]
 
 
 def versions() -> Dict[str, Any]:
     """Which programs judged."""
     bagit = find()
-    return {
-        "bagit-keep": __version__,
-        "bagit_sha256": bagit and sha256_of(bagit),
-    }
-
-
-PAGE = """<!DOCTYPE html>
-<html lang="en"><head><meta charset="utf-8"><title>{title}</title>
-<meta name="viewport" content="width=device-width, initial-scale=1"><style>
-:root {{ color-scheme: light dark }}
-body {{ font: 11pt/1.4 serif; margin: 2em auto; max-width: 48em;
-padding: 0 1em }}
-th {{ text-align: left; padding-right: 1em; overflow-wrap: normal }}
-th, td {{ vertical-align: top }}
-td {{ overflow-wrap: anywhere }}
-</style></head><body><h1>{title}</h1>
-<p>{says}</p>
-{body}
-<p><br><br>Date: ____________________ Signature: ____________________</p>
-</body></html>
-"""
+    digest = bagit and sha256_of(os.fsencode(bagit))
+    return {"bagit-keep": __version__, "bagit_sha256": digest}
 
 
 def page_of(receipt: Dict[str, Any]) -> str:
     """A receipt as a page to be printed and signed."""
     title = f"Receipt {receipt['number']}: {receipt['decision']}"
     known = {key: it for key, it in receipt.items() if it is not None}
-    return PAGE.format(
+    return (TEXTS / "receipt.html").read_text("utf-8").format(
         title=html.escape(title),
         says=html.escape(printable(sentence_of(receipt))),
         body=shown_value(known),
@@ -197,34 +159,19 @@ def shown_value(value: Any) -> str:
     return "-" if value is None else html.escape(printable(str(value)))
 
 
-def publish(work: Work, path: str, page: str, register: Optional[str]) -> None:
-    """Gives the receipt in a folder its names, which nothing may have. What a
-    register notes is there by then, and may be there of a killed process."""
-    written = work.at("receipt.json")
-    if os.path.lexists(work.at("receipt.html")):
-        publish_file(work.at("receipt.html"), page)
-    if register is None:
-        publish_file(written, path)
-        return
-    content = read_bytes(os.fsencode(written))
-    if not os.path.lexists(path):
-        publish_copy(content, path)
-    enter(register, content, read_bytes(os.fsencode(page)))
+def page_path(path: str) -> str:
+    """Where the page of a receipt is."""
+    return f"{splitext(path)[0]}.html"
 
 
-def publish_file(path: str, target: str) -> None:
-    """Moves a file, also to another file system, onto nothing."""
-    try:
-        place(path, target)
-    except OSError as error:
-        if error.errno != errno.EXDEV:
-            raise
-        publish_copy(read_bytes(os.fsencode(path)), target)
-        os.unlink(path)
-
-
-def publish_copy(content: bytes, target: str) -> None:
-    """Writes a file, whole, onto nothing."""
-    part = f"{target}.{os.urandom(4).hex()}.part"
-    write_synced(os.fsencode(part), content)
-    place(part, target)
+def publish(
+    receipt: Dict[str, Any], path: str, register: Optional[str]
+) -> None:
+    """Writes a receipt, and its page, and has a register note both. What a
+    killed process has written of it has to be the same."""
+    content = (json.dumps(receipt, indent=1) + "\n").encode()
+    page = page_of(receipt).encode("utf-8", "backslashreplace")
+    place_text(page, page_path(path))
+    place_text(content, path)
+    if register is not None:
+        enter(register, content, page)

@@ -9,13 +9,13 @@ import os
 from contextlib import closing, suppress
 from dataclasses import dataclass
 from os.path import join
-from typing import Any, Dict, Iterator, List, Optional, Set
+from typing import Any, Dict, Iterator, List, Optional
 
+from .files import read_bytes, text_of
 from .lines import encoded
 from .messages import Refused
 from .news import of_no_bag
 from .register import Register, path_of, take
-from .rounds import read_bytes, text_of
 
 
 @dataclass(frozen=True)
@@ -35,9 +35,10 @@ def noted_in(register: Register) -> Iterator[Noted]:
     for row in register.rows("events", "kind = 'received'"):
         data = json.loads(row["data"])
         path = path_in(register.folder, data["number"])
-        content = noted_content(path, data["sha256"])
-        page = page_in(register.folder, data["number"])
-        found = {path: content, page: noted_content(page, data["page"])}
+        page = path[:-len(".json")] + b".html"
+        digests = {path: data["sha256"], page: data["page"]}
+        found = {it: noted_content(it, sum) for it, sum in digests.items()}
+        content = found[path]
         says = None if content is None else json.loads(content)
         altered = [it for it, what in found.items() if what is None]
         yield Noted(data["number"], row["bag"], says, altered)
@@ -52,20 +53,9 @@ def noted_content(path: bytes, digest: str) -> Optional[bytes]:
     return None
 
 
-def numbers_in(register: Register) -> Set[str]:
-    """The numbers of the receipts that a register has noted."""
-    rows = register.rows("events", "kind = 'received'")
-    return {json.loads(row["data"])["number"] for row in rows}
-
-
 def path_in(folder: bytes, number: str) -> bytes:
     """Where a register has the receipt of a number."""
     return join(folder, b"receipts", os.fsencode(f"{number}.json"))
-
-
-def page_in(folder: bytes, number: str) -> bytes:
-    """Where a register has the page of a receipt."""
-    return join(folder, b"receipts", os.fsencode(f"{number}.html"))
 
 
 def look(register: Register) -> None:
@@ -77,9 +67,9 @@ def look(register: Register) -> None:
 def place_of(register: Register, folder: str) -> bytes:
     """The path of a folder by the names that the register has of its stores,
     which may be links."""
+    path = os.fsencode(folder)
     for store in register.setting("stores"):
         real = os.path.realpath(path_of(store))
-        path = os.fsencode(folder)
         if path.startswith(join(real, b"")):
             return path_of(store) + path[len(real):]
     return path
@@ -98,11 +88,12 @@ def refuse_kept(register: Register, folder: str, seal: str = "") -> None:
 def enter(folder: str, content: bytes, page: bytes) -> None:
     """Notes a receipt and its page in the register of a folder, and takes in
     the bag that was received, unless that was done."""
-    receipt = json.loads(content)
-    number, bag = receipt["number"], None
+    receipt, bag = json.loads(content), None
+    number = receipt["number"]
     with closing(Register(os.fsencode(folder))) as register:
         with register.changing():
-            if number in numbers_in(register):
+            noted = register.rows("events", "kind = 'received'")
+            if any(json.loads(it["data"])["number"] == number for it in noted):
                 return
             if receipt["folder"] is not None:
                 known = receipt["bag"]
@@ -111,10 +102,7 @@ def enter(folder: str, content: bytes, page: bytes) -> None:
                 path = text_of(place_of(register, receipt["folder"]))
                 bag = take(register, path, **values, read=receipt["received"])
             register.note(
-                "received",
-                bag,
-                number=number,
-                decision=receipt["decision"],
+                "received", bag, number=number, decision=receipt["decision"],
                 sha256=hashlib.sha256(content).hexdigest(),
                 page=hashlib.sha256(page).hexdigest(),
             )

@@ -19,10 +19,9 @@ from contextlib import closing, contextmanager, suppress
 from os.path import join
 from typing import Any, Dict, Iterator, List, Optional
 
-from .checks import now
+from .files import EXCLUSIVE, has_lock, sync_folder, text_of
 from .lines import encoded
-from .messages import Refused
-from .rounds import NO_LOCKS, sync_folder, text_of
+from .messages import Refused, now
 
 FORMAT = 1
 APPLICATION = 0x62616769
@@ -256,12 +255,9 @@ def alone(
     the work."""
     if not os.path.isdir(folder):
         raise Refused(f"{encoded(folder)} is no register")
-    how = fcntl.LOCK_SH if shared else fcntl.LOCK_EX
+    how = fcntl.LOCK_SH | fcntl.LOCK_NB if shared else EXCLUSIVE
     with open(join(folder, name), "a+b") as file:
-        try:
-            fcntl.lockf(file, how | fcntl.LOCK_NB)
-        except OSError as error:
-            if error.errno not in NO_LOCKS:
-                text = f"another process is at work in {encoded(folder)}"
-                raise Refused(text, 3) from error
+        if has_lock(fcntl.lockf, file, how) is False:
+            text = f"another process is at work in {encoded(folder)}"
+            raise Refused(text, 3)
         yield

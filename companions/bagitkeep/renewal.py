@@ -17,13 +17,15 @@ from . import tags
 from .bagit import content_of, reading
 from .elements import key_of
 from .errors import BagError
-from .keeping import OF_BAG, accept, operands, parser_of
+from .files import absolute
+from .keeping import accept
 from .lines import encoded
 from .mending import is_old
 from .messages import Refused
 from .register import Register, Row, alone
 from .runs import find_renew
 from .seal import seal_by, sums_of
+from .usage import read
 
 INFO = "bag-info.txt"
 ASKS = "--set=", "--unset=", "--append="
@@ -126,13 +128,9 @@ def renew(register: Register, path: bytes, words: List[str]) -> int:
 
 def run(words: Sequence[str]) -> int:
     """Does what the command is asked for, and says its status."""
-    parser = parser_of(
-        "renew", "REGISTER BAG -- OPTIONS OF bagit-renew",
-        "Renews a bag that is as the register has it, checks it, and takes it"
-        " for good if it is still that bag.", OF_BAG,
-    )
     end = words.index("--") if "--" in words else len(words)
-    folder, path = operands(parser.read(words[:end]), 2, 2)
+    asked = read("renew", words[:end], 2, 2)
+    folder, path = map(absolute, asked.operands)
     options = list(words[end:][1:])
     if {it.partition("=")[0] for it in options} >= {"--add", "--drop"}:
         raise Refused("--add comes first, and --drop by another command")

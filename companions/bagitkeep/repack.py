@@ -2,48 +2,19 @@
 import os
 import re
 from dataclasses import dataclass
-from os.path import isdir, join, lexists
-from typing import Dict, List, Optional, Sequence
+from os.path import basename, isdir, join, lexists
+from typing import List, Optional, Sequence
 
-from .bagit import content_of
-from .beside import (
-    checked,
-    folder_of,
-    path_in_bag,
-    refusing,
-    replaced,
-    shown,
-)
+from .bagit import Entries, content_of, entries_in, manifests_in, reading
+from .beside import checked, folder_of, path_in_bag, replaced
 from .errors import BagError
 from .mending import (
-    Changes,
-    Entry,
-    build,
-    changed,
-    entries_in,
-    is_old,
-    manifests_of,
+    Changes, Entry, build, changed, is_old,
 )
-from .messages import Parser, Refused
+from .messages import Refused, shown
 from .seal import payload_of
 from .trees import PlaceOf, link_tree
-
-USAGE = """\
-bagit-keep repack DIRECTORY add DIRECTORY [--to PATH]
-       bagit-keep repack DIRECTORY remove PATH ..
-       bagit-keep repack DIRECTORY rename PATH PATH"""
-ABOUT = """\
-Changes which files the payload of a valid bag has: those of another valid bag
-are added, files or folders are removed, or one is renamed. Each PATH is one of
-the bag, such as data/letters. What the bag is to be is made beside it, of
-links, with the digests that its manifests give, and takes its place if a full
-check by bagit ends with 0; the old bag is kept beside it."""
-END = """\
-Exit status:
-  0  the bag was changed, and is valid
-  1  a bag has faults, or would have; they are written, nothing was changed
-  2  the arguments aren't understood, or there is no such path
-  3  something couldn't be read or written, or another process is at the bag"""
+from .usage import MANY, read
 
 OXUM = re.compile(
     rb"^(payload-oxum[ \t]*:[ \t]*)\d+\.\d+[ \t]*\r?$", re.IGNORECASE | re.M
@@ -83,14 +54,14 @@ class Change:
         if self.new and lexists(join(bag, self.new)):
             raise Refused(f"{shown(bag)} has {shown(self.new)} already")
         link_tree(bag, work, self.place_of_payload)
-        entries: Dict[str, Dict[str, str]] = {}
+        entries: Entries = {}
         if self.other is not None:
             checked(self.other)
-            entries = entries_in(self.other, False)
+            entries = entries_in(self.other, False, is_old(self.other))
             link_tree(self.other, work, self.place_of_other)
         changes: Changes = {
-            name: self.manifest(bag, algorithm, name, entries)
-            for algorithm, name in manifests_of(bag, False)
+            basename(path): self.manifest(bag, algorithm, path, entries)
+            for algorithm, path in manifests_in(bag, False).items()
         }
         info = join(bag, "bag-info.txt")
         if lexists(info):
@@ -109,8 +80,8 @@ class Change:
         self,
         bag: str,
         algorithm: str,
-        name: str,
-        entries: Dict[str, Dict[str, str]],
+        path: str,
+        entries: Entries,
     ) -> bytes:
         """A payload manifest of the bag, as it is to be."""
 
@@ -127,8 +98,7 @@ class Change:
                 f"{shown(self.other or '')} lacks digests by {algorithm}: add"
                 " them by bagit-renew"
             )
-        content = content_of(join(bag, name))
-        return changed(content, is_old(bag), change, added)
+        return changed(content_of(path), is_old(bag), change, added)
 
 
 def change_of(words: List[str], to: Optional[str]) -> Change:
@@ -160,12 +130,10 @@ def change_of(words: List[str], to: Optional[str]) -> Change:
 
 def run(words: Sequence[str]) -> int:
     """Does what the command `repack` is asked for, and says its status."""
-    parser = Parser("bagit-keep repack", USAGE, ABOUT, END)
-    parser.option("--to", "add below this folder, not in data itself", "PATH")
-    asked = parser.read(words)
-    bag = folder_of((asked.operands or [""])[0])
+    asked = read("repack", words, 2, MANY)
+    bag = folder_of(asked.operands[0])
     change = change_of(asked.operands[1:], asked.to)
-    with refusing(bag):
+    with reading(bag):
         return replaced(
             bag,
             "repack",

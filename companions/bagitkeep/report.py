@@ -8,6 +8,7 @@ import sys
 import tempfile
 from collections import Counter
 from dataclasses import dataclass
+from functools import partial
 from itertools import chain, islice, tee
 from typing import (
     IO,
@@ -23,9 +24,9 @@ from typing import (
     Tuple,
 )
 
-from . import rounds
+from . import rounds, usage
 from .lines import (
-    WORDS,
+    FAULTS,
     Closing,
     Fault,
     Line,
@@ -33,35 +34,16 @@ from .lines import (
     Unchecked,
     line_of,
 )
-from .messages import Parser, Refused, explained, printable, say
+from .messages import Refused, explained, printable, say
 
 COLUMNS = (
     "bag code word path algorithm line detail ended faults cause part files"
-    " bytes"
+    " bytes clashes profile"
 ).split()
 MOST_IN_MEMORY = 1 << 22
 MOST_SHOWN = 200
 
 Record = Dict[str, Any]
-
-USAGE = """bagit-keep report [OPTIONS] [REPORT ..]
-       bagit-keep report [OPTIONS] --round ROUND"""
-ABOUT = """\
-Writes reports of bagit as data. A REPORT is a file of what bagit wrote to its
-standard output, also of several directories one after another; without any,
-or for a -, standard input is read. With --round they are those of a round of
-"bagit-keep round", and its bags without a result are named too."""
-END = """\
-Paths and details are decoded. A report is read to its end before anything is
-written. A line that bagit doesn't write, or a closing line that doesn't count
-the faults above it, is said on standard error, and nothing is written.
-
-Exit status, as bagit's own for these reports, the greatest:
-  0  no bag has a fault of those that were looked for
-  1  a bag has faults, or its report began or stopped in the middle
-  2  the arguments aren't understood, or a line isn't a report's
-  3  a report isn't finished, or says that a bag wasn't read or made; a bag of
-     the round has no result; or something can't be read or written"""
 
 
 def record_of(line: Line) -> Record:
@@ -77,8 +59,12 @@ def record_of(line: Line) -> Record:
         }
     if isinstance(line, Unchecked):
         return {"word": "unchecked", "detail": line.key}
-    part = line.part and f"{line.part} of {line.parts}"
-    fields = {**vars(line), "part": part, "detail": line.reason}
+    fields = {
+        **vars(line),
+        "part": line.part and f"{line.part} of {line.parts}",
+        "detail": line.reason,
+        "clashes": line.clashes or None,
+    }
     return {it: fields[it] for it in COLUMNS if fields.get(it) is not None}
 
 
@@ -140,12 +126,10 @@ class Reading:
     def read(self, name: str, bag: Optional[str] = None) -> None:
         """Reads a file of reports; the bag has this name, if one is given."""
         try:
-            if name == "-":
-                with open(0, "rb", closefd=False) as file:
-                    self.read_lines("standard input", file, bag)
-            else:
-                with open(name, "rb") as file:
-                    self.read_lines(name, file, bag)
+            is_file = name != "-"
+            with open(name if is_file else 0, "rb", closefd=is_file) as file:
+                where = name if is_file else "standard input"
+                self.read_lines(where, file, bag)
         except OSError as error:
             where = f"can't be read, or kept in {tempfile.gettempdir()}"
             self.fail(f"{name} {where}: {error.strerror}")
@@ -254,6 +238,8 @@ def cell(value: object) -> str:
     """The text of a cell. Where a spreadsheet would take it for a formula it
     gets a `'` in front; so does one that looks as if it had got that."""
     text = "" if value is None else str(value)
+    if value is True:
+        text = "true"
     return f"'{text}" if re.match(r"'*[=+\-@\t\r]", text) else text
 
 
@@ -268,16 +254,6 @@ def write_cells(reading: Reading, out: IO[str], dialect: str) -> None:
         writer.writerow(
             [printable(it) if is_terminal else it for it in cells]
         )
-
-
-def write_csv(reading: Reading, out: IO[str]) -> None:
-    """Values with commas between."""
-    write_cells(reading, out, "excel")
-
-
-def write_tsv(reading: Reading, out: IO[str]) -> None:
-    """Values with tabs between."""
-    write_cells(reading, out, "excel-tab")
 
 
 def first_folder(path: str) -> str:
@@ -336,18 +312,18 @@ def write_paths(reading: Reading, out: IO[str]) -> None:
             last = path
 
 
-FORMS: Dict[str, Tuple[Callable[[Reading, IO[str]], None], str]] = {
-    "json": (write_json, "an object for each line (the default)"),
-    "csv": (write_csv, "values with commas between, safe for spreadsheets"),
-    "tsv": (write_tsv, "the same with tabs between"),
-    "summary": (write_summary, "how many files have each fault, and where"),
+FORMS: Dict[str, Callable[[Reading, IO[str]], None]] = {
+    "json": write_json,
+    "csv": partial(write_cells, dialect="excel"),
+    "tsv": partial(write_cells, dialect="excel-tab"),
+    "summary": write_summary,
 }
 
 
 def codes_of(text: str) -> FrozenSet[int]:
     """The codes that are given with commas between."""
     words = text.split(",")
-    codes = frozenset(code for code in WORDS if str(code) in words)
+    codes = frozenset(code for code in FAULTS if str(code) in words)
     if len(codes) != len(words):
         raise argparse.ArgumentTypeError(
             f"not codes with commas between, each once: {text}"
@@ -356,23 +332,14 @@ def codes_of(text: str) -> FrozenSet[int]:
 
 
 def read_words(words: Sequence[str]) -> argparse.Namespace:
-    parser = Parser("bagit-keep report", USAGE, ABOUT, END)
-    for name, (_, says) in FORMS.items():
-        parser.option(f"--{name}", says, dest="form", const=name)
-    parser.option(
-        "--files",
-        "the paths of the faults of these codes, as 601,701, each ended by a"
-        " NUL byte",
-        "CODES",
-        type=codes_of,
-    )
-    parser.option("--round", "the reports of this round", "DIRECTORY")
-    read = parser.read(words)
-    if read.files and read.form:
-        raise Refused(f"--files doesn't go with --{read.form}")
-    if read.round is not None and (read.operands or read.files):
+    asked = usage.read("report", words, 0, usage.MANY, files=codes_of)
+    forms = [it for it in (*FORMS, "files") if getattr(asked, it)]
+    if len(forms) > 1:
+        raise Refused(f"--{forms[0]} doesn't go with --{forms[1]}")
+    if asked.round is not None and (asked.operands or asked.files):
         raise Refused("--round takes no report, and doesn't go with --files")
-    return read
+    asked.form = "".join(forms) or "json"
+    return asked
 
 
 def read_round(reading: Reading, folder: str) -> None:
@@ -388,7 +355,7 @@ def read_round(reading: Reading, folder: str) -> None:
 def run(words: Sequence[str]) -> int:
     """Does what the command `report` is asked for, and says its status."""
     asked = read_words(words)
-    write = write_paths if asked.files else FORMS[asked.form or "json"][0]
+    write = FORMS.get(asked.form, write_paths)
     if sys.stdout is None:
         raise Refused("standard output is closed", 3)
     try:

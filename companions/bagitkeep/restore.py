@@ -7,39 +7,17 @@ from contextlib import ExitStack, closing, suppress
 from os.path import dirname, isdir, join, lexists
 from typing import IO, Dict, Iterator, List, Sequence, Set, Tuple
 
-from .beside import (
-    Beside,
-    Faulty,
-    checked,
-    folder_of,
-    kept_of,
-    refusing,
-    show,
-    shown,
-    sync,
-)
+from .bagit import entries_in, reading
+from .beside import Beside, Faulty, checked, folder_of, kept_of, show
 from .errors import BagError
+from .files import opened, sync_folder, write_synced
 from .lines import encoded
-from .mending import entries_in
-from .messages import Parser, Refused, explained, say
+from .mending import is_old
+from .messages import Refused, explained, say, shown
 from .program import Asked
-from .rounds import write_synced
 from .runs import BagReport, alone, check
-from .trees import copied, dress, make_folders, opened
-
-USAGE = "bagit-keep restore [OPTIONS] DIRECTORY --from FILE .."
-ABOUT = """\
-Restores the files of a bag that are missing, damaged or unreadable. Each comes
-from the first copy whose file has every digest that the bag's manifests give
-(of a tag file, its tag manifests), is written beside the bag, compared by
-bagit, and given its name; what it replaces is kept beside the bag. The last
-full check is written; files that no copy has are named."""
-END = """\
-Exit status:
-  0  the bag is valid
-  1  the bag has faults still, which are written
-  2  the arguments aren't understood
-  3  something couldn't be read or written, or another process is at the bag"""
+from .trees import copied, dress, make_folders
+from .usage import read
 
 NO_ROOM = {errno.ENOSPC, errno.EDQUOT, errno.EFBIG, errno.EROFS}
 OLD = "BagIt-Version: 0.97\nTag-File-Character-Encoding: UTF-8\n"
@@ -103,7 +81,7 @@ def wanted_of(bag: str, report: BagReport, is_tag: bool) -> Dict[str, Sums]:
         paths.add(report.unread.path)
     if not paths:
         return {}
-    entries = entries_in(bag, is_tag)
+    entries = entries_in(bag, is_tag, is_old(bag))
     return {path: entries[path] for path in sorted(paths & set(entries))}
 
 
@@ -115,7 +93,7 @@ def gather(
     place.clear()
     place.note()
     os.makedirs(join(place.work, "data"))
-    write_synced(os.fsencode(join(place.work, "bagit.txt")), OLD.encode())
+    write_synced(join(place.work, "bagit.txt"), OLD.encode())
     found: Dict[str, Tuple[str, str]] = {}
     manifests: Dict[str, str] = {}
     for number, (path, sums) in enumerate(wanted.items()):
@@ -130,7 +108,7 @@ def gather(
                 break
     for algorithm, text in manifests.items():
         name = join(place.work, f"manifest-{algorithm}.txt")
-        write_synced(os.fsencode(name), text.encode())
+        write_synced(name, text.encode())
     if found:
         checked(place.work)
     return found
@@ -149,14 +127,14 @@ def put(new: str, bag: str, path: str, kept: str) -> None:
             os.link(target, old)
         except OSError:
             os.rename(target, old)
-        sync(dirname(old))
+        sync_folder(dirname(old))
         if os.access(old, os.R_OK):
             like = old
     make_folders(dirname(target), bag)
     dress(new, like)
     os.rename(new, target)
-    sync(dirname(target))
-    sync(dirname(new))
+    sync_folder(dirname(target))
+    sync_folder(dirname(new))
 
 
 def put_all(bag: str, found: Dict[str, Tuple[str, str]], kept: str) -> int:
@@ -201,23 +179,15 @@ def restored(bag: str, copies: List[Copy]) -> BagReport:
 
 def run(words: Sequence[str]) -> int:
     """Does what the command `restore` is asked for, and says its status."""
-    parser = Parser("bagit-keep restore", USAGE, ABOUT, END)
-    parser.group.add_argument(
-        "--from",
-        action="append",
-        default=[],
-        metavar="FILE",
-        help="a copy of the bag, a folder or a .tar; as often as wanted",
-    )
-    asked = parser.read(words)
+    asked = read("restore", words)
     names = getattr(asked, "from")
-    if len(asked.operands) != 1 or not names:
+    if not names:
         raise Refused("it takes a bag, and --from with a copy of it")
     bag = folder_of(asked.operands[0])
     for name in names:
         if os.path.realpath(name) == bag:
             raise Refused(f"{shown(name)} is the bag itself")
-    with refusing(bag), ExitStack() as stack:
+    with reading(bag), ExitStack() as stack:
         Beside(bag, "restore").left()
         try:
             copies = [stack.enter_context(closing(Copy(it))) for it in names]

@@ -18,66 +18,24 @@ How a bag is, its faults and its status are read from its report, never from
 a record. A record has the SHA-256 of the report, without which the report
 counts for nothing.
 """
-import errno
 import hashlib
 import json
 import os
 import re
-import shutil
-from contextlib import contextmanager, suppress
+from contextlib import suppress
 from dataclasses import asdict, dataclass, fields
 from os.path import join
 from typing import IO, Dict, Iterator, List, Optional, Set, Tuple
 
+from .files import (
+    naming, read_bytes, sha256_of, sync_folder, text_of, whole, write_synced,
+)
 from .lines import VERDICTS, Report, encoded, report_of
 from .messages import Refused
 from .program import Asked, Ended, Verdict, named, verdict_of
 
 FORMAT = 2
-NO_LOCKS = (errno.ENOSYS, errno.ENOLCK, errno.EOPNOTSUPP, errno.EINVAL)
-"""The errors of a file system that has no locks."""
-
 ALTERED = "its record or report was altered: remove it"
-
-
-def text_of(path: bytes) -> str:
-    """A path in JSON: a byte that isn't UTF-8 is one of U+DC80 to U+DCFF."""
-    return path.decode("utf-8", "surrogateescape")
-
-
-@contextmanager
-def naming(path: bytes) -> Iterator[None]:
-    """Has an error say which file it is of."""
-    try:
-        yield
-    except OSError as error:
-        file = error.filename or path
-        raise OSError(error.errno, error.strerror, file) from error
-
-
-def read_bytes(path: bytes) -> bytes:
-    with naming(path), open(path, "rb") as file:
-        return file.read()
-
-
-def write_synced(path: bytes, content: bytes) -> None:
-    with naming(path), open(path, "xb") as file:
-        file.write(content)
-        file.flush()
-        os.fsync(file)
-
-
-def sync_folder(path: bytes) -> None:
-    """Syncs a folder's names, where its file system can."""
-    folder = os.open(path, os.O_RDONLY | os.O_DIRECTORY)
-    try:
-        with naming(path):
-            os.fsync(folder)
-    except OSError as error:
-        if error.errno not in (errno.EINVAL, errno.ENOTSUP):
-            raise
-    finally:
-        os.close(folder)
 
 
 @dataclass(frozen=True)
@@ -174,50 +132,45 @@ class Round:
     def row(self, number: int) -> Row:
         """How the bag of a number is."""
         path, bag = self.report_path(number), self.directories[number - 1]
+        records = self.records.get(number, [])
         try:
             digest, report = read_report(path)
         except FileNotFoundError:
-            return self.unfinished(number)
+            return self.unfinished(number, bag, records)
         closing = report.closing
-        ended = Ended(closing.status if closing is not None else None)
-        verdict = self.judge(ended, report, bag)
-        for record in self.records.get(number, []):
-            is_of_it = (record.report_sha256, record.bag) == (
-                digest,
-                text_of(bag),
-            )
+        status = None if closing is None else closing.status
+        verdict = self.judge(status, report, bag)
+        for it in records:
+            is_of_it = (it.report_sha256, it.bag) == (digest, text_of(bag))
             if is_of_it and verdict.status != 3:
                 return Row(
                     verdict.status, verdict.result, bag, verdict.faults, path,
-                    record,
+                    it,
                 )
         return Row(3, f"{ALTERED} ({encoded(path)})", bag, is_altered=True)
 
-    def judge(self, ended: Ended, report: Report, bag: bytes) -> Verdict:
-        return verdict_of(ended, report, named(bag)[0], self.asked.depth)
+    def judge(
+        self, status: Optional[int], report: Report, bag: bytes
+    ) -> Verdict:
+        return verdict_of(Ended(status), report, named(bag)[0], self.asked)
 
-    def unfinished(self, number: int) -> Row:
+    def unfinished(
+        self, number: int, bag: bytes, records: List[Record]
+    ) -> Row:
         """The row of a bag without a result."""
-        bag, records = self.directories[number - 1], self.records.get(number)
         if not records:
             is_begun = self.name_of(number) in self.tried
             return Row(3, "begun, not ended" if is_begun else "not begun", bag)
         last = max(records, key=lambda record: record.at)
-        if last.report is not None:
-            path = join(self.folder, os.fsencode(last.report))
-            with suppress(OSError):
-                digest, report = read_report(path)
-                unread = self.judge(Ended(3), report, bag)
-                if digest == last.report_sha256:
-                    is_whole = report.closing is not None and not last.why
-                    return Row(
-                        3,
-                        unread.result if is_whole else last.why or ALTERED,
-                        bag,
-                        report.faults,
-                        path if is_whole else None,
-                        last,
-                    )
+        path = join(self.folder, os.fsencode(last.report or "."))
+        with suppress(OSError):
+            digest, report = read_report(path)
+            if digest == last.report_sha256:
+                why, count = last.why, report.faults
+                if report.closing is None or why:
+                    return Row(3, why or ALTERED, bag, count, record=last)
+                unread = self.judge(3, report, bag)
+                return Row(3, unread.result, bag, count, path, last)
         return Row(3, last.why or "not ended", bag, record=last)
 
     def rows(self) -> List[Row]:
@@ -288,10 +241,6 @@ def load(folder: bytes) -> Round:
     return Round(folder, directories, asked, found, records, tried)
 
 
-def sha256_of(path: bytes) -> str:
-    return hashlib.sha256(read_bytes(path)).hexdigest()
-
-
 def options_of(
     asked: Asked, directories: List[bytes], profile: Optional[bytes]
 ) -> Dict[str, object]:
@@ -327,33 +276,17 @@ def begin(
             f"{encoded(folder)} is there, and is no round: a round makes a"
             " folder of its own"
         )
-    draft = join(folder, b"list." + os.urandom(8).hex().encode())
     listed = b"".join(name + b"\0" for name in directories)
     options = json.dumps(options_of(asked, directories, profile)).encode()
     try:
-        os.mkdir(draft)
-        write_synced(join(draft, b"directories"), listed)
-        write_synced(join(draft, b"options.json"), options + b"\n")
-        if profile is not None:
-            write_synced(join(draft, b"profile.json"), profile)
-        sync_folder(draft)
-        publish_list(draft, join(folder, b"list"))
-        sync_folder(folder)
+        with whole(join(folder, b"list")) as draft:
+            write_synced(join(draft, b"directories"), listed)
+            write_synced(join(draft, b"options.json"), options + b"\n")
+            if profile is not None:
+                write_synced(join(draft, b"profile.json"), profile)
         sync_folder(os.path.dirname(folder))
     except OSError:
-        shutil.rmtree(draft, ignore_errors=True)
         with suppress(OSError):
             if made:
                 os.rmdir(folder)
         raise
-
-
-def publish_list(draft: bytes, name: bytes) -> None:
-    """Gives the list its name; of several processes the first one's stands,
-    as a folder isn't renamed onto one that isn't empty."""
-    try:
-        os.rename(draft, name)
-    except OSError:
-        if not os.path.isdir(name):
-            raise
-        shutil.rmtree(draft, ignore_errors=True)

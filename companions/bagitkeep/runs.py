@@ -1,19 +1,18 @@
 """Runs of `bagit` and `bagit-renew` for one bag, with what they answer."""
 import fcntl
 import os
-import socket
 import tempfile
 from concurrent.futures import ThreadPoolExecutor, wait
-from contextlib import contextmanager, nullcontext
+from contextlib import contextmanager
 from dataclasses import dataclass, field
 from typing import IO, Callable, Iterator, List, Optional, Sequence
 
 from .errors import BagError, BagNotChecked, Unread
+from .files import EXCLUSIVE, has_lock, locked
 from .lines import Fault, Unchecked, encoded, line_of
 from .messages import printable
-from .program import Asked, Ended, Program, Verdict, find, first_line, named
+from .program import Asked, Ended, Program, Verdict, find, named
 from .progress import bytes_of, read_by
-from .rounds import NO_LOCKS, read_bytes, write_synced
 
 MOST_SHOWN = 1 << 16
 SECONDS = 1.0
@@ -155,46 +154,10 @@ def alone(path: str, bag: Optional[str] = None) -> Iterator[int]:
     folder = os.open(path, os.O_RDONLY | os.O_DIRECTORY)
     claim = os.path.realpath(bag or path) + ".locked"
     try:
-        with nullcontext() if locked(folder) else claimed(claim):
+        is_locked = has_lock(fcntl.flock, folder, EXCLUSIVE)
+        with locked(is_locked, claim, "another process is writing this bag"):
             if not os.path.samestat(os.fstat(folder), os.stat(path)):
                 raise BagError("another process has replaced this bag")
             yield folder
     finally:
         os.close(folder)
-
-
-def locked(folder: int) -> bool:
-    """Locks an open folder, or raises a BagError where another has; False
-    where the system has no locks."""
-    try:
-        fcntl.flock(folder, fcntl.LOCK_EX | fcntl.LOCK_NB)
-    except BlockingIOError as error:
-        raise BagError("another process is writing this bag") from error
-    except OSError as error:
-        if error.errno not in NO_LOCKS:
-            raise
-        return False
-    return True
-
-
-@contextmanager
-def claimed(path: str) -> Iterator[None]:
-    """Makes a file that names host and process, unless this process has made
-    it. Nobody can say whether one on another host is at work."""
-    who = f"{socket.gethostname()} {os.getpid()}\n".encode()
-    name = os.fsencode(path)
-    try:
-        write_synced(name, who)
-    except FileExistsError as error:
-        found = read_bytes(name)
-        if found != who:
-            raise BagError(
-                f"another process is writing this bag, by {encoded(name)}:"
-                f" {first_line(found)}. If it isn't, remove that file"
-            ) from error
-        yield
-        return
-    try:
-        yield
-    finally:
-        os.unlink(name)

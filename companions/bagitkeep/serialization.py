@@ -1,15 +1,15 @@
-"""What a BagIt profile says of archive files. bagit checks folders, so this
-is compared here, and all else of the profile by bagit."""
+"""What a BagIt profile says of archive files. A bag that came in one is
+checked in a folder, so this is compared here, and all else by bagit."""
 import json
 import os
 import re
 from contextlib import suppress
 from typing import Any, Dict, Optional
 
+from .files import write_synced
 from .members import Unfit
 from .places import Work
 from .program import Asked
-from .rounds import write_synced
 
 ACCEPTED = {
     "zip": "zip zip-compressed",
@@ -28,9 +28,8 @@ def why_not_so(profile: Dict[str, Any], form: str) -> Optional[str]:
     if profile.get("Serialization") == "forbidden":
         return "the profile allows no archive file"
     if isinstance(types, list):
-        names = {
-            re.sub("^application/(x-)?", "", str(it).lower()) for it in types
-        }
+        begin = re.compile("^application/(x-)?")
+        names = {begin.sub("", str(it).lower()) for it in types}
         if not names & set(ACCEPTED[form].split()):
             accepts = ", ".join(map(str, types))
             return f"the profile accepts {accepts}, and this is a .{form}"
@@ -51,5 +50,5 @@ def asked_by(profile: Optional[bytes], form: str, work: Work) -> Asked:
     path = work.at("profile.json")
     with suppress(FileNotFoundError):
         os.unlink(path)
-    write_synced(os.fsencode(path), json.dumps(rules).encode())
+    write_synced(path, json.dumps(rules).encode())
     return Asked(profile=path)

@@ -3,12 +3,14 @@ import csv
 import io
 import json
 from dataclasses import dataclass
-from typing import Any, Callable, Dict, List, Optional, Set, Tuple
+from typing import Any, Dict, List, Optional, Set, Tuple
 
-from .lines import Fault, NotALine, encoded, line_of
+from .files import text_of
+from .lines import Fault, encoded, faults_in
 from .messages import Refused
-from .rounds import Round, Row, text_of
+from .rounds import Round, Row
 
+FORMATS = "tsv", "csv", "json"
 COLUMNS = (
     "status result faults bag begun ended depth version bagit_sha256 files"
     " bytes seal"
@@ -28,19 +30,12 @@ class Change:
     before: Optional[Row] = None
 
 
-def faults_of(row: Row) -> Set[bytes]:
-    """The lines of the faults of a report."""
-    found = set()
-    if row.report is not None:
-        with open(row.report, "rb") as report:
-            for text in report:
-                try:
-                    line = line_of(text)
-                except NotALine:
-                    continue
-                if isinstance(line, Fault):
-                    found.add(text)
-    return found
+def faults_of(row: Row) -> Set[Fault]:
+    """The faults of a report."""
+    if row.report is None:
+        return set()
+    with open(row.report, "rb") as report:
+        return set(faults_in(report))
 
 
 def pinned(row: Row) -> Tuple[object, ...]:
@@ -58,29 +53,23 @@ def change_of(row: Row, old: Row) -> str:
     """
     if row.status == 0 and old.status != 3 and pinned(row) != pinned(old):
         return "altered"
-    if row.status != old.status or row.status != 1:
-        if row.status == old.status:
-            return "same"
+    if row.status != old.status:
         return "worse" if row.status > old.status else "better"
-    if faults_of(row) - faults_of(old):
+    if row.status == 1 and faults_of(row) - faults_of(old):
         return "worse"
-    return "better" if (row.faults or 0) < (old.faults or 0) else "same"
+    is_less = row.status == 1 and (row.faults or 0) < (old.faults or 0)
+    return "better" if is_less else "same"
 
 
-def refuse_other(now: Round, old: Round) -> None:
-    """Rounds that didn't look at the same can't be compared."""
+def changes_since(now: Round, old: Round) -> List[Change]:
+    """The rows of a round, and one for each bag that only the earlier one
+    has. Rounds that didn't look at the same can't be compared."""
     for option in "depth", "clashes", "profile":
         if now.options[option] != old.options[option]:
             raise Refused(
                 f"{encoded(old.folder)} is a round of another {option}, and"
                 " can't be compared"
             )
-
-
-def changes_since(now: Round, old: Round) -> List[Change]:
-    """The rows of a round, and one for each bag that only the earlier one
-    has."""
-    refuse_other(now, old)
     before = {row.bag: row for row in old.rows()}
     changes = []
     for row in now.rows():
@@ -94,14 +83,16 @@ def changes_since(now: Round, old: Round) -> List[Change]:
 
 def cells_of(change: Change, depth: object) -> Cells:
     """The values of a row, by columns."""
-    row, record, before = change.row, change.row.record, change.before
-    cells: Cells = dict.fromkeys(COLUMNS)
-    cells.update(status=row.status, result=row.result, faults=row.faults)
-    cells.update(bag=row.bag, depth=None if change.change == "gone" else depth)
-    if record is not None:
-        for name in "begun", "ended", "version", "bagit_sha256":
-            cells[name] = getattr(record, name)
-        cells.update(files=record.files, bytes=record.size, seal=record.seal)
+    row, before = change.row, change.before
+    cells: Cells = {
+        **dict.fromkeys(COLUMNS),
+        **{it: vars(row)[it] for it in ("status", "result", "faults", "bag")},
+        "depth": None if change.change == "gone" else depth,
+    }
+    if row.record is not None:
+        known = {**vars(row.record), "bytes": row.record.size}
+        names = "begun ended version bagit_sha256 files bytes seal".split()
+        cells.update({name: known[name] for name in names})
     if change.change:
         cells["change"] = change.change
         cells["before_status"] = before and before.status
@@ -109,43 +100,26 @@ def cells_of(change: Change, depth: object) -> Cells:
     return cells
 
 
-def tsv(columns: List[str], rows: List[Cells]) -> str:
-    """Values with tabs between, the bag's path as in reports."""
-
-    def field(value: object) -> str:
-        if isinstance(value, bytes):
-            return encoded(value)
-        return "-" if value is None else str(value)
-
-    lines = [columns, *([field(row[it]) for it in columns] for row in rows)]
-    return "".join("\t".join(line) + "\n" for line in lines)
+def tsv_field(value: object) -> str:
+    """A value between tabs: a path as in reports."""
+    if isinstance(value, bytes):
+        return encoded(value)
+    return "-" if value is None else str(value)
 
 
-def as_text(row: Cells) -> Cells:
-    return {**row, "bag": text_of(row["bag"])}
-
-
-def csv_text(columns: List[str], rows: List[Cells]) -> str:
-    """Values with commas between. No path or result begins as a formula."""
-    text = io.StringIO()
-    writer = csv.writer(text)
-    writer.writerow(columns)
-    for row in map(as_text, rows):
-        writer.writerow([row[it] for it in columns])
-    return text.getvalue()
-
-
-def json_text(columns: List[str], rows: List[Cells]) -> str:
-    """A list with an object for each row."""
-    texts = [json.dumps(as_text(row)) for row in rows]
-    return "[\n" + ",\n".join(texts) + "\n]\n"
-
-
-FORMATS: Dict[str, Callable[[List[str], List[Cells]], str]] = {
-    "tsv": tsv,
-    "csv": csv_text,
-    "json": json_text,
-}
+def written(rows: List[Cells], columns: List[str], form: str) -> str:
+    """Rows in one of FORMATS. No path or result begins as a formula."""
+    if form == "tsv":
+        lines = [columns, *(map(tsv_field, row.values()) for row in rows)]
+        return "".join("\t".join(line) + "\n" for line in lines)
+    texts = [{**row, "bag": text_of(row["bag"])} for row in rows]
+    if form == "json":
+        return "[\n" + ",\n".join(map(json.dumps, texts)) + "\n]\n"
+    out = io.StringIO()
+    writer = csv.DictWriter(out, columns)
+    writer.writeheader()
+    writer.writerows(texts)
+    return out.getvalue()
 
 
 def table_of(
@@ -162,4 +136,4 @@ def table_of(
     rows = [cells_of(it, a_round.asked.depth) for it in changes]
     status = max(it.row.status for it in changes)
     is_altered = any(it.change == "altered" for it in changes)
-    return FORMATS[form](columns, rows), max(status, int(is_altered))
+    return written(rows, columns, form), max(status, int(is_altered))

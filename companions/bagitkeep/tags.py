@@ -1,7 +1,7 @@
 """Tag files, read to be shown (RFC 8493, 2.1.1, 2.1.3, 2.2.1 and 2.2.2).
 
 No verdict rests on what is read here. They are read by the rules of
-docs/FAULTS.md and docs/DECISIONS.md; a line in which `bagit` finds a fault is
+docs/FAULTS.md and docs/STANDARD.md; a line in which `bagit` finds a fault is
 passed over. `is_old` says that the bag is of version 0.97. Of bytes that
 aren't UTF-8 each function raises a ValueError.
 """
@@ -65,17 +65,26 @@ def element_of(line: str, is_old: bool) -> Optional[Element]:
     return bare, value.strip(BLANKS)
 
 
-def entries_of(
+def given_by(
     content: bytes, algorithm: str, is_tag: bool, is_old: bool = False
-) -> Dict[str, str]:
-    """The digests that a manifest gives, in lower case, by their paths."""
-    entries: Dict[str, str] = {}
+) -> Iterator[Tuple[str, str]]:
+    """The paths of a manifest's lines, with the digests, in lower case."""
     for line in lines_of(content):
         found = ENTRY.fullmatch(line)
         if found and len(found[1]) == HEX_DIGITS[algorithm]:
             path = path_of(found[2].removeprefix("*"), is_old)
             if path is not None and may_name(is_tag, path):
-                entries.setdefault(path, found[1].lower())
+                yield path, found[1].lower()
+
+
+def entries_of(
+    content: bytes, algorithm: str, is_tag: bool, is_old: bool = False
+) -> Dict[str, str]:
+    """The digests that a manifest gives, by their paths; of a path that comes
+    again, the first."""
+    entries: Dict[str, str] = {}
+    for path, digest in given_by(content, algorithm, is_tag, is_old):
+        entries.setdefault(path, digest)
     return entries
 
 

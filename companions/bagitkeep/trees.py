@@ -7,23 +7,11 @@ from os.path import dirname, isdir, join
 from typing import IO, Callable, Dict, Iterable, Optional
 
 from .errors import BagError
-from .lines import encoded
-from .rounds import sync_folder
-
-PIECE = 1 << 20
+from .files import PIECE, opened, settle, sync_folder
+from .messages import shown
 
 PlaceOf = Callable[[str], Optional[str]]
 """Says which path a path is to have; None if it is left out."""
-
-
-def opened(path: str) -> IO[bytes]:
-    """Opens a file to read. A pipe isn't waited for, nor a link followed."""
-    flags = os.O_RDONLY | os.O_NOFOLLOW | os.O_NONBLOCK
-    file = open(os.open(path, flags), "rb")
-    if not stat.S_ISREG(os.fstat(file.fileno()).st_mode):
-        file.close()
-        raise OSError(0, "it isn't a file", path)
-    return file
 
 
 def copied(
@@ -38,8 +26,7 @@ def copied(
             for digest in sums.values():
                 digest.update(piece)
         file.flush()
-        os.fsync(file)
-        os.posix_fadvise(file.fileno(), 0, 0, os.POSIX_FADV_DONTNEED)
+        settle(file.fileno())
     return {name: digest.hexdigest() for name, digest in sums.items()}
 
 
@@ -60,13 +47,11 @@ def dress(path: str, like: str) -> None:
 def link(path: str, to: str) -> None:
     """Gives a file another name, or copies it where that can't be done."""
     if not stat.S_ISREG(os.stat(path, follow_symlinks=False).st_mode):
-        name = encoded(os.fsencode(path))
-        raise BagError(f"{name} is neither a file nor a folder")
+        raise BagError(f"{shown(path)} is neither a file nor a folder")
     try:
         os.link(path, to, follow_symlinks=False)
     except FileExistsError as error:
-        name = encoded(os.fsencode(to))
-        raise BagError(f"{name} is there twice") from error
+        raise BagError(f"{shown(to)} is there twice") from error
     except OSError:
         with opened(path) as stream:
             copied(stream, to)
@@ -81,7 +66,7 @@ def make_folders(folder: str, like: str) -> None:
         make_folders(dirname(folder), like)
         os.mkdir(folder)
         dress(folder, like)
-        sync_folder(os.fsencode(dirname(folder)))
+        sync_folder(dirname(folder))
 
 
 def link_tree(source: str, to: str, place_of: PlaceOf) -> None:
@@ -107,4 +92,4 @@ def link_tree(source: str, to: str, place_of: PlaceOf) -> None:
     for old, new in reversed(made):
         shutil.copystat(old, new)
         dress(new, old)
-        sync_folder(os.fsencode(new))
+        sync_folder(new)

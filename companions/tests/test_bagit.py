@@ -188,6 +188,15 @@ class Shown(Bags):
         entries = [("http://h/a", "-", "data/a b")]
         self.assertEqual(list(bag.fetch_entries()), entries)
         self.assertEqual(list(bag.files_to_be_fetched()), ["data/a b"])
+        self.assertEqual(bag.compare_fetch_with_fs(), ["data/a b"])
+        self.put("data/a b", "")
+        self.assertEqual(bag.compare_fetch_with_fs(), [])
+
+    def test_tag_files_that_are_missing(self) -> None:
+        lines = f"{NOTHING}  bagit.txt\n{NOTHING}  notes.txt\n"
+        self.put("tagmanifest-md5.txt", lines)
+        bag = bagit.Bag(self.bag)
+        self.assertEqual(list(bag.missing_optional_tagfiles()), ["notes.txt"])
 
 
 class Checked(Bags):

@@ -16,7 +16,8 @@ from bagitkeep.mending import Entry, changed, line_of, mended
 from bagitkeep.messages import Refused
 from bagitkeep.repack import OXUM, change_of, is_at
 from bagitkeep.restore import Copy
-from bagitkeep.trees import copied, dress, link_tree, opened
+from bagitkeep.files import opened
+from bagitkeep.trees import copied, dress, link_tree
 
 A = "0cc175b9c0f1b6a831c399e269772661"
 """The MD5 of `a` (RFC 1321, A.5)."""

@@ -1,19 +1,21 @@
 """What is asked of a deposit, of its receipt and of hosts, and the names that
 nothing else gets."""
 import argparse
+import io
 import json
 import os
 import tempfile
 import unittest
+from contextlib import ExitStack
 from pathlib import Path
 from typing import Any, Dict, List, Optional, Tuple
 
 from bagitkeep.fetch import host_of, refuse_hosts
-from bagitkeep.lines import WORDS
 from bagitkeep.members import Content, Member, Unfit
 from bagitkeep.messages import Refused
-from bagitkeep.places import place, place_by_look, work_at, work_path
-from bagitkeep.meanings import meanings
+from bagitkeep.errors import BagError
+from bagitkeep.files import name_by_look, place
+from bagitkeep.places import place_text, work_at, work_path
 from bagitkeep.receipts import page_of, refused_by_windows, text_of
 from bagitkeep.receive import Case, arrange, digest_of, read_words
 from bagitkeep.serialization import why_not_so
@@ -22,9 +24,9 @@ from bagitkeep.serialization import why_not_so
 def arranged(*paths: str, name: Optional[str] = None) -> Tuple[str, str]:
     asked = argparse.Namespace(name=name)
     with tempfile.TemporaryFile() as file:
-        case = Case(asked, "/x", "/s", None, "1", "", file)
+        case = Case(asked, "/x", "/s", None, ExitStack(), "1", "", file)
         members = [Member(it.rstrip("/"), it.endswith("/")) for it in paths]
-        return arrange(case, Content(members, lambda _: iter(())))
+        return arrange(case, Content(members, lambda _: io.BytesIO()))
 
 
 class Folders(unittest.TestCase):
@@ -116,12 +118,6 @@ class Receipts(unittest.TestCase):
         paths: List[str] = ["a b", "c", "d", "e"]
         self.assertEqual(text_of(("x", paths)), "x: 4 (a%20b, c, d, ..)")
 
-    def test_each_code_is_explained(self) -> None:
-        found = meanings()
-        if found:  # the page isn't beside each copy of the package
-            self.assertEqual(set(found), set(WORDS))
-            self.assertTrue(all(all(it) for it in found.values()))
-
     def test_a_page_obeys_no_name(self) -> None:
         odd = "<b>\x1b"
         receipt: Dict[str, Any] = {
@@ -148,7 +144,7 @@ class Places(unittest.TestCase):
         self.folder = Path(folder.name)
 
     def test_nothing_is_replaced(self) -> None:
-        for gives in place, place_by_look:
+        for gives in place, name_by_look:
             for kind in Path.mkdir, Path.touch:
                 old, new = self.folder / "old", self.folder / "new"
                 kind(old)
@@ -161,6 +157,15 @@ class Places(unittest.TestCase):
                 for path in old, new:
                     path.rmdir() if path.is_dir() else path.unlink()
 
+    def test_a_text_is_written_once(self) -> None:
+        path = str(self.folder / "text")
+        for _ in range(2):
+            place_text(b"x", path)
+            self.assertEqual(os.listdir(self.folder), ["text"])
+        with self.assertRaisesRegex(Refused, "with other bytes"):
+            place_text(b"y", path)
+        self.assertEqual(Path(path).read_bytes(), b"x")
+
     def test_one_works_at_a_time(self) -> None:
         path = work_path(str(self.folder), "sending", "a")
         self.assertEqual(path, work_path(str(self.folder), "sending", "a"))
@@ -171,7 +176,7 @@ class Places(unittest.TestCase):
             self.assertEqual(os.listdir(path), ["left"])
             work.clear()
             self.assertEqual(os.listdir(path), [])
-            with self.assertRaisesRegex(Refused, "another process"):
+            with self.assertRaisesRegex(BagError, "another process"):
                 with work_at(path):
                     pass
             Path(work.at("new")).touch()

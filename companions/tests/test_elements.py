@@ -79,7 +79,7 @@ class Words(unittest.TestCase):
                 words_of(old, new)
 
     def test_what_bagit_renew_refuses(self) -> None:
-        # The rows of docs/RENEWING.md, "bad value"
+        # The rows of docs/UPDATING.md, "bad value"
         labels = "", "a:b", "a=b", "a ", " a", "\ta", "a\nb", "a\rb", "a\0"
         for label in *labels, "\ufeffa", "Payload-Oxum", "PAYLOAD-oxum":
             self.assertIsNotNone(why_not(label, "x"), label)

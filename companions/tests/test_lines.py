@@ -6,7 +6,7 @@ import unittest
 from pathlib import Path
 
 from bagitkeep.lines import (
-    WORDS,
+    FAULTS,
     Closing,
     Fault,
     NotALine,
@@ -20,6 +20,8 @@ from bagitkeep.lines import (
 ROOT = Path(__file__).parents[2]
 sys.path.append(str(ROOT / "tests"))
 import report as cases  # noqa: E402
+
+HEX = "0123456789abcdef" * 4
 
 CLOSINGS = {
     "a is valid": Closing("a", "is valid"),
@@ -36,6 +38,14 @@ CLOSINGS = {
     ),
     "d part 2 of 8 done, files: 9, bytes: 10, faults: 0": Closing(
         "d", "done", 0, part=2, parts=8, files=9, bytes=10
+    ),
+    f"d part 1 of 8 done, files: 9, bytes: 10, clashes, profile: {HEX}"
+    ", faults: 0": Closing(
+        "d", "done", 0, part=1, parts=8, files=9, bytes=10, clashes=True,
+        profile=HEX,
+    ),
+    "d part 1 of 8 done, files: 9, bytes: 10, clashes, faults: 0": Closing(
+        "d", "done", 0, part=1, parts=8, files=9, bytes=10, clashes=True
     ),
     "d part 65536 of 65536 rest done, files: 0, bytes: 0, faults: 7": Closing(
         "d", "rest done", 7, part=65536, parts=65536, files=0, bytes=0
@@ -73,6 +83,9 @@ d unread data/x broken, faults: 0
 d unread data/x device
 d part 0 of 8 done, files: 9, bytes: 10, faults: 0
 d part 9 of 8 done, files: 9, bytes: 10, faults: 0
+d part 1 of 8 done, files: 9, bytes: 10, clashes, clashes, faults: 0
+d part 1 of 8 done, files: 9, bytes: 10, profile: abc, faults: 0
+d part 1 of 8 done, files: 9, clashes, bytes: 10, faults: 0
 d part 1 of 65537 done, files: 9, bytes: 10, faults: 0
 d not made: step 0 device
 d not made: no reason
@@ -108,8 +121,9 @@ class Lines(unittest.TestCase):
 
     def test_words_are_those_of_the_page(self) -> None:
         page = (ROOT / "docs" / "FAULTS.md").read_text("utf-8")
-        found = re.findall(r"^\| ([1-8]\d\d) \| `([a-z0-9-]+)` ", page, re.M)
-        self.assertEqual(WORDS, {int(code): word for code, word in found})
+        found = re.findall(r"^\| *([1-8]\d\d) *\| *`([a-z0-9-]+)`", page, re.M)
+        words = {code: row[0] for code, row in FAULTS.items()}
+        self.assertEqual(words, {int(code): word for code, word in found})
 
     def test_lines_of_case_files(self) -> None:
         lines = lines_of_cases()

@@ -6,7 +6,8 @@ from importlib.util import find_spec
 from pathlib import Path
 from unittest import mock
 
-from bagitkeep import meanings, page
+from bagitkeep import page
+from bagitkeep.lines import FAULTS
 from bagitkeep.messages import Refused
 from bagitkeep.program import Asked
 from bagitkeep.rounds import Record, Row
@@ -26,25 +27,15 @@ class Views(unittest.TestCase):
             "701 payload-sum-differs data/a/z sha256 - x:y",
             "101 no-declaration bagit.txt - - -",
         ]
-        found = page.by_folder(lines, {701: ("means", "do")})
+        found = page.by_folder(lines)
         self.assertEqual(
             ["data/a", "data/b", "the bag"], [it[0] for it in found]
         )
-        view = found[0][1][0]
-        self.assertEqual(
-            ("z", 701, "sha256", "means", "do"),
-            (view.file, view.code, view.algorithm, view.means, view.todo),
-        )
-        self.assertEqual("", found[2][1][0].means)
-
-    def test_each_code_has_its_meaning(self) -> None:
-        if not (Path(page.__file__).parents[2] / "docs").is_dir():
-            self.skipTest("the pages aren't here")
-        means = meanings.meanings()
-        self.assertLess(40, len(means))
-        for code in 101, 701, 813:
-            self.assertTrue(means[code][0] and means[code][1])
-            self.assertNotIn("`", means[code][0] + means[code][1])
+        _, means, todo = FAULTS[701]
+        says = "701 payload-sum-differs sha256"
+        view = {"file": "z", "says": says, "means": means, "todo": todo}
+        self.assertEqual([view], found[0][1])
+        self.assertEqual("101 no-declaration", found[2][1][0]["says"])
 
     def test_only_a_full_check_is_certified(self) -> None:
         for depth, wanted in (("full", True), ("fast", False)):
@@ -73,9 +64,6 @@ class Views(unittest.TestCase):
         ):
             self.assertEqual(wanted, page.said_of_event(data))
 
-    def test_marks_go(self) -> None:
-        self.assertEqual("a b c d|e", meanings.plain("[a](x) `b` **c** d\\|e"))
-
     def test_ages(self) -> None:
         today = page.now()
         bags = [{"read": it} for it in (today, None, "2000-01-01T00:00:00Z")]
@@ -94,9 +82,8 @@ class Written(unittest.TestCase):
         self.room = Path(room.name)
         bag = page.BagView(HOSTILE, HOSTILE, [HOSTILE])
         bag.events = [{"at": HOSTILE, "kind": HOSTILE, "says": HOSTILE}]
-        bag.faults = page.by_folder([LINE], {701: (HOSTILE, HOSTILE)})
+        bag.faults = page.by_folder([LINE])
         self.site = page.Site(HOSTILE, [bag])
-        page.name_pages(self.site)
         names = "what bag says todo since page".split()
         self.site.news = [dict.fromkeys(names, HOSTILE)]
 

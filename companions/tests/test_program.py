@@ -92,7 +92,7 @@ class Judged(unittest.TestCase):
         for closing, wanted in closings.items():
             report = Report(closing and closing.faults or 0, closing)
             for status in (*range(-20, 256), None):
-                verdict = verdict_of(Ended(status), report, "d", "full")
+                verdict = verdict_of(Ended(status), report, "d", Asked())
                 is_answer = status == wanted and wanted is not None
                 self.assertEqual(
                     verdict.status, wanted if is_answer else 3, verdict
@@ -110,7 +110,7 @@ class Judged(unittest.TestCase):
         for depth in ends:
             for other, end in ends.items():
                 report = Report(0, Closing("d", end))
-                verdict = verdict_of(Ended(0), report, "d", depth)
+                verdict = verdict_of(Ended(0), report, "d", Asked(depth))
                 self.assertEqual(verdict.status == 0, depth == other)
 
 
@@ -177,6 +177,17 @@ class Runs(unittest.TestCase):
         verdict = self.check("sleep 60; echo d is valid", 0.2)
         result = "bagit was killed after 0.2 seconds"
         self.assertEqual(verdict, Verdict(3, result, 0))
+
+    def test_time_out_of_what_has_ended_and_left_another(self) -> None:
+        pid = self.folder / "pid"
+        verdict = self.check(f"sleep 60 & echo $! >{pid}; echo d is valid", 1)
+        result = "bagit was killed after 1 seconds"
+        self.assertEqual(verdict, Verdict(3, result, 0))
+        process = Path("/proc") / pid.read_text().strip() / "stat"
+        until = time.monotonic() + 20
+        while process.exists() and " Z " not in process.read_text():
+            self.assertLess(time.monotonic(), until, "it goes on")
+            time.sleep(0.01)
 
     def test_stop(self) -> None:
         program = self.program("sleep 60; echo d is valid")

@@ -9,8 +9,7 @@ from typing import Any, Dict, List
 
 from bagitkeep import received, register
 from bagitkeep.messages import Refused
-from bagitkeep.places import Work
-from bagitkeep.receipts import publish
+from bagitkeep.receipts import page_of, publish
 
 SEAL = "0" * 128
 PAGE = b"<p>valid"
@@ -99,19 +98,27 @@ class OfRegister(unittest.TestCase):
             self.assertIsNotNone(noted.says)
 
     def test_a_killed_process_has_published_a_part(self) -> None:
-        folder = self.room / "work"
-        folder.mkdir()
-        work, content = Work(str(folder)), self.receipt("1", "a")
-        paths = [f"{self.folder}/receipts/1.{it}" for it in ("json", "html")]
-        Path(paths[0]).parent.mkdir()
-        for is_published in False, True:
-            (folder / "receipt.json").write_bytes(content)
-            if not is_published:
-                (folder / "receipt.html").write_text("page")
-            publish(work, paths[0], paths[1], self.folder)
-            self.assertEqual(Path(paths[0]).read_bytes(), content)
-            self.assertEqual(Path(paths[1]).read_text(), "page")
+        receipt = json.loads(self.receipt("1", "a"))
+        receipt["arrived"] = {"name": "a.tar"}
+        path = Path(self.folder, "receipts", "1.json")
+        page, wanted = path.with_suffix(".html"), page_of(receipt)
+        path.parent.mkdir()
+        for _ in range(2):
+            publish(receipt, str(path), self.folder)
+            self.assertEqual(json.loads(path.read_text()), receipt)
+            self.assertEqual(page.read_text(), wanted)
         self.assertEqual(len(self.rows("events", "kind = 'received'")), 1)
+
+    def test_what_was_altered_meanwhile_is_seen(self) -> None:
+        receipt = json.loads(self.receipt("1", "a"))
+        receipt["arrived"] = {"name": "a.tar"}
+        path = Path(self.folder, "receipts", "1.json")
+        path.parent.mkdir()
+        altered = page_of(receipt).replace("valid", "superb")
+        path.with_suffix(".html").write_text(altered)
+        with self.assertRaisesRegex(Refused, "1.html is there already, with"):
+            publish(receipt, str(path), self.folder)
+        self.assertEqual(self.rows("bags"), [])
 
 
 if __name__ == "__main__":

@@ -178,8 +178,8 @@ class OfNews(unittest.TestCase):
     def test_faults_are_named_unless_there_are_very_many(self) -> None:
         line = "601 payload-file-missing data/a md5 - -"
         text = line.encode() + b"\n"
-        self.assertEqual([line], list(news.faults_in([text, b"x"], 1, "a")))
-        one, other = (list(news.faults_in([], 1001, it)) for it in "ab")
+        self.assertEqual([line], news.lines_of([text, b"x"], 1, "a"))
+        one, other = (news.lines_of([], 1001, it) for it in "ab")
         self.assertIn("1001 faults", one[0])
         self.assertNotEqual(one, other)
 

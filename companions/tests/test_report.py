@@ -4,15 +4,17 @@ import re
 import unittest
 from typing import FrozenSet
 
-from bagitkeep.lines import Closing, Unchecked
+from bagitkeep.lines import Closing, Unchecked, line_of
 from bagitkeep.report import (
     Reading,
+    Record,
     cell,
     codes_of,
     first_folder,
     is_making,
     is_of_file,
     read_line,
+    record_of,
     write_json,
     write_summary,
 )
@@ -26,6 +28,23 @@ class Parts(unittest.TestCase):
             self.assertNotRegex(shown, "^[=+@\t\r-]")
             back = re.sub("^'(?='*[=+@\t\r-])", "", shown)
             self.assertEqual(back, text)
+
+    def test_a_part_and_its_options(self) -> None:
+        digest = "0123456789abcdef" * 4
+        part: Record = {"bag": "d", "ended": "done", "faults": 0}
+        part.update({"part": "2 of 8", "files": 9, "bytes": 10})
+        options: Record = {"clashes": True, "profile": digest}
+        for text, record in (
+            ("", part),
+            (", clashes", {**part, "clashes": True}),
+            (f", profile: {digest}", {**part, "profile": digest}),
+            (f", clashes, profile: {digest}", {**part, **options}),
+        ):
+            line = f"d part 2 of 8 done, files: 9, bytes: 10{text}, faults: 0"
+            said = record_of(line_of(f"{line}\n".encode()))
+            self.assertEqual(said, record)
+        cells = [cell(it) for it in (True, 1, None)]
+        self.assertEqual(cells, ["true", "1", ""])
 
     def test_paths_of_files(self) -> None:
         for path in "data/a", "a", "-", "...", "a b":

@@ -1,4 +1,5 @@
 """The seal of a bag, beside what `sha512sum` says."""
+import hashlib
 import os
 import subprocess
 import tarfile
@@ -75,29 +76,16 @@ class Seals(unittest.TestCase):
         os.close(place)
         self.assertRegex(seal_of(self.bag), "^[0-9a-f]{128}$")
 
-    def test_a_bag_in_a_tar_has_the_same(self) -> None:
-        with open(os.fsencode(self.bag) + b"/caf\xe9\n", "wb") as file:
-            file.write(b"x" * 3000)
-        path = self.bag.parent / "x.tar"
-        for form in tarfile.PAX_FORMAT, tarfile.GNU_FORMAT:
-            for name in "bag", "./other name":
-                with tarfile.open(path, "w", format=form) as tar:
-                    tar.add(self.bag, name)
-                self.assertEqual(seal_of(path), self.by_sha512sum())
-                self.assertEqual(payload_of(path), payload_of(self.bag))
-        os.link(self.bag / "bagit.txt", self.bag / "again.txt")
-        os.link(self.bag / "bagit.txt", self.bag / "data" / "again.txt")
+    def test_that_of_a_tar_is_of_the_whole_file(self) -> None:
+        path, seals = self.bag.parent / "x.tar", set()
         with tarfile.open(path, "w") as tar:
             tar.add(self.bag, "bag")
-        with tarfile.open(path) as tar:
-            self.assertEqual(sum(it.islnk() for it in tar.getmembers()), 2)
-        self.assertEqual(seal_of(path), self.by_sha512sum())
-        self.assertEqual(payload_of(path), payload_of(self.bag))
-        whole = path.read_bytes()
-        for cut in whole[: whole.index(b"xxx") + 9], b"x" * 600:
-            path.write_bytes(cut)
-            with self.assertRaises(OSError):
-                seal_of(path)
+        for content in path.read_bytes(), path.read_bytes() + b"\0":
+            path.write_bytes(content)
+            seals.add(seal_of(path))
+            self.assertIn(hashlib.sha512(content).hexdigest(), seals)
+            self.assertEqual(payload_of(path), (1, len(content)))
+        self.assertEqual(len(seals), 2)
 
 
 if __name__ == "__main__":

@@ -10,7 +10,7 @@ this is a loss:
   files lost     a file of the folder is whole neither at its place nor in .bagit-new or data
   bag lost       after the line `made` the folder isn't the whole bag, or isn't valid
   falsely valid  the program says that a bag is valid which lacks a file of the folder
-  no way back    before `made`, what docs/NOT_MADE.md says doesn't bring the folder back
+  no way back    before `made`, what docs/RECOVERY.md says doesn't bring the folder back
 
 With --work renewing a bag is renewed by bagit-renew, in each of the ways that --renewals names, and these are losses,
 and the first and the third of those above (after the line `renewed`):

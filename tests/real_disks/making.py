@@ -21,7 +21,7 @@ FOLDERS = ("no files here", "letters 1900/no files either")
 NEW_FOLDER, PAYLOAD = ".bagit-new", "data"
 TAG_FILES = ("bagit.txt", "bag-info.txt", "manifest-", "tagmanifest-")
 
-# docs/NOT_MADE.md, 'The way back', which keeps the tag files
+# docs/RECOVERY.md, "A bag wasn't created", which keeps the tag files
 MOVE_BACK = "find .bagit-new -mindepth 1 -maxdepth 1 -exec mv -n -t . {} + && rmdir .bagit-new"
 FROM_NEW_FOLDER = f"rm -f bagit.txt && {MOVE_BACK}"
 FROM_DATA = f"mv data .bagit-new && rm -f bagit.txt bag-info.txt manifest-*.txt tagmanifest-*.txt && {MOVE_BACK}"
@@ -101,7 +101,7 @@ class Making:
             yield from self.way_back(held)
 
     def way_back(self, held):
-        """Moves the files back as docs/NOT_MADE.md says it."""
+        """Moves the files back as docs/RECOVERY.md says it."""
         expected = (f"{PAYLOAD}/", *TAG_FILES)
         has_other_files = any(whole and not path.startswith(expected) for path, whole in held.items())
         script = FROM_NEW_FOLDER if NEW_FOLDER in held else FROM_DATA if not has_other_files else "true"

@@ -2,7 +2,8 @@
 use Rattle.bag_arguments.proofs.Common.{arith, ◌≡◌, ◌≢◌, ◌⊎◌, ◌∙◌, inl, inr, ap, subst, sym, codes, Bool, List, []}
 use Rattle.bag_arguments.proofs.Common.{Option, Some, None, Result, Err, is_some}
 use Rattle.bag_arguments.proofs.Common.{option_map, if◌then◌else◌, HasKind, Row, Text, kind_of, OutOfMemory}
-use Rattle.bag_arguments.proofs.Common.{has_after_several, has_two_depths, out_of_place, refusals, matches_of_words}
+use Rattle.bag_arguments.proofs.Common.{has_after_several, has_join_with_other, has_two_depths, out_of_place}
+use Rattle.bag_arguments.proofs.Common.{refusals, matches_of_words}
 use Rattle.clap.specs.declared.error.Error.{Error}
 use Rattle.bag_arguments.proofs.OneKind.{refusals_one}
 use Rattle.bag_arguments.specs.Given.{depth, value}
@@ -14,28 +15,29 @@ use Rattle.bag_arguments.specs.declared.check_option.CheckOption.{CheckOption}
 use Rattle.bag_arguments.specs.declared.plan.Plan.{Plan}
 use Rattle.bag_arguments.specs.declared.usage.Usage.{Usage}
 use Rattle.bag_arguments.specs.declared.usage.Usage.TheVariants.{Refused, NeedsValidate, TwoDepths, AfterSeveral}
-use Rattle.bag_arguments.specs.declared.usage.Usage.TheVariants.{AfterNotALine, Memory, NotAPart, PartOfDepth}
+use Rattle.bag_arguments.specs.declared.usage.Usage.TheVariants.{AfterNotALine, JoinWithOther, Memory, NotAPart}
+use Rattle.bag_arguments.specs.declared.usage.Usage.TheVariants.{PartOfDepth}
 
-not_other : (usage : Usage) (o : Option CheckOption) (b c : Bool) → ((x : CheckOption) → NeedsValidate x ≢ usage)
-    → TwoDepths ≢ usage → AfterSeveral ≢ usage
-    → (if is_some o then option_map NeedsValidate o
-    else (if b then Some TwoDepths else (if c then Some AfterSeveral else None))) ≡ Some usage → ⊥
-not_other usage o b c validate depths several e = grind arith
+not_other : (usage : Usage) (o : Option CheckOption) (a b c : Bool) → ((x : CheckOption) → NeedsValidate x ≢ usage)
+    → JoinWithOther ≢ usage → TwoDepths ≢ usage → AfterSeveral ≢ usage
+    → (if is_some o then option_map NeedsValidate o else (if a then Some JoinWithOther
+    else (if b then Some TwoDepths else (if c then Some AfterSeveral else None)))) ≡ Some usage → ⊥
+not_other usage o a b c validate join depths several e = grind arith
 
 -- what is wrong with what is given is the answer
 pub misuse_answered : (rows : List Row) (usage : Usage) → misuse rows ≡ Some usage → Plans rows (Err usage)
 misuse_answered rows (Refused text) e =
-    absurd (not_other (Refused text) (out_of_place rows) (has_two_depths rows) (has_after_several rows) (λ x e. cc)
-    (λ e. cc) (λ e. cc) e)
+    absurd (not_other (Refused text) (out_of_place rows) (has_join_with_other rows) (has_two_depths rows)
+    (has_after_several rows) (λ x e. cc) (λ e. cc) (λ e. cc) (λ e. cc) e)
 misuse_answered rows AfterNotALine e =
-    absurd (not_other AfterNotALine (out_of_place rows) (has_two_depths rows) (has_after_several rows) (λ x e. cc)
-    (λ e. cc) (λ e. cc) e)
+    absurd (not_other AfterNotALine (out_of_place rows) (has_join_with_other rows) (has_two_depths rows)
+    (has_after_several rows) (λ x e. cc) (λ e. cc) (λ e. cc) (λ e. cc) e)
 misuse_answered rows PartOfDepth e =
-    absurd (not_other PartOfDepth (out_of_place rows) (has_two_depths rows) (has_after_several rows) (λ x e. cc)
-    (λ e. cc) (λ e. cc) e)
+    absurd (not_other PartOfDepth (out_of_place rows) (has_join_with_other rows) (has_two_depths rows)
+    (has_after_several rows) (λ x e. cc) (λ e. cc) (λ e. cc) (λ e. cc) e)
 misuse_answered rows NotAPart e =
-    absurd (not_other NotAPart (out_of_place rows) (has_two_depths rows) (has_after_several rows) (λ x e. cc)
-    (λ e. cc) (λ e. cc) e)
+    absurd (not_other NotAPart (out_of_place rows) (has_join_with_other rows) (has_two_depths rows)
+    (has_after_several rows) (λ x e. cc) (λ e. cc) (λ e. cc) (λ e. cc) e)
 misuse_answered rows Memory e = tt
 misuse_answered rows usage e = e
 

@@ -34,7 +34,7 @@ main_arguments =
     flag_rule (codes "validate") ∷ flag_rule (codes "quiet")
     ∷ operands_rule (codes "directory") ∷ []
 
--- those that need --validate
+-- those that need --validate, but for the next ones
 abbrev pub check_arguments : List Rule
 check_arguments =
     flag_rule (codes "fast")
@@ -44,9 +44,12 @@ check_arguments =
     ∷ option_rule (codes "after")
     ∷ number_rule (codes "max-faults")
     ∷ flag_rule (codes "clashes")
-    ∷ option_rule (codes "part")
-    ∷ flag_rule (codes "tar")
     ∷ []
+
+-- those that say what the words are, or of which part the report is
+abbrev pub word_arguments : List Rule
+word_arguments =
+    option_rule (codes "part") ∷ flag_rule (codes "tar") ∷ flag_rule (codes "join") ∷ []
 
 -- those of the algorithms
 abbrev pub alg_arguments : List Rule
@@ -65,6 +68,6 @@ without_program_name = on_top (λ s. record s { no_binary_name = true })
 -- the command, with no rule from one argument to another
 unfoldable pub command : App
 command =
-    with_rules (with_rules
+    with_rules (with_rules (with_rules
     (with_rules (with_rules (without_program_name (new_app (codes "bagit"))) main_arguments)
-    check_arguments) alg_arguments) label_arguments
+    check_arguments) word_arguments) alg_arguments) label_arguments

@@ -1,8 +1,9 @@
 -- What is given on the command line, by the matches of the words.
-use Rattle.std.specs.Prelude.{ℕ, ◌≡◌, ◌≤◌, Bool, ◌&&◌, ◌||◌, List, [], ◌∷◌, Option, Some, None}
+use Rattle.std.specs.Prelude.{ℕ, ◌≡◌, ◌≤◌, Bool, false, true, ◌&&◌, ◌||◌, List, [], ◌∷◌}
+use Rattle.std.specs.Prelude.{Option, Some, None}
 use Rattle.std.specs.Prelude.{option_map, is_some, unwrap_or, if◌then◌else◌, bytes_eq, codes}
 use Rattle.std.specs.Prelude.{◌==◌, suc, filter, filter_map, find, length, nat_lt}
-use Rattle.std.specs.List.{after_first, before_first}
+use Rattle.std.specs.List.{after_first, before_first, list_any}
 use Rattle.std.specs.Str.{byte}
 use Rattle.std.specs.Str.Parse.{digits_value, without_leading_plus}
 use Rattle.clap.specs.Words.{Row, Text, all_of, first_of, one_of}
@@ -17,7 +18,7 @@ use Rattle.bag_facts.specs.declared.options.Depth.TheVariants.{Declaration, Fast
 use Rattle.bag_arguments.specs.Labels.{all_labels, label_name, label_option}
 use Rattle.bag_arguments.specs.declared.label.Label.{Label}
 use Rattle.bag_arguments.specs.declared.plan.Action.{Action}
-use Rattle.bag_arguments.specs.declared.plan.Action.TheVariants.{Check, CheckTars, Make}
+use Rattle.bag_arguments.specs.declared.plan.Action.TheVariants.{Check, CheckTars, Join, Make}
 use Rattle.bag_arguments.specs.declared.plan.InfoItem.{InfoItem}
 use Rattle.bag_arguments.specs.declared.check_option.CheckOption.{CheckOption}
 use Rattle.bag_arguments.specs.declared.check_option.CheckOption.TheVariants as check
@@ -47,7 +48,7 @@ abbrev pub check_options : List CheckOption
 check_options =
     check.DeclarationOnly ∷ check.Fast ∷ check.CompletenessOnly
     ∷ check.Profile ∷ check.After ∷ check.MaxFaults ∷ check.Clashes ∷ check.Part
-    ∷ check.Tar ∷ []
+    ∷ check.Tar ∷ check.Join ∷ []
 
 -- the name of its argument
 abbrev pub check_id : CheckOption → Text
@@ -60,6 +61,7 @@ check_id check.MaxFaults = codes "max-faults"
 check_id check.Clashes = codes "clashes"
 check_id check.Part = codes "part"
 check_id check.Tar = codes "tar"
+check_id check.Join = codes "join"
 
 abbrev pub has_check_option : List Row → CheckOption → Bool
 has_check_option rows check.Profile = is_some (value rows (codes "profile"))
@@ -71,6 +73,21 @@ has_check_option rows option = is_given rows (check_id option)
 -- the first that stands without --validate
 abbrev pub out_of_place : List Row → Option CheckOption
 out_of_place rows = if validates rows then None else find (has_check_option rows) check_options
+
+-- another one than --join
+abbrev pub is_other : CheckOption → Bool
+is_other check.Join = false
+is_other option = true
+
+-- one of these is given that is another one
+abbrev pub has_other : List Row → List CheckOption → Bool
+has_other rows options =
+    list_any (λ option. is_other option && has_check_option rows option) options
+
+-- reports are to be joined, and another one is given, or that it is to be quiet
+abbrev pub has_join_with_other : List Row → Bool
+has_join_with_other rows =
+    is_given rows (codes "join") && (is_given rows (codes "quiet") || has_other rows check_options)
 
 -- ---- depths
 
@@ -89,10 +106,11 @@ depth rows =
 
 -- ---- what is done
 
--- bags are made; or those in tar files are checked, or those in folders
+-- bags are made; or reports of parts are joined, or bags in tar files checked, or those in folders
 abbrev pub action : List Row → Action
 action rows =
-    if validates rows then (if is_given rows (codes "tar") then CheckTars else Check) else Make
+    if validates rows then (if is_given rows (codes "join") then Join
+    else (if is_given rows (codes "tar") then CheckTars else Check)) else Make
 
 -- ---- the cursor and the limit
 

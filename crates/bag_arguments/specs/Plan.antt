@@ -11,6 +11,7 @@ use Rattle.bag_facts.specs.declared.options.Depth.TheVariants.{Declaration, Full
 use Rattle.bag_arguments.specs.Given.{action, directories, depth, is_given, value, IsLimit}
 use Rattle.bag_arguments.specs.Given.{named_algs, or_default, info}
 use Rattle.bag_arguments.specs.Given.{out_of_place, has_two_depths, has_after_several}
+use Rattle.bag_arguments.specs.Given.{has_join_with_other}
 use Rattle.bag_arguments.specs.Given.{part_given, part_of}
 use Rattle.bag_arguments.specs.Words.{refusals, matches_of_words}
 use Rattle.bag_arguments.specs.declared.plan.Action.{Action}
@@ -19,6 +20,7 @@ use Rattle.bag_arguments.specs.declared.plan.Plan.{Plan}
 use Rattle.bag_arguments.specs.declared.usage.Usage.{Usage}
 use Rattle.bag_arguments.specs.declared.usage.Usage.TheVariants.{Refused, Memory}
 use Rattle.bag_arguments.specs.declared.usage.Usage.TheVariants.{NeedsValidate, TwoDepths}
+use Rattle.bag_arguments.specs.declared.usage.Usage.TheVariants.{JoinWithOther}
 use Rattle.bag_arguments.specs.declared.usage.Usage.TheVariants.{AfterSeveral, AfterNotALine}
 use Rattle.bag_arguments.specs.declared.usage.Usage.TheVariants.{PartOfDepth, NotAPart}
 
@@ -43,9 +45,10 @@ GivesCursor text (Err usage) =
 abbrev pub misuse : List Row → Option Usage
 misuse rows =
     if is_some (out_of_place rows) then option_map NeedsValidate (out_of_place rows)
+    else (if has_join_with_other rows then Some JoinWithOther
     else (if has_two_depths rows then Some TwoDepths
     else (if has_after_several rows then Some AfterSeveral
-    else None))
+    else None)))
 
 -- what is wrong with the part that is given, at this depth
 abbrev pub part_misuse_at : Depth → Option Text → Option Usage
@@ -130,6 +133,7 @@ IsNotRefused result = ⊤
 abbrev pub usage_status : Usage → ℕ
 usage_status (Refused text) = 2
 usage_status (NeedsValidate option) = 2
+usage_status JoinWithOther = 2
 usage_status TwoDepths = 2
 usage_status AfterSeveral = 2
 usage_status AfterNotALine = 2

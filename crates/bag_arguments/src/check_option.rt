@@ -17,10 +17,11 @@ pub enum CheckOption {
     Clashes,
     Part,
     Tar,
+    Join,
 }
 
 /// All of them, in the order in which they are looked at.
-pub(crate) const CHECK_OPTIONS: [CheckOption; 9] = [
+pub(crate) const CHECK_OPTIONS: [CheckOption; 10] = [
     CheckOption::DeclarationOnly,
     CheckOption::Fast,
     CheckOption::CompletenessOnly,
@@ -30,6 +31,7 @@ pub(crate) const CHECK_OPTIONS: [CheckOption; 9] = [
     CheckOption::Clashes,
     CheckOption::Part,
     CheckOption::Tar,
+    CheckOption::Join,
 ];
 
 impl CheckOption {
@@ -47,7 +49,15 @@ impl CheckOption {
             CheckOption::Clashes => "clashes",
             CheckOption::Part => "part",
             CheckOption::Tar => "tar",
+            CheckOption::Join => "join",
         }
+    }
+
+    /// Whether it is another one than `--join`.
+    pub(crate) fn is_other(self) -> bool
+        ensures { result ≡ spec.is_other self }
+    {
+        !matches!(self, CheckOption::Join)
     }
 }
 

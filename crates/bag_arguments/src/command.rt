@@ -31,11 +31,12 @@ pub(crate) fn command<'a>(alloc: Global) -> Result<Command<'a>, AllocError>
         .no_binary_name(true);
     let command = with_main_arguments(alloc, command)?;
     let command = with_check_arguments(alloc, command.next_help_heading(CHECKING))?;
+    let command = with_word_arguments(alloc, command)?;
     let command = with_alg_arguments(alloc, command.next_help_heading(MAKING))?;
     with_label_arguments(alloc, command.next_help_heading(ELEMENTS), &LABELS)
 }
 
-/// What is done, how much is said, and to which folders.
+/// What is done, how much is said, and to which directories.
 fn with_main_arguments<'a>(alloc: Global, command: Command<'a>) -> Result<Command<'a>, AllocError>
     ensures { IfOk result (λ c.
         app_of c ≡ spec.with_rules (app_of command.entry) spec.main_arguments) }
@@ -51,11 +52,11 @@ fn with_main_arguments<'a>(alloc: Global, command: Command<'a>) -> Result<Comman
             alloc,
             "directory",
             "DIRECTORY",
-            "The folders to check or to make bags",
+            "The directories to check, or to make into bags",
         ))
 }
 
-/// The options that need `--validate`.
+/// The options that need `--validate`, but for those that say what the words are.
 fn with_check_arguments<'a>(alloc: Global, command: Command<'a>) -> Result<Command<'a>, AllocError>
     ensures { IfOk result (λ c.
         app_of c ≡ spec.with_rules (app_of command.entry) spec.check_arguments) }
@@ -69,7 +70,7 @@ fn with_check_arguments<'a>(alloc: Global, command: Command<'a>) -> Result<Comma
         .arg(check_flag(
             alloc,
             CheckOption::CompletenessOnly,
-            "Check all but the digests",
+            "Check all but the checksums",
         ))?
         .arg(check_flag(alloc, CheckOption::DeclarationOnly, "Check bagit.txt alone"))?
         .arg(check_value(
@@ -93,7 +94,16 @@ fn with_check_arguments<'a>(alloc: Global, command: Command<'a>) -> Result<Comma
             alloc,
             CheckOption::Clashes,
             "Names that differ only in their normal form are faults",
-        ))?
+        ))
+}
+
+/// The options that need `--validate` and say of what a DIRECTORY is the name, or of which part of
+/// it the report is.
+fn with_word_arguments<'a>(alloc: Global, command: Command<'a>) -> Result<Command<'a>, AllocError>
+    ensures { IfOk result (λ c.
+        app_of c ≡ spec.with_rules (app_of command.entry) spec.word_arguments) }
+{
+    command
         .arg(check_value(
             alloc,
             CheckOption::Part,
@@ -104,6 +114,11 @@ fn with_check_arguments<'a>(alloc: Global, command: Command<'a>) -> Result<Comma
             alloc,
             CheckOption::Tar,
             "Each DIRECTORY is a tar file, of which the bag is checked where it lies",
+        ))?
+        .arg(check_flag(
+            alloc,
+            CheckOption::Join,
+            "Each DIRECTORY is the report of a part; all are joined into one report",
         ))
 }
 

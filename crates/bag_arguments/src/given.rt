@@ -72,6 +72,21 @@ pub(crate) fn out_of_place(matches: &ArgMatches<'_>) -> Option<CheckOption>
     }
 }
 
+/// Whether `--join` is given beside another option that needs `--validate`, or `--quiet`.
+pub(crate) fn has_join_with_other(matches: &ArgMatches<'_>) -> bool
+    ensures { result ≡ spec.has_join_with_other (rows.rows_in matches.now) }
+{
+    is_given(matches, CheckOption::Join.id())
+        && (is_given(matches, "quiet") || has_other(matches, &CHECK_OPTIONS))
+}
+
+/// Whether one of these options is given that isn't `--join`.
+fn has_other(matches: &ArgMatches<'_>, options: &[CheckOption]) -> bool
+    ensures { result ≡ spec.has_other (rows.rows_in matches.now) options.now }
+{
+    options.iter().copied().any(|option| option.is_other() && has_check_option(matches, option))
+}
+
 /// Whether more than one depth is given.
 pub(crate) fn has_two_depths(matches: &ArgMatches<'_>) -> bool
     ensures { result ≡ spec.has_two_depths (rows.rows_in matches.now) }
@@ -110,6 +125,8 @@ pub(crate) fn action(matches: &ArgMatches<'_>) -> Action
 {
     if !is_given(matches, "validate") {
         Action::Make
+    } else if is_given(matches, CheckOption::Join.id()) {
+        Action::Join
     } else if is_given(matches, CheckOption::Tar.id()) {
         Action::CheckTars
     } else {

@@ -13,6 +13,8 @@ pub enum Action {
     Check,
     /// The bags in tar files are checked.
     CheckTars,
+    /// The reports of all parts of a check are joined into one.
+    Join,
     /// Folders are made bags.
     Make,
 }
@@ -28,7 +30,7 @@ pub struct InfoItem {
 #[derive(Debug, Drop)]
 pub struct Plan {
     pub action: Action,
-    /// The folders, or the tar files, in the order of the words.
+    /// The folders, the tar files or the reports, in the order of the words.
     pub directories: Items<Text>,
     pub options: Options,
     /// The file of the profile.

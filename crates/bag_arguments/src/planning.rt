@@ -110,6 +110,9 @@ fn refuse_misuse(matches: &ArgMatches<'_>) -> Result<(), Usage>
     if let Some(option) = given::out_of_place(matches) {
         return Err(Usage::NeedsValidate(option));
     }
+    if given::has_join_with_other(matches) {
+        return Err(Usage::JoinWithOther);
+    }
     if given::has_two_depths(matches) {
         return Err(Usage::TwoDepths);
     }

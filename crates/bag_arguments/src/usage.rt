@@ -4,7 +4,7 @@ ghost use Rattle.bag_arguments.specs.Plan.{usage_status};
 ghost use Rattle.bag_arguments.specs.declared.usage.Usage.TheVariants.{Memory};
 
 use crate::CheckOption;
-use crate::said::{NOT_A_PART, PART_OF_DEPTH};
+use crate::said::{JOIN_WITH_OTHER, NOT_A_PART, PART_OF_DEPTH};
 use bag_text::{Text, said};
 use std::alloc::{AllocError, AllocFailed};
 use thiserror::Error;
@@ -19,6 +19,9 @@ pub enum Usage {
     /// An option is given that needs `--validate`: the first, in the order of `CheckOption`.
     #[error("{program}{0}{why}", program = said::PROGRAM, why = said::NEEDS_VALIDATE)]
     NeedsValidate(CheckOption),
+    /// Reports are to be joined, and another option of a check is given, or that it is to be quiet.
+    #[error("{program}{why}", program = said::PROGRAM, why = JOIN_WITH_OTHER)]
+    JoinWithOther,
     /// More than one depth is given.
     #[error("{program}{why}", program = said::PROGRAM, why = said::TWO_DEPTHS)]
     TwoDepths,
@@ -49,6 +52,7 @@ impl Usage {
             Usage::Memory => 3,
             Usage::Refused(_)
             | Usage::NeedsValidate(_)
+            | Usage::JoinWithOther
             | Usage::TwoDepths
             | Usage::AfterSeveral
             | Usage::AfterNotALine

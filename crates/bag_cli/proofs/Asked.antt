@@ -1,6 +1,6 @@
 -- What was asked for, a whole check or one of a part, is what was done.
 use Rattle.bag_cli.proofs.Common.{◌≡◌, ◌≢◌, ◌≤◌, ℕ, Option, Some, None, refl, subst, arith, OutState, TreeState, Outcome}
-use Rattle.bag_cli.proofs.Common.{Profile, Request, status, CheckOutcome}
+use Rattle.bag_cli.proofs.Common.{SummedProfile, Request, profile_of, status, CheckOutcome}
 use Rattle.bag_facts.specs.Part.{Part}
 use Rattle.bag_walk.specs.WholeRun.{IsRunOver}
 use Rattle.bag_walk.specs.declared.part_run.PartOutcome.{PartOutcome}
@@ -8,16 +8,16 @@ use Rattle.bag_cli.specs.Checked.{IsCheckBy}
 use Rattle.bag_cli.specs.Status.{check_status}
 use Rattle.bag_cli.specs.declared.check_outcome.CheckOutcome.TheVariants.{OfBag, OfPart}
 
-module _ (profile : Option Profile) (tree new : TreeState) (request : Request) (before after : OutState) where
+module _ (profile : Option SummedProfile) (tree new : TreeState) (request : Request) (before after : OutState) where
   run_of_none : (outcome : CheckOutcome) → IsCheckBy None profile tree new request before after outcome
-      → (whole : Outcome) × (outcome ≡ OfBag whole) × IsRunOver tree new profile request before after whole
+      → (whole : Outcome) × (outcome ≡ OfBag whole) × IsRunOver tree new (profile_of profile) request before after whole
   run_of_none (OfBag whole) run = (whole, refl, run)
   run_of_none (OfPart outcome) run = absurd run
 
   -- where no part is asked for, the whole report was
   pub as_run : (part : Option Part) (outcome : CheckOutcome) → part ≡ None
       → IsCheckBy part profile tree new request before after outcome
-      → (whole : Outcome) × (outcome ≡ OfBag whole) × IsRunOver tree new profile request before after whole
+      → (whole : Outcome) × (outcome ≡ OfBag whole) × IsRunOver tree new (profile_of profile) request before after whole
   as_run part outcome e run =
       run_of_none outcome (subst (λ p. IsCheckBy p profile tree new request before after outcome) e run)
 

@@ -16,8 +16,9 @@ pub use Rattle.std.specs.declared.result.Result.TheVariants.{Err, Ok}
 pub use Rattle.bag_arguments.specs.declared.plan.Plan.{Plan}
 pub use Rattle.bag_disk.specs.Disk.{DiskState}
 pub use Rattle.bag_facts.specs.FaultLine.{field}
+pub use Rattle.bag_join.specs.Reports.{ReportsState}
+pub use Rattle.bag_join.specs.declared.refusal.Refusal.{Refusal}
 pub use Rattle.bag_make.specs.declared.fault.MakeFault.{MakeFault}
-pub use Rattle.bag_profile.specs.Profile.{Profile}
 pub use Rattle.bag_store.specs.DiskBag.{bag_of}
 pub use Rattle.bag_store.specs.FileTree.{tree_state}
 pub use Rattle.bag_tags.specs.Element.{NewElement}
@@ -51,11 +52,12 @@ pub use types.Logic.{Logic}
 pub use types.Run.{and_then, enter, no_more, of_opd, returns, unit_lit}
 pub use Rattle.bag_cli.specs.Checked.{HaveNoFailure, AreChecksOf, HasRunOut, IsCheckOf, IsLastCheck}
 pub use Rattle.bag_cli.specs.Checking.{IsCheckOfSample}
-pub use Rattle.bag_cli.specs.Checked.{IsVisitToCheck, IsWholeCheck, request_of, visit_of}
+pub use Rattle.bag_cli.specs.Checked.{IsVisitToCheck, IsWholeCheck, profile_of, request_of, sum_of, visit_of}
 pub use Rattle.bag_cli.specs.Folders.{disks_of, tree_in, visits_of}
 pub use Rattle.bag_cli.specs.Halt.{status_of}
 pub use Rattle.bag_cli.specs.Honest.{HonestFoldersAreReported, IsReportedMade, IsReportedNotMade}
 pub use Rattle.bag_cli.specs.InTurn.{AreInTurn, HasVisited, Last, Whole}
+pub use Rattle.bag_cli.specs.Joined.{AreJoined, IsJoin, IsJoinAt, Reported, join_status}
 pub use Rattle.bag_make.specs.WholeMaking.{IsMake}
 pub use Rattle.bag_cli.specs.Making.{ReportsMaking}
 pub use Rattle.bag_cli.specs.Makings.{AreMakingsOf, IsLastMaking, IsMakingReported, IsWholeMaking, element_of}
@@ -70,5 +72,6 @@ pub use Rattle.bag_cli.specs.Reported.{ReportsMade, GivesReport, reported_lines}
 pub use Rattle.bag_cli.specs.TarChecked.{AreTarChecksOf, IsLastTarCheck, IsTreeOf, IsWholeTarCheck}
 pub use Rattle.bag_tar.specs.Archive.{ArchiveState}
 pub use Rattle.bag_cli.specs.UncheckedKeys.{unchecked_line, unchecked_lines}
-pub use Rattle.bag_cli.specs.Visits.{Entered, Event, Left, NotGiven, Opened, Read, Shut}
+pub use Rattle.bag_cli.specs.Visits.{Asked, Closed, Entered, Event, Left, NotGiven, Opened, Read, Shut}
+pub use Rattle.bag_cli.specs.declared.profile_file.SummedProfile.{SummedProfile}
 pub use Rattle.bag_cli.specs.declared.record.Record.{Record}

@@ -1,9 +1,9 @@
 -- Checks of tar files.
 use Rattle.bag_cli.proofs.Common.{AreCheckedAs, AreCheckedInForm, Some, None, arith, in_form}
 use Rattle.bag_cli.proofs.Common.{◌≡◌, ◌⊎◌, tree_state, inl, inr, ◌∷◌, ℕ, List, Option, refl, subst, sym, Result, Ok, Err, OutState}
-use Rattle.bag_cli.proofs.Common.{ArchiveState, DiskState, Event, IsTreeOf, Opened, Plan, Profile, TreeState, Refused}
+use Rattle.bag_cli.proofs.Common.{ArchiveState, DiskState, Event, IsTreeOf, Opened, Plan, SummedProfile, TreeState, Refused}
 use Rattle.bag_arguments.specs.declared.plan.Action.{Action}
-use Rattle.bag_arguments.specs.declared.plan.Action.TheVariants.{Sample, Help, Check, CheckTars, Make}
+use Rattle.bag_arguments.specs.declared.plan.Action.TheVariants.{Sample, Help, Check, CheckTars, Join, Make}
 use Rattle.bag_text.specs.declared.text.Text.{Text}
 use Rattle.bag_tar.specs.declared.tar_fault.TarStop.{TarStop}
 use Rattle.bag_cli.specs.CheckedAs.{ChecksAs}
@@ -22,7 +22,7 @@ no_tree_of_same one other new stop same none =
     subst (λ (archive : ArchiveState). MakesNoTree archive new stop) same none
 
 -- the tree of a tar file was checked
-pub tree_checked : {E : Type 0} (plan : Plan) (profile : Option Profile) (archive : ArchiveState) (tree : TreeState)
+pub tree_checked : {E : Type 0} (plan : Plan) (profile : Option SummedProfile) (archive : ArchiveState) (tree : TreeState)
     (name : List ℕ) (before after : OutState) (own : List Event) (answer : Result ℕ E) → IsTreeOf archive tree
     → ChecksFolder plan profile tree name before after own answer
     → ChecksTar plan profile archive name before after (Opened name ∷ own) answer
@@ -31,7 +31,7 @@ tree_checked plan profile archive tree name before after own (Ok n) of_archive c
 tree_checked plan profile archive tree name before after own (Err e) of_archive check =
     inr (own, refl, inl (tree, of_archive, check))
 
-module _ (plan : Plan) (profile : Option Profile) (archive new : ArchiveState) (stop : TarStop) (name : List ℕ)
+module _ (plan : Plan) (profile : Option SummedProfile) (archive new : ArchiveState) (stop : TarStop) (name : List ℕ)
     (before after : OutState) (own : List Event) (none : MakesNoTree archive new stop) where
   -- a tar file made no tree, and that was told
   pub told_whole : (n : ℕ) → TellsUnopened new stop name before after own (Ok n)
@@ -46,7 +46,7 @@ module _ (plan : Plan) (profile : Option Profile) (archive new : ArchiveState) (
 
 -- what was checked by an action is what the plan says
 pub checked_as : {E : Type 0} (action was : Action) (below : List ℕ → DiskState) (archived : List ℕ → ArchiveState)
-    (plan : Plan) (profile : Option Profile) (name : List ℕ) (before after : OutState) (own : List Event)
+    (plan : Plan) (profile : Option SummedProfile) (name : List ℕ) (before after : OutState) (own : List Event)
     (answer : Result ℕ E) → action ≡ was
     → ChecksAs was below archived plan profile name before after own answer
     → ChecksAs action below archived plan profile name before after own answer
@@ -55,9 +55,9 @@ checked_as action was below archived plan profile name before after own answer i
 
 -- A plan with another action than that of tar files has its folders checked.
 pub folder_as : {E : Type 0} (action : Action) (below : List ℕ → DiskState) (archived : List ℕ → ArchiveState)
-    (plan : Plan) (profile : Option Profile) (name : List ℕ) (before after : OutState) (own : List Event)
+    (plan : Plan) (profile : Option SummedProfile) (name : List ℕ) (before after : OutState) (own : List Event)
     (answer : Result ℕ E)
-    → (action ≡ Sample) ⊎ (((text : Text) × (action ≡ Help text)) ⊎ ((action ≡ Check) ⊎ (action ≡ Make)))
+    → (action ≡ Sample) ⊎ (((text : Text) × (action ≡ Help text)) ⊎ ((action ≡ Check) ⊎ ((action ≡ Join) ⊎ (action ≡ Make))))
     → ChecksFolder plan profile (tree_state (below name) 0) name before after own answer
     → ChecksAs action below archived plan profile name before after own answer
 folder_as action below archived plan profile name before after own answer (inl is) checks =
@@ -66,15 +66,17 @@ folder_as action below archived plan profile name before after own answer (inr (
     checked_as action (Help help.0) below archived plan profile name before after own answer help.1 checks
 folder_as action below archived plan profile name before after own answer (inr (inr (inl is))) checks =
     checked_as action Check below archived plan profile name before after own answer is checks
-folder_as action below archived plan profile name before after own answer (inr (inr (inr is))) checks =
+folder_as action below archived plan profile name before after own answer (inr (inr (inr (inl is)))) checks =
+    checked_as action Join below archived plan profile name before after own answer is checks
+folder_as action below archived plan profile name before after own answer (inr (inr (inr (inr is)))) checks =
     checked_as action Make below archived plan profile name before after own answer is checks
 
-some_same : (a b : Profile) → Some a ≡ Some b → a ≡ b
+some_same : (a b : SummedProfile) → Some a ≡ Some b → a ≡ b
 some_same a b e = grind arith
 
 module _ (below : List ℕ → DiskState) (archived : List ℕ → ArchiveState) (plan : Plan) where
   -- what is checked by a profile in its form is checked by the profile that was read
-  pub form_of_read : (action : Action) (read formed : Profile) (before after : OutState) (visits : List Event) (n : ℕ)
+  pub form_of_read : (action : Action) (read formed : SummedProfile) (before after : OutState) (visits : List Event) (n : ℕ)
       → Some formed ≡ in_form action (Some read)
       → AreCheckedBy (AreCheckedAs action below archived plan) plan formed before after visits n
       → AreCheckedBy (AreCheckedInForm action below archived plan) plan read before after visits n

@@ -1,8 +1,9 @@
 -- What checks write, and the exit status after them.
-use Rattle.std.specs.Prelude.{ℕ, ◌≡◌, ◌⊎◌, ⊤, List, [], ◌∷◌, codes, Option, Some, None}
+use Rattle.std.specs.Prelude.{ℕ, ◌≡◌, ◌⊎◌, ⊤, List, [], ◌∷◌, codes, false}
+use Rattle.std.specs.Prelude.{Option, Some, None, option_map}
 use Rattle.bag_tree.specs.Out.{OutState}
 use Rattle.bag_tree.specs.Tree.{TreeState}
-use Rattle.bag_cli.specs.Visits.{Event, Entered, NotGiven, Left, Read, Opened, Shut}
+use Rattle.bag_cli.specs.Visits.{Event, Asked, Closed, Entered, NotGiven, Left, Read, Opened, Shut}
 use Rattle.bag_facts.specs.Part.{Part as PartValue}
 use Rattle.bag_walk.specs.declared.outcome.Request.{Request}
 use Rattle.bag_profile.specs.Profile.{Profile}
@@ -14,6 +15,7 @@ use Rattle.bag_cli.specs.Status.{check_status}
 use Rattle.bag_cli.specs.declared.check_outcome.CheckOutcome.{CheckOutcome}
 use Rattle.bag_cli.specs.declared.check_outcome.CheckOutcome.TheVariants.{OfBag, OfPart}
 use Rattle.bag_cli.specs.Sample.{sample_state}
+use Rattle.bag_cli.specs.declared.profile_file.SummedProfile.{SummedProfile}
 
 -- what a plan's check of the bag of this name asks for
 abbrev pub request_of : Plan → List ℕ → Request
@@ -25,17 +27,24 @@ request_of plan name = record {
   name = name;
 }
 
+-- the profile that was read, and the SHA-256 of the bytes that it was read from
+abbrev pub profile_of : Option SummedProfile → Option Profile
+profile_of read = option_map (λ read. read.profile) read
+
+abbrev pub sum_of : Option SummedProfile → Option (List ℕ)
+sum_of read = option_map (λ read. read.sum) read
+
 -- a check of a tree's bag, or of a part of it where one is asked for
-abbrev pub IsCheckBy : Option PartValue → Option Profile → TreeState → TreeState → Request
+abbrev pub IsCheckBy : Option PartValue → Option SummedProfile → TreeState → TreeState → Request
     → OutState → OutState → CheckOutcome → Type 0
 IsCheckBy None profile tree new request before after (OfBag outcome) =
-    IsRunOver tree new profile request before after outcome
+    IsRunOver tree new (profile_of profile) request before after outcome
 IsCheckBy (Some part) profile tree new request before after (OfPart outcome) =
-    IsRunOfPart tree new profile part request before after outcome
+    IsRunOfPart tree new (profile_of profile) (sum_of profile) part request before after outcome
 IsCheckBy part profile tree new request before after outcome = ⊥
 
 -- a check of a tree
-abbrev pub IsCheckOf : Plan → Option Profile → TreeState → TreeState → List ℕ
+abbrev pub IsCheckOf : Plan → Option SummedProfile → TreeState → TreeState → List ℕ
     → OutState → OutState → CheckOutcome → Type 0
 IsCheckOf plan profile tree new name before after outcome =
     IsCheckBy plan.part profile tree new (request_of plan name) before after outcome
@@ -45,14 +54,14 @@ abbrev pub visit_of : List ℕ → TreeState → List Event
 visit_of name new = Entered name ∷ Left new ∷ []
 
 -- a check of the tree that was given for a folder, and that was left as the check leaves it
-abbrev pub IsVisitToCheck : Plan → Option Profile → TreeState → List ℕ
+abbrev pub IsVisitToCheck : Plan → Option SummedProfile → TreeState → List ℕ
     → OutState → OutState → List Event → CheckOutcome → Type 0
 IsVisitToCheck plan profile tree name before after visits outcome =
     (new : TreeState) × (visits ≡ visit_of name new)
     × IsCheckOf plan profile tree new name before after outcome
 
 -- a check whose whole report was written, its visit, and its status
-pub record IsWholeCheck (plan : Plan) (profile : Option Profile) (tree : TreeState)
+pub record IsWholeCheck (plan : Plan) (profile : Option SummedProfile) (tree : TreeState)
     (name : List ℕ) (before after : OutState) (visits : List Event) (n : ℕ) : Type 0 where
   pub outcome : CheckOutcome
   pub check : IsVisitToCheck plan profile tree name before after visits outcome
@@ -67,7 +76,7 @@ HasRunOut tree name before after visits =
 
 -- a check that is the last: the output refused, or memory ran out for the folder, which was asked
 -- for
-abbrev pub IsLastCheck : Plan → Option Profile → TreeState → List ℕ
+abbrev pub IsLastCheck : Plan → Option SummedProfile → TreeState → List ℕ
     → OutState → OutState → List Event → Type 0
 IsLastCheck plan profile tree name before after visits =
     ((outcome : CheckOutcome) × (check_status outcome ≡ None)
@@ -77,7 +86,7 @@ IsLastCheck plan profile tree name before after visits =
 -- The checks of the bags of these names in the trees that they name, one after the other, each with
 -- the plan's limit. After one that couldn't be read or has faults comes the next; after one that
 -- couldn't be written comes none.
-abbrev pub AreChecksOf : Plan → Option Profile → (List ℕ → TreeState) → List (List ℕ) → Deed
+abbrev pub AreChecksOf : Plan → Option SummedProfile → (List ℕ → TreeState) → List (List ℕ) → Deed
 AreChecksOf plan profile tree_of names before after visits n =
     AreInTurn (λ name. IsLastCheck plan profile (tree_of name) name)
     (λ name. IsWholeCheck plan profile (tree_of name) name)
@@ -92,6 +101,8 @@ HaveNoFailure (Left state ∷ visits) = (state.failures ≡ 0) × HaveNoFailure 
 HaveNoFailure (Read path answer ∷ visits) = HaveNoFailure visits
 HaveNoFailure (Opened path ∷ visits) = HaveNoFailure visits
 HaveNoFailure (Shut state ∷ visits) = (state.failures ≡ 0) × HaveNoFailure visits
+HaveNoFailure (Asked paths ∷ visits) = HaveNoFailure visits
+HaveNoFailure (Closed state ∷ visits) = (state.has_failed ≡ false) × HaveNoFailure visits
 
 -- The sample was checked, as a folder of its name would be, and its device never fails. It is held
 -- in memory: these visits are none of a folder.

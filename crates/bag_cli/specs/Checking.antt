@@ -3,11 +3,11 @@ use Rattle.std.specs.Prelude.{ℕ, ◌≡◌, List, codes, Option, None, Result,
 use Rattle.bag_tree.specs.Out.{OutState}
 use Rattle.bag_tree.specs.Tree.{TreeState}
 use Rattle.bag_cli.specs.Visits.{Event}
-use Rattle.bag_profile.specs.Profile.{Profile}
 use Rattle.bag_arguments.specs.declared.plan.Plan.{Plan}
 use Rattle.bag_cli.specs.Sample.{sample_state}
 use Rattle.bag_cli.specs.Checked.{IsCheckOf, IsLastCheck, IsWholeCheck}
 use Rattle.bag_cli.specs.declared.check_outcome.CheckOutcome.{CheckOutcome}
+use Rattle.bag_cli.specs.declared.profile_file.SummedProfile.{SummedProfile}
 
 -- a check of the sample, whose device never fails
 abbrev pub IsCheckOfSample : Plan → OutState → OutState → CheckOutcome → Type 0
@@ -16,7 +16,7 @@ IsCheckOfSample plan before after outcome =
     × IsCheckOf plan None sample_state new (codes "sample") before after outcome
 
 -- the folder's bag was checked, and has a status; or that was the last check
-abbrev pub ChecksFolder : {E : Type 0} → Plan → Option Profile → TreeState → List ℕ
+abbrev pub ChecksFolder : {E : Type 0} → Plan → Option SummedProfile → TreeState → List ℕ
     → OutState → OutState → List Event → Result ℕ E → Type 0
 ChecksFolder plan profile tree name before after visits answer = MatchResult answer
     (λ n. IsWholeCheck plan profile tree name before after visits n)
@@ -24,7 +24,7 @@ ChecksFolder plan profile tree name before after visits answer = MatchResult ans
 
 -- the tree was checked under this name; or memory for what is asked for ran out, and nothing was
 -- done
-abbrev pub ChecksTree : {E : Type 0} → Plan → Option Profile → TreeState → TreeState → List ℕ
+abbrev pub ChecksTree : {E : Type 0} → Plan → Option SummedProfile → TreeState → TreeState → List ℕ
     → OutState → OutState → Result CheckOutcome E → Type 0
 ChecksTree plan profile tree new name before after checked = MatchResult checked
     (λ outcome. IsCheckOf plan profile tree new name before after outcome)

@@ -3,6 +3,7 @@ use Rattle.std.specs.Prelude.{ℕ, ◌≡◌, List, [], ◌∷◌, ◌++◌}
 use Rattle.bag_disk.specs.Disk.{DiskState}
 use Rattle.bag_store.specs.FileTree.{tree_state}
 use Rattle.bag_tree.specs.Tree.{TreeState}
+use Rattle.bag_join.specs.Reports.{ReportsState}
 use Rattle.bag_tar.specs.Archive.{ArchiveState}
 use Rattle.bag_cli.specs.Visits.{Event}
 use Rattle.bag_cli.specs.declared.folders.Folders.{Folders}
@@ -19,6 +20,11 @@ tree_in below folders name = tree_state (below (disks_of folders) name) 0
 -- the tar file at a path, as it is when it is given
 abbrev pub tar_in : {D : Type 0} → (D → List ℕ → ArchiveState) → Folders D → List ℕ → ArchiveState
 tar_in archived folders name = archived (disks_of folders) name
+
+-- the reports at these paths, as they are when they are given
+abbrev pub reports_in : {D : Type 0} → (D → List (List ℕ) → ReportsState) → Folders D
+    → List (List ℕ) → ReportsState
+reports_in reported folders paths = reported (disks_of folders) paths
 
 -- what was done with folders, in order
 abbrev pub visits_of : {D : Type 0} → Visits D → List Event

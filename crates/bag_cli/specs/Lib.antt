@@ -5,6 +5,7 @@ pub mod Folders
 pub mod Halt
 pub mod Honest
 pub mod InTurn
+pub mod Joined
 pub mod Making
 pub mod MakingLine
 pub mod Makings
@@ -19,6 +20,7 @@ pub mod Saying
 pub mod Status
 pub mod StoredEvent
 pub mod SystemFile
+pub mod SystemReports
 pub mod SystemTar
 pub mod TarChecked
 pub mod TarLine

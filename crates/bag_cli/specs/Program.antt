@@ -7,45 +7,50 @@ use Rattle.bag_arguments.specs.Words.{clap_takes}
 use Rattle.bag_arguments.specs.declared.plan.Plan.{Plan}
 use Rattle.bag_arguments.specs.declared.usage.Usage.{Usage}
 use Rattle.bag_cli.specs.InTurn.{Deed}
+use Rattle.bag_cli.specs.Joined.{Reported}
 use Rattle.bag_cli.specs.Performed.{Below, ReadableFiles, IsNothing, IsPerformed}
 use Rattle.bag_cli.specs.TarChecked.{Archived}
 
 -- a plan was performed; where the words are refused, nothing is written
-abbrev pub IsPlanPerformed : Below → Archived → ReadableFiles → Result Plan Usage → Deed
-IsPlanPerformed below archived file (Err usage) before after visits n =
+abbrev pub IsPlanPerformed : Below → Archived → Reported → ReadableFiles → Result Plan Usage → Deed
+IsPlanPerformed below archived reported file (Err usage) before after visits n =
     IsNothing (usage_status usage) before after visits n
-IsPlanPerformed below archived file (Ok plan) before after visits n =
-    IsPerformed below archived file plan before after visits n
+IsPlanPerformed below archived reported file (Ok plan) before after visits n =
+    IsPerformed below archived reported file plan before after visits n
 
 -- What the words ask for was done, on disks that hold this below each base folder, where tar files
--- are these and files have these bytes: a plan of them was performed, or they were refused for a
--- reason that they have. Words that clap takes are none that the program doesn't take.
-pub record IsProgram (below : Below) (archived : Archived) (file : ReadableFiles)
-    (words : List (List ℕ)) (before after : OutState) (visits : List Event) (n : ℕ) : Type 0 where
+-- and reports are these and files have these bytes: a plan of them was performed, or they were
+-- refused for a reason that they have. Words that clap takes are none that the program doesn't
+-- take.
+pub record IsProgram (below : Below) (archived : Archived) (reported : Reported)
+    (file : ReadableFiles) (words : List (List ℕ)) (before after : OutState) (visits : List Event)
+    (n : ℕ) : Type 0 where
   pub planned : Result Plan Usage
   pub is_planned : IsPlanned words planned
   pub taken : clap_takes words ≡ true → IsNotRefused planned
-  pub done : IsPlanPerformed below archived file planned before after visits n
+  pub done : IsPlanPerformed below archived reported file planned before after visits n
 
 -- what the words ask for was done, or memory for them ran out, and then nothing is written
-abbrev pub IsProgramOrNone : Below → Archived → ReadableFiles → List (List ℕ) → Deed
-IsProgramOrNone below archived file words before after visits n =
-    IsNothing 3 before after visits n ⊎ IsProgram below archived file words before after visits n
+abbrev pub IsProgramOrNone : Below → Archived → Reported → ReadableFiles → List (List ℕ) → Deed
+IsProgramOrNone below archived reported file words before after visits n =
+    IsNothing 3 before after visits n
+    ⊎ IsProgram below archived reported file words before after visits n
 
 -- where there are no words, nothing is written; else what they ask for without the program's name
 -- was done
-abbrev pub IsDoneFor : Below → Archived → ReadableFiles → Result (List (List ℕ)) Usage → Deed
-IsDoneFor below archived file (Err usage) before after visits n =
+abbrev pub IsDoneFor : Below → Archived → Reported → ReadableFiles
+    → Result (List (List ℕ)) Usage → Deed
+IsDoneFor below archived reported file (Err usage) before after visits n =
     IsNothing (usage_status usage) before after visits n
-IsDoneFor below archived file (Ok words) before after visits n =
-    IsProgramOrNone below archived file (drop 1 words) before after visits n
+IsDoneFor below archived reported file (Ok words) before after visits n =
+    IsProgramOrNone below archived reported file (drop 1 words) before after visits n
 
 -- The program was given one of these answers, and did what it asks for on disks that hold this
--- below each base folder, where tar files are these and files have these bytes; or memory for the
--- words ran out, and then nothing is written.
-abbrev pub IsWholeProgram : (Result (List (List ℕ)) Usage → Type 0) → Below → Archived
+-- below each base folder, where tar files and reports are these and files have these bytes; or
+-- memory for the words ran out, and then nothing is written.
+abbrev pub IsWholeProgram : (Result (List (List ℕ)) Usage → Type 0) → Below → Archived → Reported
     → ReadableFiles → Deed
-IsWholeProgram answers below archived file before after visits n =
+IsWholeProgram answers below archived reported file before after visits n =
     IsNothing 3 before after visits n
     ⊎ ((answer : Result (List (List ℕ)) Usage) × answers answer
-    × IsDoneFor below archived file answer before after visits n)
+    × IsDoneFor below archived reported file answer before after visits n)

@@ -19,8 +19,9 @@ use Rattle.bag_walk.specs.Run.{check_of}
 use Rattle.bag_cli.specs.Honest.{IsReportedMade}
 use Rattle.bag_arguments.specs.declared.plan.Action.TheVariants.{Check}
 use Rattle.bag_arguments.specs.declared.plan.Plan.{Plan}
-use Rattle.bag_cli.specs.Checked.{AreChecksOf, request_of, visit_of}
+use Rattle.bag_cli.specs.Checked.{AreChecksOf, profile_of, request_of, visit_of}
 use Rattle.bag_cli.specs.Makings.{AreMakingsOf, element_of}
+use Rattle.bag_cli.specs.declared.profile_file.SummedProfile.{SummedProfile}
 
 -- of these faults, which are above the cursor, those that a request shows where nothing is refused
 abbrev pub shown_of : Request → List Fault → List Fault
@@ -41,14 +42,15 @@ GivesReport plan profile bag name before after n =
     → (n ≡ status (ideal request (above plan.after report)))
     × Appends before.taken after.taken (concat (reported_lines request (above plan.after report)))
 
--- the law: over an honest disk, the check of one directory, and not of a part of it, gives the report
--- of the bag that stands there
+-- the law: over an honest disk, the check of one directory, and not of a part of it, gives the
+-- report of the bag that stands there
 abbrev pub HonestDisksAreReported : Type 0
 HonestDisksAreReported =
-    (plan : Plan) (profile : Option Profile) (below : List ℕ → DiskState) (name : List ℕ)
+    (plan : Plan) (profile : Option SummedProfile) (below : List ℕ → DiskState) (name : List ℕ)
     (before after : OutState) (visits : List Event) (n : ℕ) → IsTrue (below name).honest
-    → plan.part ≡ None → AreChecksOf plan profile (λ name. tree_state (below name) 0) (name ∷ []) before after visits n
-    → GivesReport plan profile (bag_of (below name).nodes) name before after n
+    → plan.part ≡ None
+    → AreChecksOf plan profile (λ name. tree_state (below name) 0) (name ∷ []) before after visits n
+    → GivesReport plan (profile_of profile) (bag_of (below name).nodes) name before after n
 
 -- The folder's tree was left as the bag that the plan makes of what stood there, which has no fault
 -- where its size can be known and outlasts a power cut. That was said, but for a quiet making.
@@ -69,7 +71,7 @@ HonestFoldersAreMade =
 -- the law: a check of a part never ends with 0, so that nobody takes its verdict for the bag's
 abbrev pub NoPartEndsWithZero : Type 0
 NoPartEndsWithZero =
-    (plan : Plan) (profile : Option Profile) (tree_of : List ℕ → TreeState) (name : List ℕ)
+    (plan : Plan) (profile : Option SummedProfile) (tree_of : List ℕ → TreeState) (name : List ℕ)
     (names : List (List ℕ)) (before after : OutState) (visits : List Event) (n : ℕ)
     → plan.part ≢ None → AreChecksOf plan profile tree_of (name ∷ names) before after visits n
     → n ≢ 0

@@ -14,10 +14,11 @@ use Rattle.bag_tree.specs.declared.listing.Listing.{Listing}
 use Rattle.bag_tree.specs.contracts.answer.Answer as answer
 use Rattle.bag_tree.specs.contracts.event.DeviceEvent as device_event
 use Rattle.bag_tree.specs.contracts.listing.Listing as listing
+use Rattle.bag_join.specs.Reports.{ReportsState}
 use Rattle.bag_tar.specs.Archive.{ArchiveState}
 use Rattle.bag_tar.specs.declared.place.Place.{Place}
 use Rattle.bag_tar.specs.contracts.place.Place as place
-use Rattle.bag_cli.specs.Visits.{Event, Entered, NotGiven, Left, Read, Opened, Shut}
+use Rattle.bag_cli.specs.Visits.{Event, Asked, Closed, Entered, NotGiven, Left, Read, Opened, Shut}
 use Rattle.bag_cli.specs.declared.read_fault.ReadFault.{ReadFault}
 use Rattle.bag_cli.specs.contracts.read_fault.ReadFault as read_fault
 
@@ -104,11 +105,44 @@ coded_archive =
       asked = parts.1.1.1;
     }) (λ _. refl)
 
+abbrev coded_texts : Coded (List (List ℕ))
+coded_texts = coded_list coded_text
+
+abbrev Told : Type 0
+Told = ℕ × (List ℕ × (List (List ℕ) × Bool))
+
+abbrev coded_reports : Coded ReportsState
+coded_reports =
+    code_by (ℕ × (Bool × (List (List ℕ) × Told)))
+    (coded× coded_ℕ (coded× coded_bool (coded× coded_texts
+    (coded× coded_ℕ (coded× coded_text (coded× coded_texts coded_bool))))))
+    (λ state. (
+      state.count,
+      (
+        state.honest,
+        (
+          state.held,
+          (state.open_one, (state.given, (state.earlier, state.has_failed))),
+        ),
+      ),
+    ))
+    (λ parts. record {
+      count = parts.0;
+      honest = parts.1.0;
+      held = parts.1.1.0;
+      open_one = parts.1.1.1.0;
+      given = parts.1.1.1.1.0;
+      earlier = parts.1.1.1.1.1.0;
+      has_failed = parts.1.1.1.1.1.1;
+    }) (λ _. refl)
+
 abbrev Reading : Type 0
 Reading = List ℕ × Result (List ℕ) ReadFault
 
 abbrev Kinds : Type 0
-Kinds = List ℕ ⊎ (List ℕ ⊎ (TreeState ⊎ (Reading ⊎ (List ℕ ⊎ ArchiveState))))
+Kinds =
+    List ℕ ⊎ (List ℕ ⊎ (TreeState ⊎ (Reading ⊎ (List ℕ ⊎ (ArchiveState
+    ⊎ (List (List ℕ) ⊎ ReportsState))))))
 
 abbrev split : Event → Kinds
 split (Entered name) = inl name
@@ -116,7 +150,9 @@ split (NotGiven name) = inr (inl name)
 split (Left state) = inr (inr (inl state))
 split (Read path given) = inr (inr (inr (inl (path, given))))
 split (Opened path) = inr (inr (inr (inr (inl path))))
-split (Shut state) = inr (inr (inr (inr (inr state))))
+split (Shut state) = inr (inr (inr (inr (inr (inl state)))))
+split (Asked paths) = inr (inr (inr (inr (inr (inr (inl paths))))))
+split (Closed state) = inr (inr (inr (inr (inr (inr (inr state))))))
 
 abbrev join : Kinds → Event
 join (inl name) = Entered name
@@ -124,7 +160,9 @@ join (inr (inl name)) = NotGiven name
 join (inr (inr (inl state))) = Left state
 join (inr (inr (inr (inl (path, given))))) = Read path given
 join (inr (inr (inr (inr (inl path))))) = Opened path
-join (inr (inr (inr (inr (inr state))))) = Shut state
+join (inr (inr (inr (inr (inr (inl state)))))) = Shut state
+join (inr (inr (inr (inr (inr (inr (inl paths))))))) = Asked paths
+join (inr (inr (inr (inr (inr (inr (inr state))))))) = Closed state
 
 pub join_split : (event : Event) → join (split event) ≡ event
 join_split (Entered name) = refl
@@ -133,10 +171,13 @@ join_split (Left state) = refl
 join_split (Read path given) = refl
 join_split (Opened path) = refl
 join_split (Shut state) = refl
+join_split (Asked paths) = refl
+join_split (Closed state) = refl
 
 abbrev pub coded_event : Coded Event
 coded_event =
     let coded_read = coded× coded_text (coded_result coded_text read_fault.the_row.coded) in
     code_by Kinds (coded⊎ coded_text (coded⊎ coded_text (coded⊎ coded_state
-    (coded⊎ coded_read (coded⊎ coded_text coded_archive)))))
+    (coded⊎ coded_read (coded⊎ coded_text (coded⊎ coded_archive
+    (coded⊎ coded_texts coded_reports)))))))
     split join join_split

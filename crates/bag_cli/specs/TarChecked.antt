@@ -13,13 +13,13 @@ use Rattle.bag_tar.specs.declared.tar_fault.TarStop.{TarStop}
 use Rattle.bag_tree.specs.Out.{IsCut, OutState}
 use Rattle.bag_tree.specs.Tree.{TreeState}
 use Rattle.bag_tree.specs.declared.out.Refused.{Refused}
-use Rattle.bag_profile.specs.Profile.{Profile}
 use Rattle.bag_arguments.specs.declared.plan.Plan.{Plan}
 use Rattle.bag_cli.specs.Checked.{IsLastCheck, IsWholeCheck}
 use Rattle.bag_cli.specs.InTurn.{AreInTurn, Deed}
 use Rattle.bag_cli.specs.Makings.{IsNotGiven}
 use Rattle.bag_cli.specs.TarLine.{no_tree_line}
 use Rattle.bag_cli.specs.Visits.{Event, Opened, Shut}
+use Rattle.bag_cli.specs.declared.profile_file.SummedProfile.{SummedProfile}
 
 -- what the tar file at each path is
 abbrev pub Archived : Type 0
@@ -86,7 +86,7 @@ IsOpened archive name visits Checks Reports =
     × (((tree : TreeState) × IsTreeOf archive tree × Checks tree own) ⊎ Reports own)
 
 -- a check whose whole report, or the line for no tree, was written, and its status
-abbrev pub IsWholeTarCheck : Plan → Option Profile → ArchiveState → List ℕ → Deed
+abbrev pub IsWholeTarCheck : Plan → Option SummedProfile → ArchiveState → List ℕ → Deed
 IsWholeTarCheck plan profile archive name before after visits n =
     IsOpened archive name visits
     (λ tree own. IsWholeCheck plan profile tree name before after own n)
@@ -94,7 +94,7 @@ IsWholeTarCheck plan profile archive name before after visits n =
 
 -- a check that is the last: the output refused, or memory ran out for the tar file, which was asked
 -- for
-abbrev pub IsLastTarCheck : Plan → Option Profile → ArchiveState → List ℕ
+abbrev pub IsLastTarCheck : Plan → Option SummedProfile → ArchiveState → List ℕ
     → OutState → OutState → List Event → Type 0
 IsLastTarCheck plan profile archive name before after visits =
     IsNotGiven name before after visits
@@ -103,7 +103,7 @@ IsLastTarCheck plan profile archive name before after visits =
     (λ own. (refused : Refused) × IsNoTreeReported archive name before after own (Err refused))
 
 -- the checks of the bags in the tar files of these names, one after the other
-abbrev pub AreTarChecksOf : Plan → Option Profile → Archived → List (List ℕ) → Deed
+abbrev pub AreTarChecksOf : Plan → Option SummedProfile → Archived → List (List ℕ) → Deed
 AreTarChecksOf plan profile archived names before after visits n =
     AreInTurn (λ name. IsLastTarCheck plan profile (archived name) name)
     (λ name. IsWholeTarCheck plan profile (archived name) name)
@@ -111,7 +111,7 @@ AreTarChecksOf plan profile archived names before after visits n =
 
 -- the tar file's bag was checked, or it makes no tree, and that has a status; or that was the last
 -- check
-abbrev pub ChecksTar : {E : Type 0} → Plan → Option Profile → ArchiveState → List ℕ
+abbrev pub ChecksTar : {E : Type 0} → Plan → Option SummedProfile → ArchiveState → List ℕ
     → OutState → OutState → List Event → Result ℕ E → Type 0
 ChecksTar plan profile archive name before after visits answer = MatchResult answer
     (λ n. IsWholeTarCheck plan profile archive name before after visits n)

@@ -8,22 +8,23 @@ use Rattle.bag_tar.specs.declared.tar_fault.TarFault.{TarFault}
 use Rattle.bag_tar.specs.declared.tar_fault.TarFault.TheVariants.{Device, Memory}
 use Rattle.bag_tree.specs.Bag.{Bag}
 use Rattle.bag_tree.specs.Out.{OutState}
-use Rattle.bag_profile.specs.Profile.{Profile}
 use Rattle.bag_arguments.specs.declared.plan.Plan.{Plan}
+use Rattle.bag_cli.specs.Checked.{profile_of}
 use Rattle.bag_cli.specs.Reported.{GivesReport}
 use Rattle.bag_cli.specs.TarChecked.{Archived, AreTarChecksOf, IsLastTarCheck}
 use Rattle.bag_cli.specs.TarLine.{no_tree_line}
 use Rattle.bag_cli.specs.Visits.{Event}
+use Rattle.bag_cli.specs.declared.profile_file.SummedProfile.{SummedProfile}
 
--- the law: over an honest tar file that holds a bag, the check of that one, and not of a part of it,
--- gives the report of the bag, as that of a folder does
+-- the law: over an honest tar file that holds a bag, the check of that one, and not of a part of
+-- it, gives the report of the bag, as that of a folder does
 abbrev pub HonestTarsAreReported : Type 0
 HonestTarsAreReported =
-    (plan : Plan) (profile : Option Profile) (archived : Archived) (name : List ℕ) (bag : Bag)
+    (plan : Plan) (profile : Option SummedProfile) (archived : Archived) (name : List ℕ) (bag : Bag)
     (before after : OutState) (visits : List Event) (n : ℕ) → IsTrue (archived name).honest
     → IsTarOf (archived name).bytes bag → plan.part ≡ None
     → AreTarChecksOf plan profile archived (name ∷ []) before after visits n
-    → GivesReport plan profile bag name before after n
+    → GivesReport plan (profile_of profile) bag name before after n
 
 -- this cause was said, or that the device or memory refused
 abbrev pub IsSaidFor : TarFault → TarFault → Type 0
@@ -35,11 +36,11 @@ IsToldFor cause name before after =
     (said : TarFault) × (member : List ℕ) × IsSaidFor cause said
     × Appends before.taken after.taken (no_tree_line name member said)
 
--- The law: a tar file whose bytes hold no one bag is never found to be good, nor to have faults. The
--- output took the line for its cause, or else that check was the last.
+-- The law: a tar file whose bytes hold no one bag is never found to be good, nor to have faults.
+-- The output took the line for its cause, or else that check was the last.
 abbrev pub NoBagIsUnread : Type 0
 NoBagIsUnread =
-    (plan : Plan) (profile : Option Profile) (archived : Archived) (name : List ℕ)
+    (plan : Plan) (profile : Option SummedProfile) (archived : Archived) (name : List ℕ)
     (cause : TarFault) (before after : OutState) (visits : List Event) (n : ℕ)
     → IsTrue (archived name).honest → contents_of (archived name).bytes ≡ Err cause
     → AreTarChecksOf plan profile archived (name ∷ []) before after visits n

@@ -1,6 +1,7 @@
 -- Which folders and tar files were looked into, as what their trees were left, which couldn't be
--- given, and which files were read beside them.
+-- given, which files were read beside them, and which reports.
 use Rattle.std.specs.Prelude.{ℕ, List, Result}
+use Rattle.bag_join.specs.Reports.{ReportsState}
 use Rattle.bag_tar.specs.Archive.{ArchiveState}
 use Rattle.bag_tree.specs.Tree.{TreeState}
 use Rattle.bag_cli.specs.declared.read_fault.ReadFault.{ReadFault}
@@ -16,3 +17,6 @@ pub data Event : Type 0 where
   -- the tar file at this path was given, or one that made no tree was left as this
   Opened : List ℕ → Event
   Shut : ArchiveState → Event
+  -- the reports at these paths were asked for, or reports were left as these
+  Asked : List (List ℕ) → Event
+  Closed : ReportsState → Event

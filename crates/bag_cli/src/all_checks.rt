@@ -8,9 +8,8 @@ ghost use Rattle.bag_cli.specs.InTurn.{Does, HasVisited};
 
 use crate::check::{check_sample, whole_status};
 use crate::work::Work;
-use crate::{Disks, Halt, Visits};
+use crate::{Disks, Halt, SummedProfile, Visits};
 use bag_arguments::{Action, Plan};
-use bag_profile::Profile;
 use bag_tree::Out;
 use std::alloc::Global;
 
@@ -26,7 +25,7 @@ impl<D: Disks> Work<'_, D> {
     /// Gives the greatest status.
     pub(crate) fn check_each<O: Out, E: Out>(
         &self,
-        profile: Option<&Profile>,
+        profile: Option<&SummedProfile>,
         visits: &mut Visits<D>,
         out: &mut O,
         err: &mut E,
@@ -47,7 +46,7 @@ impl<D: Disks> Work<'_, D> {
     /// Checks the bag of a word: in the folder of this name, or in the tar file, by the plan.
     fn check_word<O: Out, E: Out>(
         &self,
-        profile: Option<&Profile>,
+        profile: Option<&SummedProfile>,
         word: &str,
         visits: &mut Visits<D>,
         out: &mut O,
@@ -60,9 +59,9 @@ impl<D: Disks> Work<'_, D> {
     {
         match &self.plan.action {
             Action::CheckTars => self.check_tar(profile, word, visits, out, err),
-            Action::Sample | Action::Help(_) | Action::Check | Action::Make => self.check_folder(
-                profile, word, visits, out, err,
-            ),
+            Action::Sample | Action::Help(_) | Action::Check | Action::Join | Action::Make => {
+                self.check_folder(profile, word, visits, out, err)
+            }
         }
     }
 }

@@ -3,6 +3,7 @@ ghost use Rattle.std.specs.Prelude.{◌≡◌, IfOk, MatchResult};
 ghost use Rattle.std.specs.Option.{option_copied};
 ghost use Rattle.std.specs.Result.{result_ok};
 ghost use Rattle.bag_cli.specs.Folders.{tree_in, visits_of};
+ghost use Rattle.bag_cli.specs.Checked as checked;
 ghost use Rattle.bag_cli.specs.Checked.{request_of, IsCheckBy};
 ghost use Rattle.bag_cli.specs.Checking.{ChecksFolder, ChecksTree, IsCheckOfSample};
 ghost use Rattle.bag_cli.specs.InTurn.{HasVisited};
@@ -11,7 +12,7 @@ ghost use Rattle.bag_cli.specs.Status as spec;
 use crate::check_outcome::CheckOutcome;
 use crate::sample::sample_tree;
 use crate::work::Work;
-use crate::{Disks, Halt, Visits, say_trouble};
+use crate::{Disks, Halt, SummedProfile, Visits, say_trouble};
 use bag_arguments::Plan;
 use bag_facts::{Fault, Part};
 use bag_profile::Profile;
@@ -26,7 +27,7 @@ impl<D: Disks> Work<'_, D> {
     /// folder is asked for before anything else that takes memory.
     pub(crate) fn check_folder<O: Out, E: Out>(
         &self,
-        profile: Option<&Profile>,
+        profile: Option<&SummedProfile>,
         directory: &str,
         visits: &mut Visits<D>,
         out: &mut O,
@@ -73,7 +74,7 @@ pub(crate) fn check_tree<T: Tree, O: Out>(
     alloc: Global,
     tree: T,
     plan: &Plan,
-    profile: Option<&Profile>,
+    profile: Option<&SummedProfile>,
     name: &str,
     out: &mut O,
 ) -> (T, Result<CheckOutcome, AllocError>)
@@ -95,22 +96,44 @@ fn check_asked<T: Tree, O: Out>(
     alloc: Global,
     tree: T,
     part: Option<Part>,
-    profile: Option<&Profile>,
+    profile: Option<&SummedProfile>,
     request: Request,
     out: &mut O,
 ) -> (T, CheckOutcome)
     ensures { IsCheckBy part (option_copied profile.entry) (T.state tree) (T.state result.0)
         request (O.state out.old) (O.state out.new) result.1 }
 {
+    let own = profile_of(profile);
     match part {
         None => {
-            let (tree, outcome) = run(alloc, tree, profile, request, out);
+            let (tree, outcome) = run(alloc, tree, own, request, out);
             (tree, CheckOutcome::OfBag(outcome))
         }
         Some(part) => {
-            let (tree, outcome) = run_part(alloc, tree, profile, part, request, out);
+            let sum = sum_of(profile);
+            let (tree, outcome) = run_part(alloc, tree, own, sum, part, request, out);
             (tree, CheckOutcome::OfPart(outcome))
         }
+    }
+}
+
+/// The profile that was read.
+fn profile_of(read: Option<&SummedProfile>) -> Option<&Profile>
+    ensures { option_copied result ≡ checked.profile_of (option_copied read.entry) }
+{
+    match read {
+        None => None,
+        Some(read) => Some(&read.profile),
+    }
+}
+
+/// The SHA-256 of the bytes that the profile was read from.
+fn sum_of(read: Option<&SummedProfile>) -> Option<&str>
+    ensures { option_copied result ≡ checked.sum_of (option_copied read.entry) }
+{
+    match read {
+        None => None,
+        Some(read) => Some(read.sum.as_str()),
     }
 }
 

@@ -8,11 +8,10 @@ ghost use Rattle.bag_tar.specs.Archive.{SameArchive};
 ghost use Rattle.std.specs.Prelude.{◌≡◌, [], unwrap_or};
 
 use crate::check::{check_tree, whole_status};
+use crate::file_trouble::say_file_trouble;
 use crate::tar_line::tell_no_tree;
-use crate::tar_trouble::say_tar_trouble;
 use crate::work::Work;
-use crate::{Disks, Halt, Visits};
-use bag_profile::Profile;
+use crate::{Disks, Halt, SummedProfile, Visits};
 use bag_tar::{Archive, TarFault, TarStop, TarTree, name_at};
 use bag_text::{Text, said};
 use bag_tree::{Out, Refused, Tree};
@@ -24,7 +23,7 @@ impl<D: Disks> Work<'_, D> {
     /// what is wrong with the file.
     pub(crate) fn check_tar<O: Out, E: Out>(
         &self,
-        profile: Option<&Profile>,
+        profile: Option<&SummedProfile>,
         name: &str,
         visits: &mut Visits<D>,
         out: &mut O,
@@ -48,7 +47,7 @@ impl<D: Disks> Work<'_, D> {
     fn check_opened<T: Tree + Drop, O: Out>(
         &self,
         tree: T,
-        profile: Option<&Profile>,
+        profile: Option<&SummedProfile>,
         name: &str,
         visits: &mut Visits<D>,
         out: &mut O,
@@ -80,7 +79,7 @@ impl<D: Disks> Work<'_, D> {
         let mut archive = archive;
         let member = member_at(self.alloc, &mut archive, stop);
         let told = tell_no_tree(name, text_of(&member), stop.cause, out);
-        say_tar_trouble(
+        say_file_trouble(
             self.alloc,
             said::PROGRAM,
             name,

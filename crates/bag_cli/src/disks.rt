@@ -1,29 +1,36 @@
 //! What gives the disks that the program looks at.
 ghost use Rattle.std.specs.Prelude.{ℕ, ◌≡◌, ◌≤◌, ⊤, false, List, [], vec_len};
-ghost use Rattle.std.specs.Prelude.{Option, Some, IfOk, IsErrOf};
+ghost use Rattle.std.specs.Prelude.{Option, Some, IfOk, IsErrOf, length};
 ghost use Rattle.bag_disk.specs.Disk.{DiskState};
 ghost use Rattle.bag_disk.specs.SystemDisk.{base_of, system_state};
+ghost use Rattle.bag_join.specs.Reports.{ReportsState};
 ghost use Rattle.bag_tar.specs.Archive.{ArchiveState};
 ghost use Rattle.bag_cli.specs.SystemFile.{MayBeUnread};
+ghost use Rattle.bag_cli.specs.SystemReports.{unread_reports};
 ghost use Rattle.bag_cli.specs.SystemTar.{refused_times};
 ghost use Rattle.bag_cli.specs.declared.read_fault.ReadFault.TheVariants.{Unread};
 
 use crate::read_fault::ReadFault;
 use crate::system_file::{open_file, read_within};
-use crate::{SystemTar, TarTrouble};
+use crate::{FileTrouble, SystemReports, SystemTar};
 use bag_disk::{ReplaceDisk, SystemDisk, Trouble};
+use bag_join::Reports;
 use bag_tar::Archive;
+use bag_text::Text;
 use std::alloc::{AllocError, Global};
 use std::os::fd::AsFd;
 use std::rt::Files;
 
-/// What gives a disk for each base folder, tar files, and the bytes of files.
+/// What gives a disk for each base folder, tar files, reports, and the bytes of files.
 pub trait Disks {
     /// What it gives.
     type Disk: ReplaceDisk + Drop;
 
     /// What it gives for a tar file.
     type Archive: Archive + Drop;
+
+    /// What it gives for reports.
+    type Reports: Reports + Drop;
 
     /// What stands on the disk below each base folder.
     ghost below: { Self → List ℕ → DiskState };
@@ -33,6 +40,9 @@ pub trait Disks {
 
     /// What the tar file at each path is.
     ghost archived: { Self → List ℕ → ArchiveState };
+
+    /// What the reports at each list of paths are.
+    ghost reported: { Self → List (List ℕ) → ReportsState };
 
     /// That the file at a path has these bytes, or none where there is no file that can be read.
     ghost file: { Self → List ℕ → Option (List ℕ) → Type 0 };
@@ -56,7 +66,19 @@ pub trait Disks {
 
     /// Why a tar file can't be read, for people to read, as far as that is known: no contract
     /// speaks of it.
-    fn tar_trouble<'a>(&self, _archive: &'a Self::Archive) -> Option<&'a TarTrouble> {
+    fn tar_trouble<'a>(&self, _archive: &'a Self::Archive) -> Option<&'a FileTrouble> {
+        None
+    }
+
+    /// The reports at these paths, of which none is open. Each path is one of the system's, and
+    /// leads from no base folder. Where there is no report, that is seen when it is opened.
+    fn reports(&self, alloc: Global, paths: &[Text]) -> Result<Self::Reports, AllocError>
+        ensures state { IfOk result (λ reports.
+            Self.Reports.state reports ≡ reported self.now paths.now) };
+
+    /// Why a report couldn't be read, for people to read, as far as that is known: no contract
+    /// speaks of it.
+    fn report_trouble<'r>(&self, _reports: &'r Self::Reports) -> Option<&'r FileTrouble> {
         None
     }
 
@@ -79,11 +101,15 @@ where
 
     type Archive = SystemTar<R>;
 
+    type Reports = SystemReports<R>;
+
     ghost below = { λ _ _. system_state [] false 0 };
 
     ghost is_below = { λ disk base. base_of disk ≡ base };
 
     ghost archived = { λ _ _. refused_times 0 [] };
+
+    ghost reported = { λ _ paths. unread_reports (length paths) };
 
     ghost file = { λ _ _ _. ⊤ };
 
@@ -99,8 +125,16 @@ where
         SystemTar::open(alloc, self, path)
     }
 
-    fn tar_trouble<'a>(&self, archive: &'a SystemTar<R>) -> Option<&'a TarTrouble> {
+    fn tar_trouble<'a>(&self, archive: &'a SystemTar<R>) -> Option<&'a FileTrouble> {
         archive.trouble()
+    }
+
+    fn reports(&self, alloc: Global, paths: &[Text]) -> Result<SystemReports<R>, AllocError> {
+        SystemReports::at(alloc, self.clone()?, paths)
+    }
+
+    fn report_trouble<'r>(&self, reports: &'r SystemReports<R>) -> Option<&'r FileTrouble> {
+        reports.trouble()
     }
 
     fn read_file(&self, alloc: Global, path: &str, most: u32) -> Result<Vec<u8>, ReadFault> {

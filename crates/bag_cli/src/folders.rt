@@ -3,16 +3,18 @@ ghost use Rattle.std.specs.Prelude.{◌≡◌, ◌≤◌, [], Some, IfOk, IsErrO
 ghost use Rattle.std.specs.Result.{result_map_both};
 ghost use Rattle.bag_store.specs.FileTreeCalls.{disk_of};
 ghost use Rattle.bag_cli.specs.SystemFile.{MayBeUnread};
-ghost use Rattle.bag_cli.specs.Folders.{disks_of, tar_in, tree_in, visits_of, AddsEvent};
-ghost use Rattle.bag_cli.specs.Visits.{Entered, NotGiven, Left, Opened, Read, Shut};
+ghost use Rattle.bag_cli.specs.Folders.{disks_of, reports_in, tar_in, tree_in, visits_of};
+ghost use Rattle.bag_cli.specs.Folders.{AddsEvent};
+ghost use Rattle.bag_cli.specs.Visits.{Asked, Closed, Entered, NotGiven, Left, Opened, Read, Shut};
 ghost use Rattle.bag_cli.specs.declared.read_fault.ReadFault.TheVariants.{Unread};
 
 use crate::disks::Disks;
+use crate::file_trouble::FileTrouble;
 use crate::read_fault::ReadFault;
-use crate::tar_trouble::TarTrouble;
 use crate::visits::Visits;
 use bag_disk::Trouble;
 use bag_store::FileTree;
+use bag_text::Text;
 use bag_tree::Tree;
 use std::alloc::{AllocError, Global};
 
@@ -85,7 +87,7 @@ impl<'d, D: Disks> Folders<'d, D> {
     }
 
     /// Why a tar file can't be read, for people to read, as far as that is known.
-    pub(crate) fn tar_trouble<'t>(&self, archive: &'t D::Archive) -> Option<&'t TarTrouble> {
+    pub(crate) fn tar_trouble<'t>(&self, archive: &'t D::Archive) -> Option<&'t FileTrouble> {
         self.disks.tar_trouble(archive)
     }
 
@@ -94,6 +96,33 @@ impl<'d, D: Disks> Folders<'d, D> {
         ensures { AddsEvent visits.old visits.new (Shut (D.Archive.state archive)) }
     {
         visits.note_of(&archive);
+    }
+
+    /// The reports at these paths, of which none is open. That they are asked for is noted first.
+    pub(crate) fn reports(
+        &self,
+        alloc: Global,
+        paths: &[Text],
+        visits: &mut Visits<D>,
+    ) -> Result<D::Reports, AllocError>
+        ensures state { IfOk result (λ reports. D.Reports.state reports
+            ≡ reports_in D.reported self.now paths.now) }
+        ensures asked { AddsEvent visits.old visits.new (Asked paths.now) }
+    {
+        visits.note_of(&paths);
+        self.disks.reports(alloc, paths)
+    }
+
+    /// Why a report couldn't be read, for people to read, as far as that is known.
+    pub(crate) fn report_trouble<'r>(&self, reports: &'r D::Reports) -> Option<&'r FileTrouble> {
+        self.disks.report_trouble(reports)
+    }
+
+    /// Drops reports, which are left as they are now.
+    pub(crate) fn close(&self, reports: D::Reports, visits: &mut Visits<D>)
+        ensures { AddsEvent visits.old visits.new (Closed (D.Reports.state reports)) }
+    {
+        visits.note_of(&reports);
     }
 
     /// Notes that the tree of this name is given.

@@ -2,6 +2,7 @@
 ghost use Rattle.bag_cli.specs.Reported.{HonestDisksAreReported, HonestFoldersAreMade};
 ghost use Rattle.bag_cli.specs.Reported.{NoPartEndsWithZero};
 ghost use Rattle.bag_cli.specs.Honest.{HonestFoldersAreReported};
+ghost use Rattle.bag_cli.specs.Joined.{HonestReportsAreJoined, VerdictsAreJoined};
 ghost use Rattle.bag_cli.specs.TarReported.{HonestTarsAreReported, NoBagIsUnread};
 
 use bag_tar::laws::an_archive_holds_one_bag;
@@ -23,6 +24,18 @@ pub fn honest_tars_are_reported()
 /// The check of an honest tar file that holds no one bag ends with status 3, and says why.
 pub fn no_bag_is_unread()
     ensures { NoBagIsUnread }
+{}
+
+/// Files that are the whole reports of all parts of one check are joined into the report of one
+/// check.
+pub fn honest_reports_are_joined()
+    ensures { HonestReportsAreJoined }
+{}
+
+/// Where the status of joined reports tells of a bag, just the report of one check was written, of
+/// which all parts were read.
+pub fn verdicts_are_joined()
+    ensures { VerdictsAreJoined }
 {}
 
 /// A check of a part of a bag ends with another status than 0, which is a whole check's alone.

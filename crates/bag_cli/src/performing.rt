@@ -10,9 +10,8 @@ ghost use Rattle.bag_cli.specs.Performed.{AreCheckedBy, IsChecked, IsPerformed, 
 use crate::all_checks::check_samples;
 use crate::unchecked_keys::say_unchecked;
 use crate::work::Work;
-use crate::{Disks, Folders, Halt, Visits, read_profile, refuse_profile};
+use crate::{Disks, Folders, Halt, SummedProfile, Visits, read_profile, refuse_profile};
 use bag_arguments::{Action, Plan};
-use bag_profile::Profile;
 use bag_text::said;
 use bag_tree::{Out, put_pieces};
 use std::alloc::Global;
@@ -25,10 +24,12 @@ use std::alloc::Global;
 /// report began at a cursor, stopped at a limit or is a part's; 2 if the profile is rejected; and 3
 /// if a read or a write failed, memory ran out, or a bag wasn't made. The profile is read first.
 /// If `out` fails, it stops. Unless the status is 2 or 3, `out` took a whole report for each bag
-/// that was checked, and the line of each that was made but for a quiet plan.
+/// that was checked, and the line of each that was made but for a quiet plan; or the report of one
+/// check, into which reports of parts were joined.
 ///
 /// `visits` are those that were made with the folders: each folder of the plan is looked into once
-/// at most, in order, and no other; the profile's file is read once, and no other. Whatever a
+/// at most, in order, and no other; the profile's file is read once, and no other; the reports that
+/// are joined are asked for together, and no folder beside them. Whatever a
 /// folder's status, the next one is asked for; where memory runs out for one, it stops, and that
 /// one was asked for.
 pub fn perform<D: Disks, O: Out, E: Out>(
@@ -42,7 +43,7 @@ pub fn perform<D: Disks, O: Out, E: Out>(
     ensures status { result ≤ 3 }
     ensures performed { Does O.Out visits.old visits.new out.old out.new result
         (IsPerformed (D.below (disks_of folders.now)) (D.archived (disks_of folders.now))
-        (D.file (disks_of folders.now)) plan.now) }
+        (D.reported (disks_of folders.now)) (D.file (disks_of folders.now)) plan.now) }
 {
     let work = Work {
         alloc,
@@ -66,12 +67,14 @@ impl<D: Disks> Work<'_, D> {
         ensures { Does O.Out visits.old visits.new out.old out.new (status_of result)
             (IsPerformed (D.below (disks_of self.now.folders.now))
             (D.archived (disks_of self.now.folders.now))
+            (D.reported (disks_of self.now.folders.now))
             (D.file (disks_of self.now.folders.now)) self.now.plan.now) }
     {
         match &self.plan.action {
             Action::Sample => check_samples(self.alloc, self.plan, out),
             Action::Help(text) => write_text(text.as_str(), out),
             Action::Check | Action::CheckTars => self.check_all(visits, out, err),
+            Action::Join => self.join_reports(visits, out, err),
             Action::Make => self.make_all(visits, out, err),
         }
     }
@@ -94,8 +97,8 @@ impl<D: Disks> Work<'_, D> {
             return self.check_each(None, visits, out, err);
         };
         match read_profile(self.alloc, self.folders, path.as_str(), visits) {
-            Ok(profile) => {
-                let formed = self.in_form(profile);
+            Ok(read) => {
+                let formed = self.in_form(read);
                 self.check_by(&formed, visits, out, err)
             }
             Err(refusal) => Ok(refuse_profile(refusal, err)),
@@ -103,19 +106,25 @@ impl<D: Disks> Work<'_, D> {
     }
 
     /// A profile as it is compared with the plan's bags: those in tar files are serialized.
-    fn in_form(&self, profile: Profile) -> Profile
-        ensures { Some result ≡ in_form self.now.plan.now.action (Some profile) }
+    fn in_form(&self, read: SummedProfile) -> SummedProfile
+        ensures { Some result ≡ in_form self.now.plan.now.action (Some read) }
     {
         match &self.plan.action {
-            Action::CheckTars => profile.for_archives(),
-            Action::Sample | Action::Help(_) | Action::Check | Action::Make => profile,
+            Action::CheckTars => {
+                let SummedProfile { profile, sum } = read;
+                let profile = profile.for_archives();
+                SummedProfile { profile, sum }
+            }
+            Action::Sample | Action::Help(_) | Action::Check | Action::Join | Action::Make => {
+                read
+            }
         }
     }
 
     /// Says which keys of a profile aren't checked, and checks the bags of the plan's words by it.
     fn check_by<O: Out, E: Out>(
         &self,
-        profile: &Profile,
+        read: &SummedProfile,
         visits: &mut Visits<D>,
         out: &mut O,
         err: &mut E,
@@ -124,10 +133,10 @@ impl<D: Disks> Work<'_, D> {
             (AreCheckedBy (AreCheckedAs self.now.plan.now.action
             (D.below (disks_of self.now.folders.now))
             (D.archived (disks_of self.now.folders.now)) self.now.plan.now)
-            self.now.plan.now profile.now) }
+            self.now.plan.now read.now) }
     {
-        say_unchecked(self.plan.quiet, profile, out)?;
-        self.check_each(Some(profile), visits, out, err)
+        say_unchecked(self.plan.quiet, &read.profile, out)?;
+        self.check_each(Some(read), visits, out, err)
     }
 }
 

@@ -81,7 +81,8 @@ fn say_reason<E: Out>(reason: &str, err: &mut E)
 
 /// Hands the line about the key of a profile whose value has a wrong shape to an output.
 fn put_wrong_shape<E: Out>(key: &str, err: &mut E) -> Result<(), Refused>
-    ensures { Writes (E.state err.old) (E.state err.new) (refusals.wrong_shape_line key.now) result }
+    ensures { Writes (E.state err.old) (E.state err.new)
+        (refusals.wrong_shape_line key.now) result }
 {
     put_pieces(err, &[said::PROGRAM, said::PROFILE, said::WRONG_SHAPE])?;
     put_line(key, &["\n"], err)

@@ -3,11 +3,10 @@ ghost use Rattle.std.specs.Prelude.{◌≡◌, ◌≤◌, [], IfOk, length};
 ghost use Rattle.bag_cli.specs.SystemTar.{refused_times, system_tar_state};
 ghost use Rattle.bag_tar.specs.SystemArchive.{no_bytes};
 
-use crate::tar_trouble::{TarTrouble, packing_of};
+use crate::file_trouble::{FileTrouble, expect_file, packing_of};
 use bag_tar::{Archive, AskedPlaces, SystemArchive, Unread};
 use bag_tree::Heard;
 use std::alloc::{AllocError, Global};
-use std::fs;
 use std::rt::Files;
 
 /// A tar file of the system's, of which nothing is promised but how often it refused. Where there
@@ -16,7 +15,7 @@ use std::rt::Files;
 pub struct SystemTar<R: Files> {
     archive: Option<SystemArchive<R>>,
     /// Why there is none, or what stands there in its place, as far as that was seen.
-    trouble: Option<TarTrouble>,
+    trouble: Option<FileTrouble>,
     /// A byte for each refusal, which only clauses read.
     refusals: Heard,
     asked: AskedPlaces,
@@ -41,7 +40,7 @@ impl<R: Files> SystemTar<R> {
     }
 
     /// Why it can't be read, or what stands there in its place.
-    pub(crate) fn trouble(&self) -> Option<&TarTrouble> {
+    pub(crate) fn trouble(&self) -> Option<&FileTrouble> {
         self.trouble.as_ref()
     }
 
@@ -65,17 +64,12 @@ impl<R: Files> SystemTar<R> {
     }
 }
 
-/// Opens the regular file at a path, or where a link there leads. Anything else isn't opened: a
-/// pipe may wait for its other end.
-fn open_file<R: Files>(alloc: Global, rt: &R, path: &str) -> Result<SystemArchive<R>, TarTrouble> {
-    match fs::metadata(rt, path) {
-        Ok(metadata) if metadata.is_file() => match SystemArchive::open(alloc, rt, path) {
-            Ok(archive) => Ok(archive),
-            Err(error) => Err(TarTrouble::of(error)),
-        },
-        Ok(metadata) if metadata.is_dir() => Err(TarTrouble::Folder),
-        Ok(_) => Err(TarTrouble::NoFile),
-        Err(error) => Err(TarTrouble::of(error)),
+/// Opens the regular file at a path.
+fn open_file<R: Files>(alloc: Global, rt: &R, path: &str) -> Result<SystemArchive<R>, FileTrouble> {
+    expect_file(rt, path)?;
+    match SystemArchive::open(alloc, rt, path) {
+        Ok(archive) => Ok(archive),
+        Err(error) => Err(FileTrouble::of(error)),
     }
 }
 

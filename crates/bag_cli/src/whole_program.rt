@@ -25,7 +25,8 @@ pub fn program<D: Disks, O: Out, E: Out>(
 ) -> u8
     ensures { Does O.Out visits.old visits.new out.old out.new result
         (IsProgram (D.below (disks_of folders.now)) (D.archived (disks_of folders.now))
-        (D.file (disks_of folders.now)) (texts_of_words words.now)) }
+        (D.reported (disks_of folders.now)) (D.file (disks_of folders.now))
+        (texts_of_words words.now)) }
 {
     match plan_of(alloc, words) {
         Ok(plan) => perform(alloc, folders, &plan, visits, out, err),
@@ -47,7 +48,7 @@ pub fn run_program<R: Words + AllocGlobal, D: Disks, O: Out, E: Out>(
     ensures { Does O.Out visits.old visits.new out.old out.new result
         (IsWholeProgram (R.answers rt.now)
         (D.below (disks_of folders.now)) (D.archived (disks_of folders.now))
-        (D.file (disks_of folders.now))) }
+        (D.reported (disks_of folders.now)) (D.file (disks_of folders.now))) }
 {
     let alloc = rt.alloc();
     let words = match asked_words(alloc, rt) {

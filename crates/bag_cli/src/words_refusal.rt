@@ -6,7 +6,7 @@ ghost use Rattle.bag_cli.specs.WordsRefusal.{usage_line};
 
 use crate::saying::{say_ended, say_on};
 use bag_arguments::Usage;
-use bag_arguments::said::{NOT_A_PART, PART_OF_DEPTH};
+use bag_arguments::said::{JOIN_WITH_OTHER, NOT_A_PART, PART_OF_DEPTH};
 use bag_text::said;
 use bag_tree::Out;
 
@@ -30,6 +30,7 @@ fn say_usage<E: Out>(usage: &Usage, err: &mut E)
             err,
             &[said::PROGRAM, "--", option.id(), said::NEEDS_VALIDATE, "\n"],
         ),
+        Usage::JoinWithOther => say_on(err, &[said::PROGRAM, JOIN_WITH_OTHER, "\n"]),
         Usage::TwoDepths => say_on(err, &[said::PROGRAM, said::TWO_DEPTHS, "\n"]),
         Usage::AfterSeveral => say_on(err, &[said::PROGRAM, said::AFTER_SEVERAL, "\n"]),
         Usage::AfterNotALine => say_on(err, &[said::PROGRAM, said::AFTER_NOT_A_LINE, "\n"]),

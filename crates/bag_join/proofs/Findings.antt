@@ -15,14 +15,16 @@ use Rattle.bag_facts.specs.declared.fault.Fault.{Fault}
 use Rattle.bag_walk.specs.Ending.{written}
 use Rattle.bag_join.specs.DoneLine.{IsDoneLineOf}
 use Rattle.bag_join.specs.Faults.{AreAfter, last_of}
-use Rattle.bag_join.specs.Findings.{AreFindings, Findings, done_at, faults_at, report_at}
-use Rattle.bag_join.specs.Input.{MayFail}
+use Rattle.bag_join.specs.Findings.{AreFindings, Findings, done_at, faults_at, file_at, keys_at}
+use Rattle.bag_join.specs.Head.{head_of}
+use Rattle.bag_join.specs.Input.{MayFail, ended_lines}
 use Rattle.bag_join.specs.Join.{all_faults}
 use Rattle.bag_join.specs.Reports.{ReportsState}
 use Rattle.bag_join.specs.declared.done_line.DoneLine.{DoneLine}
 use Rattle.bag_join.specs.declared.refusal.Cause.{Cause}
 use Rattle.bag_join.specs.declared.refusal.Cause.TheVariants.{Memory}
 use Rattle.bag_join.proofs.Coming.{after_first, first_after}
+use Rattle.bag_join.proofs.FileLines.{all_ended, all_lines, lines_count}
 use Rattle.bag_join.proofs.Joined.{faults_joined, part_numbered}
 use Rattle.bag_join.proofs.Other.{AreSmall, done_ended, done_front}
 
@@ -99,28 +101,49 @@ after_none last (f ∷ faults) after = (after.0, tt, after.2)
 
 -- the numbers of a closing line fit
 pub small_at : (findings : Findings) (k : ℕ) → AreFindings findings → k < length findings.parts
-    → AreSmall (part_numbered k (length findings.parts)) findings.listed (length (faults_at findings k))
+    → AreSmall findings.subject (part_numbered k (length findings.parts)) (length (faults_at findings k))
 small_at findings k are inside =
     let most = are.most in
     let few = part_few findings k are inside in
     record {
       number = omega arith;
       of = omega arith;
-      files = are.files;
-      bytes = are.bytes;
+      told = are.subject;
       count = omega arith;
     }
 
 -- its closing line, without its end
 abbrev pub front_at : Findings → ℕ → List ℕ
 front_at findings k =
-    done_front findings.name (part_numbered k (length findings.parts)) findings.listed (length (faults_at findings k))
+    done_front findings.subject (part_numbered k (length findings.parts)) (length (faults_at findings k))
 
-pub report_is : (findings : Findings) (k : ℕ)
-    → report_at findings k ≡ concat (written (faults_at findings k)) ++ (front_at findings k ++ codes "\n")
-report_is findings k =
-    ap (λ t. concat (written (faults_at findings k)) ++ t)
-    (done_ended findings.name (part_numbered k (length findings.parts)) findings.listed (length (faults_at findings k)))
+pub file_is : (findings : Findings) (k : ℕ)
+    → file_at findings k
+    ≡ head_of (keys_at findings k) ++ (concat (written (faults_at findings k)) ++ (front_at findings k ++ codes "\n"))
+file_is findings k =
+    ap (λ t. head_of (keys_at findings k) ++ (concat (written (faults_at findings k)) ++ t))
+    (done_ended findings.subject (part_numbered k (length findings.parts)) (length (faults_at findings k)))
+
+-- the lines before its closing line
+abbrev pub lines_at : Findings → ℕ → List (List ℕ)
+lines_at findings k = all_lines (keys_at findings k) (faults_at findings k)
+
+pub file_lines : (findings : Findings) (k : ℕ)
+    → file_at findings k ≡ ended_lines (lines_at findings k) ++ (front_at findings k ++ codes "\n")
+file_lines findings k =
+    file_is findings k
+    ∙ sym (append_assoc (head_of (keys_at findings k)) (concat (written (faults_at findings k)))
+    (front_at findings k ++ codes "\n"))
+    ∙ ap (λ t. t ++ (front_at findings k ++ codes "\n"))
+    (sym (all_ended (keys_at findings k) (faults_at findings k)))
+
+pub few_at : (findings : Findings) (k : ℕ) → AreFindings findings → k < length findings.parts
+    → length (lines_at findings k) + 2 < 2 ^ 64
+few_at findings k are inside =
+    let few = part_few findings k are inside in
+    let keys = are.few_keys k inside in
+    let sum = lines_count (keys_at findings k) (faults_at findings k) in
+    omega arith
 
 pub is_said : (findings : Findings) (k : ℕ) → AreFindings findings → k < length findings.parts
     → IsDoneLineOf (front_at findings k ++ codes "\n") (done_at findings k)
@@ -129,14 +152,12 @@ is_said findings k are inside =
     record {
       said_so =
           record {
-            name = are.name;
+            subject = are.subject;
             part = record { below = inside; most = are.most };
-            files = are.files;
-            bytes = are.bytes;
             count = omega arith;
           };
       text_is =
-          sym (done_ended findings.name (part_numbered k (length findings.parts)) findings.listed
+          sym (done_ended findings.subject (part_numbered k (length findings.parts))
           (length (faults_at findings k)));
     }
 

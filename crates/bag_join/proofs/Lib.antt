@@ -1,11 +1,14 @@
 pub mod Ahead
+pub mod Asked
 pub mod Closing
 pub mod Coming
 pub mod Ends
 pub mod Faults
+pub mod FileLines
 pub mod Findings
 pub mod HeldAt
 pub mod Joined
+pub mod KeyLines
 pub mod LastLine
 pub mod LawsHold
 pub mod Left
@@ -16,4 +19,5 @@ pub mod Placing
 pub mod Plain
 pub mod Turns
 pub mod Walk
+pub mod WholeReport
 pub mod Words

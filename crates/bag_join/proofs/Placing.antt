@@ -10,7 +10,7 @@ use Rattle.std.proofs.lemmas.List.FromFn.{get_or-range_with_len, length-range_wi
 use Rattle.std.proofs.lemmas.List.Sorted.{All-permutation, Contains-permutation, IsPermutation-keeps, length_permutation}
 use Rattle.std.proofs.lemmas.Option.{slice_get-get_or, slice_get-map}
 use Rattle.std.proofs.lemmas.Bool.{cases_eq}
-use Rattle.bag_join.specs.Findings.{AreWhole, Findings, report_at}
+use Rattle.bag_join.specs.Findings.{AreWhole, Findings, file_at}
 use Rattle.bag_join.specs.Reports.{ReportsState, SameReports}
 
 -- an order of the numbers below n, each once
@@ -165,27 +165,27 @@ fills_next n order places new number is more fills grown =
 -- what the report at a place of the order holds
 pub held_at : (findings : Findings) (reports : ReportsState) → (whole : AreWhole findings reports) → (j : ℕ)
     → j < length findings.parts
-    → slice_get reports.held j ≡ Some (report_at findings (get_or whole.order j 0))
+    → slice_get reports.held j ≡ Some (file_at findings (get_or whole.order j 0))
 held_at findings reports whole j inside =
     let is = order_is (length findings.parts) whole.order whole.each_once in
     let size = is.size in
     ap (λ (l : List (List ℕ)). slice_get l j) whole.held
-    ∙ slice_get-map (report_at findings) whole.order j
-    ∙ ap (λ o. option_map (report_at findings) o) (slice_get-get_or whole.order j 0 (omega arith))
+    ∙ slice_get-map (file_at findings) whole.order j
+    ∙ ap (λ o. option_map (file_at findings) o) (slice_get-get_or whole.order j 0 (omega arith))
 
 -- there are as many as parts
 pub held_count : (findings : Findings) (reports : ReportsState) → AreWhole findings reports
     → reports.count ≡ length findings.parts
 held_count findings reports whole =
     let is = order_is (length findings.parts) whole.order whole.each_once in
-    whole.count ∙ ap length whole.held ∙ length-map whole.order (report_at findings) ∙ is.size
+    whole.count ∙ ap length whole.held ∙ length-map whole.order (file_at findings) ∙ is.size
 
 -- what is known when the turn of a report has come to be planned
 pub record IsPlanned (findings : Findings) (now : ReportsState) (part report : ℕ) : Type 0 where
   pub below : part < length findings.parts
   pub honest : IsTrue now.honest
   pub there : report < now.count
-  pub held : slice_get now.held report ≡ Some (report_at findings part)
+  pub held : slice_get now.held report ≡ Some (file_at findings part)
 
 pub is_planned : (findings : Findings) (old now : ReportsState) (report : ℕ) → SameReports old now
     → (whole : AreWhole findings old) → report < length findings.parts
@@ -205,7 +205,7 @@ pub all_placed : (findings : Findings) (old now : ReportsState) (places : List (
     → SameReports old now → (whole : AreWhole findings old) → number ≡ length findings.parts
     → FillsFirst whole.order places number → (k : ℕ) → k < length findings.parts
     → (report : ℕ) × (slice_get places k ≡ Some (Some report)) × (report < now.count)
-    × (slice_get now.held report ≡ Some (report_at findings k))
+    × (slice_get now.held report ≡ Some (file_at findings k))
 all_placed findings old now places number same whole all fills k inside =
     let is = order_is (length findings.parts) whole.order whole.each_once in
     let found = is.reaches k inside in
@@ -213,5 +213,5 @@ all_placed findings old now places number same whole all fills k inside =
       found.0,
       subst (λ m. slice_get places m ≡ Some (Some found.0)) found.2 (fills.taken found.0 (omega arith)),
       planned.there,
-      subst (λ m. slice_get now.held found.0 ≡ Some (report_at findings m)) found.2 planned.held,
+      subst (λ m. slice_get now.held found.0 ≡ Some (file_at findings m)) found.2 planned.held,
     )

@@ -1,5 +1,5 @@
 -- Reports of parts, written in turn.
-use Rattle.std.proofs.Common.{◌≡◌, ℕ, ◌+◌, ◌<◌, ◌++◌, List, [], Option, None, Some, length, get_or, arith, IsTrue}
+use Rattle.std.proofs.Common.{◌≡◌, ℕ, ◌+◌, ◌<◌, ◌++◌, ◌∷◌, List, [], Option, None, Some, length, get_or, arith, IsTrue}
 use Rattle.std.proofs.Common.{refl, sym, ap, ◌∙◌, subst, codes}
 use Rattle.std.specs.List.{slice_get}
 use Rattle.std.specs.Io.KnownBytes.{Appends}
@@ -9,16 +9,18 @@ use Rattle.bag_tree.specs.Out.{OutState}
 use Rattle.std.proofs.lemmas.Option.{slice_get-get_or}
 use Rattle.bag_facts.specs.declared.fault.Fault.{Fault}
 use Rattle.bag_walk.specs.Ending.{ended, written}
-use Rattle.bag_walk.specs.PartRuns.{done_line}
+use Rattle.bag_join.specs.DoneLine.{line_for}
 use Rattle.bag_walk.specs.declared.outcome.Outcome.{Outcome}
-use Rattle.bag_join.specs.Faults.{AreAfter, AreAhead, IsOther, WritesFaults}
-use Rattle.bag_join.specs.Findings.{AreFindings, Findings, IsPlanFor, IsReportOf, IsTurnOf, faults_at, report_at}
+use Rattle.bag_join.specs.Faults.{AreAfter, IsOther, WritesFaults}
+use Rattle.bag_join.specs.Findings.{AreFindings, Findings, IsPlanFor, IsReportOf, IsTurnOf, faults_at, file_at, keys_at}
+use Rattle.bag_join.specs.Head.{IsUnchecked, head_of}
 use Rattle.bag_join.specs.Input.{HoldsAhead}
 use Rattle.bag_join.specs.Join.{all_faults, full_closing}
 use Rattle.bag_join.specs.Reports.{ReportsState, SameReports}
 use Rattle.bag_join.specs.declared.plan.Plan.{Plan}
+use Rattle.bag_join.proofs.FileLines.{closing_says_none}
 use Rattle.bag_join.proofs.Faults.{writes_none, writes_on}
-use Rattle.bag_join.proofs.Findings.{before_part, front_at, part_after, part_few, parts_all, parts_more, report_is, small_at}
+use Rattle.bag_join.proofs.Findings.{before_part, front_at, part_after, part_few, parts_all, parts_more, file_is, small_at}
 use Rattle.bag_join.proofs.Joined.{part_numbered}
 use Rattle.bag_join.proofs.Other.{done_ended, done_is_other}
 
@@ -26,27 +28,29 @@ use Rattle.bag_join.proofs.Other.{done_ended, done_is_other}
 pub front_is_other : (findings : Findings) (k : ℕ) → AreFindings findings → k < length findings.parts
     → IsOther (front_at findings k)
 front_is_other findings k are inside =
-    done_is_other findings.name (part_numbered k (length findings.parts)) findings.listed
+    done_is_other findings.subject (part_numbered k (length findings.parts))
     (length (faults_at findings k)) (small_at findings k are inside)
+
+-- it says of no key that it isn't checked
+pub front_says_none : (findings : Findings) (k : ℕ) → IsUnchecked (front_at findings k) → ⊥
+front_says_none findings k =
+    closing_says_none findings.subject (part_numbered k (length findings.parts)) (length (faults_at findings k))
 
 -- what the plan expects it to be
 pub front_planned : (findings : Findings) (reports : ReportsState) (plan : Plan) (k n of : ℕ)
     → IsPlanFor findings reports plan → n ≡ length (faults_at findings k) → of ≡ length findings.parts
-    → front_at findings k ++ codes "\n" ≡ done_line plan.name (part_numbered k of) plan.listed n
+    → front_at findings k ++ codes "\n" ≡ line_for plan.subject (part_numbered k of) n
 front_planned findings reports plan k n of planned count parts =
-    sym (done_ended findings.name (part_numbered k (length findings.parts)) findings.listed
-    (length (faults_at findings k)))
-    ∙ ap (λ m. done_line findings.name (part_numbered k (length findings.parts)) findings.listed m) (sym count)
-    ∙ ap (λ m. done_line findings.name (part_numbered k m) findings.listed n) (sym parts)
-    ∙ ap (λ l. done_line findings.name (part_numbered k of) l n) (sym planned.listed)
-    ∙ ap (λ t. done_line t (part_numbered k of) plan.listed n) (sym planned.name)
+    sym (done_ended findings.subject (part_numbered k (length findings.parts)) (length (faults_at findings k)))
+    ∙ ap (λ m. line_for findings.subject (part_numbered k (length findings.parts)) m) (sym count)
+    ∙ ap (λ m. line_for findings.subject (part_numbered k m) n) (sym parts)
+    ∙ ap (λ s. line_for s (part_numbered k of) n) (sym planned.subject)
 
 -- the plan is for the same reports
 pub same_plan : (findings : Findings) (old new : ReportsState) (plan : Plan) → SameReports old new
     → IsPlanFor findings old plan → IsPlanFor findings new plan
 same_plan findings old new plan same planned = record {
-  name = planned.name;
-  listed = planned.listed;
+  subject = planned.subject;
   parts = planned.parts;
   placed =
       λ k inside.
@@ -98,7 +102,7 @@ turn_comes findings old now plan k report total last before mid are honest plann
       planned = same_plan findings old now plan same planned;
       below = inside;
       there = subst (λ m. m < now.count) found here.2;
-      held = subst (λ m. slice_get now.held m ≡ Some (report_at findings k)) found here.3;
+      held = subst (λ m. slice_get now.held m ≡ Some (file_at findings k)) found here.3;
       after = subst (λ o. AreAfter o (faults_at findings k)) (sym first.last_is) (part_after findings k are inside);
       few = omega arith;
     }
@@ -127,21 +131,22 @@ place_at places items k o same inside is =
 
 -- what is ahead in the report of a part
 pub turn_ahead : (findings : Findings) (opened : ReportsState) (passed : List ℕ) (k : ℕ)
-    → HoldsAhead opened passed (report_at findings k)
-    → AreAhead opened passed (faults_at findings k) (front_at findings k) []
+    → HoldsAhead opened passed (file_at findings k)
+    → HoldsAhead opened passed (head_of (keys_at findings k)
+    ++ (concat (written (faults_at findings k)) ++ (front_at findings k ++ 10 ∷ [])))
 turn_ahead findings opened passed k holds =
-    subst (λ text. HoldsAhead opened passed text) (report_is findings k) holds
+    subst (λ text. HoldsAhead opened passed text) (file_is findings k) holds
 
 -- all was written, and the closing line
 pub report_written : (findings : Findings) (name : List ℕ) (last : Option Fault) (before mid after : OutState) (n : ℕ)
-    (outcome : Outcome) → name ≡ findings.name
+    (outcome : Outcome) → name ≡ findings.subject.name
     → WritesFaults None last before mid n (all_faults findings.parts)
     → Appends mid.taken after.taken (full_closing name n) → outcome ≡ ended None n
     → IsReportOf findings before after outcome
 report_written findings name last before mid after n outcome called wrote closes ends = (
   ends ∙ ap (λ k. ended None k) wrote.count,
   Appends-append before.taken mid.taken after.taken (concat (written (all_faults findings.parts)))
-      (full_closing findings.name (length (all_faults findings.parts))) wrote.wrote
-      (subst (λ k. Appends mid.taken after.taken (full_closing findings.name k)) wrote.count
+      (full_closing findings.subject.name (length (all_faults findings.parts))) wrote.wrote
+      (subst (λ k. Appends mid.taken after.taken (full_closing findings.subject.name k)) wrote.count
       (subst (λ t. Appends mid.taken after.taken (full_closing t n)) called closes)),
 )

@@ -1,5 +1,5 @@
 -- Reports that are read line by line.
-use Rattle.std.specs.Prelude.{ℕ, ◌≡◌, ◌≢◌, ◌++◌, ◌≤◌, ◌<◌, Bool, true, List, [], IsTrue, Some}
+use Rattle.std.specs.Prelude.{ℕ, ◌≡◌, ◌≢◌, ◌++◌, ◌≤◌, ◌<◌, ◌∷◌, Bool, true, List, [], IsTrue, Some}
 use Rattle.std.specs.Prelude.{codes, if◌then◌else◌, slice_get, slice_range, length, All, ⊤}
 use Rattle.bag_tree.specs.Out.{OutState}
 use Rattle.bag_join.specs.Reports.{HoldsOpen, ReportsState}
@@ -26,6 +26,15 @@ IsPassed state passed =
 -- no line ends within it
 abbrev pub HasNoEnd : List ℕ → Type 0
 HasNoEnd line = All (λ byte. byte ≢ 10) line
+
+-- lines with their ends, one after another
+abbrev pub ended_lines : List (List ℕ) → List ℕ
+ended_lines [] = []
+ended_lines (line ∷ lines) = line ++ 10 ∷ ended_lines lines
+
+abbrev pub AreLines : List (List ℕ) → Type 0
+AreLines [] = ⊤
+AreLines (line ∷ lines) = HasNoEnd line × AreLines lines
 
 -- of honest reports, the open one holds what has passed, and then this
 pub record HoldsAhead (state : ReportsState) (passed rest : List ℕ) : Type 0 where

@@ -1,6 +1,7 @@
 pub mod DoneLine
 pub mod Faults
 pub mod Findings
+pub mod Head
 pub mod Held
 pub mod Input
 pub mod Join

@@ -79,7 +79,7 @@ fn join_input<R: Reports, W: Out>(
     let plan = plan_of(alloc, input)?;
     write_parts(alloc, input, &plan, &mut Nowhere)?;
     let count = write_again(alloc, input, &plan, out)?;
-    let outcome = close(plan.name.as_str(), count, out)?;
+    let outcome = close(plan.subject.name.as_str(), count, out)?;
     Ok(outcome)
 }
 
@@ -91,7 +91,7 @@ fn write_again<R: Reports, W: Out>(
     out: &mut W,
 ) -> Result<u64, Refusal>
     ensures joins { IfOk result (λ n. (last : Option FaultValue)
-        × JoinsFirst plan.now.name plan.now.listed (vec_len plan.now.places)
+        × JoinsFirst plan.now.subject (vec_len plan.now.places)
         (R.state input.old.reports) (R.state input.new.reports) last
         (W.state out.old) (W.state out.new) (vec_len plan.now.places) n) }
     ensures late { IfErr result (λ refusal. ¬ (IsSeenFirst refusal.cause)) }
@@ -146,6 +146,7 @@ fn after_looking(refusal: Refusal) -> Refusal
         | Cause::BagUnread
         | Cause::OtherBag
         | Cause::OtherFiles
+        | Cause::OtherOptions
         | Cause::OtherNumber
         | Cause::Twice
         | Cause::Missing

@@ -1,6 +1,11 @@
 //! Laws of the definitions, each the contract of a function that does nothing.
-ghost use Rattle.bag_join.specs.Laws.{ClosesAsOneCheck, PartsAreWhole, PartsOfReportJoin};
-ghost use Rattle.bag_join.specs.Laws.{RunWritesJoined};
+ghost use Rattle.bag_join.specs.Laws.{ClosesAsOneCheck, FieldsAreKeys, PartsAreWhole};
+ghost use Rattle.bag_join.specs.Laws.{PartsOfReportJoin, RunWritesJoined};
+
+/// A key of a profile is written as `join` passes it over.
+pub fn fields_are_keys()
+    ensures { FieldsAreKeys }
+{}
 
 /// Parts of one report, joined, have its faults.
 pub fn parts_of_report_join()

@@ -9,13 +9,15 @@
 //! what files it is, and how many faults it found. `join` reads the reports of all parts, in any
 //! order, and writes what one check would have written.
 //!
-//! Each report is read three times: for its closing line, to see that all of it is whole and in
+//! Lines `unchecked KEY` may stand before a report, as a check with a profile writes them; they are
+//! passed over. Each report is read three times: for its closing line, to see that all of it is whole and in
 //! order, and once more while it is written. What is joined is what was read last: it was whole,
 //! whatever was read before. Memory is needed for one line at a time, and a place for each part.
 #![tactic(auto)]
 
 mod done_line;
 mod fault_lines;
+mod head;
 mod held;
 mod input;
 mod joining;
@@ -27,8 +29,8 @@ mod plan;
 mod refusal;
 mod reports;
 
-pub use done_line::DoneLine;
-pub use held::HeldReports;
+pub use done_line::{DoneLine, Subject};
+pub use held::{HeldReports, Told};
 pub use joining::join;
 pub use refusal::{Cause, Refusal};
 pub use reports::{Reports, Unreadable};

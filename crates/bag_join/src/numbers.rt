@@ -1,5 +1,8 @@
 //! Numbers between words of a line.
-ghost use Rattle.std.specs.Prelude.{◌≡◌, ◌<◌, ◌^◌, ◌++◌, ◌∷◌, List, ℕ, MatchOption, decimal};
+ghost use Rattle.std.specs.Prelude.{◌≡◌, ◌≢◌, ◌+◌, ◌<◌, ◌^◌, ◌++◌, ◌∷◌, List, ℕ, MatchOption, decimal};
+ghost use Rattle.std.specs.Prelude.{IfErr, IfOk, MatchResult, ⊤};
+
+use crate::refusal::Cause;
 
 /// The number that stands after a word, and what stands behind its end, where a text is written
 /// so; of another text some number, or none.
@@ -34,5 +37,17 @@ pub(crate) fn count_after<'a>(text: &'a str, word: &str, end: char) -> Option<(u
     match u64::try_from(number) {
         Ok(count) => Some((count, rest)),
         Err(_) => None,
+    }
+}
+
+/// The sum of two counts, which no reports that fit on a disk exceed.
+pub(crate) fn plus(total: u64, count: u64) -> Result<u64, Cause>
+    ensures sum { IfOk result (λ sum. sum ≡ total + count) }
+    ensures fits { total + count < 2 ^ 64 → MatchResult result (λ _. ⊤) (λ _. ⊥) }
+    ensures other { IfErr result (λ cause. cause ≢ Cause.Output) }
+{
+    match total.checked_add(count) {
+        Some(sum) => Ok(sum),
+        None => Err(Cause::OtherCount),
     }
 }

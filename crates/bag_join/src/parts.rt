@@ -1,6 +1,6 @@
 //! Reports of parts, written one after the other.
-ghost use Rattle.std.specs.Prelude.{◌≡◌, ◌≢◌, ◌+◌, ◌<◌, ◌^◌, IfErr, IfOk, IsTrue, MatchResult, None};
-ghost use Rattle.std.specs.Prelude.{OnOk, Option, vec_len, ⊤, ℕ};
+ghost use Rattle.std.specs.Prelude.{◌≡◌, ◌+◌, IfErr, IfOk, IsTrue, MatchResult, None};
+ghost use Rattle.std.specs.Prelude.{OnOk, Option, vec_len, ℕ};
 ghost use Rattle.bag_facts.specs.declared.fault.Fault.{Fault as FaultValue};
 ghost use Rattle.bag_join.specs.Faults.{LeavesLines, WritesFaults};
 ghost use Rattle.bag_join.specs.Findings.{AreFindings, Findings, IsPlanFor, IsTurnOf, faults_at};
@@ -9,8 +9,9 @@ ghost use Rattle.bag_join.specs.Join.{JoinsFirst, JoinsPart, all_faults};
 ghost use Rattle.bag_join.specs.Reports.{SameReports};
 
 use crate::done_line::is_done_line;
-use crate::fault_lines::write_faults;
+use crate::fault_lines::write_report;
 use crate::input::Input;
+use crate::numbers::plus;
 use crate::plan::Plan;
 use crate::refusal::{Cause, Refusal};
 use crate::reports::Reports;
@@ -27,7 +28,7 @@ pub(crate) fn write_parts<R: Reports, W: Out>(
     out: &mut W,
 ) -> Result<u64, Refusal>
     ensures joins { IfOk result (λ n. (last : Option FaultValue)
-        × JoinsFirst plan.now.name plan.now.listed (vec_len plan.now.places)
+        × JoinsFirst plan.now.subject (vec_len plan.now.places)
         (R.state input.old.reports) (R.state input.new.reports) last
         (W.state out.old) (W.state out.new) (vec_len plan.now.places) n) }
     ensures same { OnOk result
@@ -74,7 +75,7 @@ fn write_next<R: Reports, W: Out>(
     out: &mut W,
 ) -> Result<u64, Cause>
     ensures joins { IfOk result (λ sum. (n : ℕ) × (sum ≡ total + n)
-        × JoinsPart plan.now.name plan.now.listed
+        × JoinsPart plan.now.subject
         (record { number = number; of = vec_len plan.now.places })
         (R.state input.old.reports) (R.state input.new.reports) last.old last.new
         (W.state out.old) (W.state out.new) n) }
@@ -90,27 +91,14 @@ fn write_next<R: Reports, W: Out>(
 {
     input.open(report)?;
     let mut line = Vec::new(alloc);
-    let count = write_faults(alloc, input, &mut line, last, out)?;
+    let count = write_report(alloc, input, &mut line, last, out)?;
     let Some(part) = Part::new(number, plan.places.len() as u64) else {
         return Err(Cause::Missing);
     };
-    let name = plan.name.as_str();
-    if !is_done_line(alloc, name, part, plan.listed, count, line.as_slice())? {
+    if !is_done_line(alloc, &plan.subject, part, count, line.as_slice())? {
         return Err(Cause::OtherCount);
     }
     input.expect_end()?;
     let sum = plus(total, count)?;
     Ok(sum)
-}
-
-/// The sum of two counts, which no reports that fit on a disk exceed.
-fn plus(total: u64, count: u64) -> Result<u64, Cause>
-    ensures sum { IfOk result (λ sum. sum ≡ total + count) }
-    ensures fits { total + count < 2 ^ 64 → MatchResult result (λ _. ⊤) (λ _. ⊥) }
-    ensures other { IfErr result (λ cause. cause ≢ Cause.Output) }
-{
-    match total.checked_add(count) {
-        Some(sum) => Ok(sum),
-        None => Err(Cause::OtherCount),
-    }
 }

@@ -1,17 +1,14 @@
 //! Which report is of which part.
-ghost use Rattle.std.specs.Prelude.{◌≡◌, ◌<◌, ◌≤◌, ◌^◌, ◌++◌, IfErr, IfOk, IsTrue, List, MatchResult};
+ghost use Rattle.std.specs.Prelude.{◌≡◌, ◌↔◌, ◌+◌, ◌<◌, ◌≤◌, ◌^◌, ◌++◌, IfErr, IfOk, IsTrue, List, MatchResult};
 ghost use Rattle.std.specs.Prelude.{OnOk, codes, length, replicate, slice_get, slice_set, vec_len, ℕ};
-ghost use Rattle.std.specs.List.{concat};
-ghost use Rattle.bag_facts.specs.declared.fault.Fault.{Fault as FaultValue};
+ghost use Rattle.std.specs.Option.{option_copied};
 ghost use Rattle.bag_join.specs.DoneLine.{IsDoneLineOf};
-ghost use Rattle.bag_join.specs.Faults.{AreAfter, IsOther};
-ghost use Rattle.bag_join.specs.Findings.{AreFindings, AreWhole, Findings, IsPlanFor, done_at, report_at};
-ghost use Rattle.bag_join.specs.Input.{MayFail};
+ghost use Rattle.bag_join.specs.Findings.{AreFindings, AreWhole, Findings, IsPlanFor, done_at, file_at};
+ghost use Rattle.bag_join.specs.Input.{AreLines, HasNoEnd, MayFail, ended_lines};
 ghost use Rattle.bag_join.specs.Reports.{SameReports};
 ghost use Rattle.bag_join.specs.declared.done_line.DoneLine.{DoneLine as DoneLineValue};
-ghost use Rattle.bag_walk.specs.Ending.{written};
 
-use crate::done_line::DoneLine;
+use crate::done_line::{DoneLine, Subject};
 use crate::input::{Input, LINE_FEED};
 use crate::refusal::{Cause, Refusal};
 use crate::reports::Reports;
@@ -23,8 +20,7 @@ use std::{mem, str};
 /// What all closing lines say alike, and of each part which report is its own, if one is.
 #[derive(Drop)]
 pub(crate) struct Plan {
-    pub(crate) name: Text,
-    pub(crate) listed: Listed,
+    pub(crate) subject: Subject,
     pub(crate) places: Vec<Option<u64>>,
 }
 
@@ -39,9 +35,8 @@ pub(crate) fn plan_of<R: Reports>(alloc: Global, input: &mut Input<R>) -> Result
         (λ refusal. MayFail refusal.cause (R.state input.new.reports)) }
 {
     let DoneLine {
-        name,
+        subject,
         part,
-        listed,
         count: _,
     } = closing_of(alloc, input, 0)?;
     let mut places = match no_places(alloc, part.of() as usize) {
@@ -50,15 +45,11 @@ pub(crate) fn plan_of<R: Reports>(alloc: Global, input: &mut Input<R>) -> Result
     };
     'reports: for number in 0..input.count() {
         let said = closing_of(alloc, input, number)?;
-        if let Err(cause) = take_place(&name, listed, &said, number, &mut places) {
+        if let Err(cause) = take_place(&subject, &said, number, &mut places) {
             return Err(Refusal { number, cause });
         }
     }
-    Ok(Plan {
-        name,
-        listed,
-        places,
-    })
+    Ok(Plan { subject, places })
 }
 
 /// So many places, without reports.
@@ -73,27 +64,28 @@ fn no_places(alloc: Global, parts: usize) -> Result<Vec<Option<u64>>, Cause>
 
 /// Notes of which part a report is, if it goes with the first one.
 fn take_place(
-    name: &Text,
-    listed: Listed,
+    subject: &Subject,
     said: &DoneLine,
     number: u64,
     places: &mut Vec<Option<u64>>,
 ) -> Result<(), Cause>
     ensures size { vec_len places.new ≡ vec_len places.old }
-    ensures takes { said.now.name ≡ name.now → said.now.listed ≡ listed
-        → said.now.part.of ≡ vec_len places.old
+    ensures takes { said.now.subject ≡ subject.now → said.now.part.of ≡ vec_len places.old
         → slice_get places.old.items said.now.part.number ≡ Some None
         → MatchResult result (λ _. places.new.items
         ≡ slice_set places.old.items said.now.part.number (Some number)) (λ _. ⊥) }
 {
-    if said.name != *name {
+    if said.subject.name != subject.name {
         return Err(Cause::OtherBag);
     }
     if said.part.of() != places.len() as u64 {
         return Err(Cause::OtherNumber);
     }
-    if said.listed.files != listed.files || said.listed.bytes != listed.bytes {
+    if !are_same_files(said.subject.listed, subject.listed) {
         return Err(Cause::OtherFiles);
+    }
+    if !are_same_options(&said.subject, subject) {
+        return Err(Cause::OtherOptions);
     }
     let place = &mut places[said.part.number() as usize];
     if place.is_some() {
@@ -101,6 +93,30 @@ fn take_place(
     }
     *place = Some(number);
     Ok(())
+}
+
+fn are_same_files(one: Listed, other: Listed) -> bool
+    ensures { IsTrue result ↔ (one ≡ other) }
+{
+    one.files == other.files && one.bytes == other.bytes
+}
+
+/// Whether both were checked with the same options and profile.
+fn are_same_options(one: &Subject, other: &Subject) -> bool
+    ensures { IsTrue result ↔ ((one.now.clashes ≡ other.now.clashes)
+        × (one.now.profile ≡ other.now.profile)) }
+{
+    one.clashes == other.clashes && are_same_texts(one.profile.as_ref(), other.profile.as_ref())
+}
+
+fn are_same_texts(one: Option<&Text>, other: Option<&Text>) -> bool
+    ensures { IsTrue result ↔ (option_copied one.entry ≡ option_copied other.entry) }
+{
+    match (one, other) {
+        (Some(one), Some(other)) => one == other,
+        (None, None) => true,
+        (None, Some(_)) | (Some(_), None) => false,
+    }
 }
 
 /// What the closing line of a report says.
@@ -113,7 +129,7 @@ fn closing_of<R: Reports>(
         (SameReports (R.state input.old.reports) (R.state input.new.reports)) }
     ensures whole { (findings : Findings) (k : ℕ) → AreFindings findings → k < length findings.parts
         → IsTrue (R.state input.old.reports).honest → number < (R.state input.old.reports).count
-        → slice_get (R.state input.old.reports).held number ≡ Some (report_at findings k)
+        → slice_get (R.state input.old.reports).held number ≡ Some (file_at findings k)
         → MatchResult result (λ said. said ≡ done_at findings k)
         (λ refusal. MayFail refusal.cause (R.state input.new.reports)) }
 {
@@ -132,7 +148,7 @@ fn read_closing<R: Reports>(
         (SameReports (R.state input.old.reports) (R.state input.new.reports)) }
     ensures whole { (findings : Findings) (k : ℕ) → AreFindings findings → k < length findings.parts
         → IsTrue (R.state input.old.reports).honest → number < (R.state input.old.reports).count
-        → slice_get (R.state input.old.reports).held number ≡ Some (report_at findings k)
+        → slice_get (R.state input.old.reports).held number ≡ Some (file_at findings k)
         → MatchResult result (λ said. said ≡ done_at findings k)
         (λ cause. MayFail cause (R.state input.new.reports)) }
 {
@@ -146,11 +162,11 @@ fn read_closing<R: Reports>(
 fn last_line<R: Reports>(alloc: Global, input: &mut Input<R>, number: u64) -> Result<Vec<u8>, Cause>
     ensures same { OnOk result
         (SameReports (R.state input.old.reports) (R.state input.new.reports)) }
-    ensures last { (faults : List FaultValue) (front : List ℕ) → IsOther front
-        → AreAfter None faults → length faults < 2 ^ 63
+    ensures last { (lines : List (List ℕ)) (front : List ℕ) → HasNoEnd front → AreLines lines
+        → length lines + 2 < 2 ^ 64
         → IsTrue (R.state input.old.reports).honest → number < (R.state input.old.reports).count
         → slice_get (R.state input.old.reports).held number
-        ≡ Some (concat (written faults) ++ (front ++ codes "\n"))
+        ≡ Some (ended_lines lines ++ (front ++ codes "\n"))
         → MatchResult result (λ last. last.items ≡ front ++ codes "\n")
         (λ cause. MayFail cause (R.state input.new.reports)) }
 {

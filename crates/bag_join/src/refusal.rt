@@ -30,6 +30,10 @@ pub enum Cause {
     /// It was cut of other files or bytes than the first report.
     #[error("of other files")]
     OtherFiles,
+    /// It was checked with `--clashes` and the first report without, or the other way round, or
+    /// against another profile.
+    #[error("of other options")]
+    OtherOptions,
     /// It is one of another number of parts than the first report.
     #[error("of another number of parts")]
     OtherNumber,

@@ -89,7 +89,8 @@ MayRefuseStep Rename old new =
 MayRefuseStep (Create name bytes) old new = MayRefuseChange ⊥ (is_taken old.bag name ≡ true) old new
 
 -- These steps were taken. The bag of an honest tree is then the steps' bag, each step could be
--- taken, the device didn't fail, it was asked for what the steps ask, and no file was opened.
+-- taken, the device didn't fail, it was asked for what the steps ask, and no file was listed or
+-- opened.
 pub record HasTaken (steps : List Step) (old new : TreeState) : Type 0 where
   pub bag : IsTrue old.honest → new.bag ≡ after_steps steps old.bag
   pub possible : IsTrue old.honest → CanTakeAll steps old.bag
@@ -97,6 +98,8 @@ pub record HasTaken (steps : List Step) (old new : TreeState) : Type 0 where
   pub honest : new.honest ≡ old.honest
   pub no_failure : new.failures ≡ old.failures
   pub openings : new.openings ≡ old.openings
+  pub listed : new.listed ≡ old.listed
+  pub gave : new.gave ≡ old.gave
   pub noted : new.noted ≡ old.noted
   pub asked : IsTrue old.noted → Adds (AllAsk steps) old.trail new.trail
 

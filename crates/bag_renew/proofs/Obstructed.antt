@@ -23,7 +23,7 @@ use Rattle.bag_tree.specs.Tree.{NothingFailed, TreeState}
 use Rattle.bag_tree.specs.declared.listing.FileEntry.{FileEntry}
 use Rattle.bag_renew.proofs.AlgsMade.{same_truth}
 use Rattle.bag_renew.specs.Obstacles.{CanNameFiles, IsFreeToChange, IsHindered, IsNamedAsTag, IsObstacle}
-use Rattle.bag_renew.specs.Obstacles.{first_unlisted, first_unnameable, has_percent, is_named_by_kept}
+use Rattle.bag_renew.specs.Obstacles.{first_outdated, first_unlisted, first_unnameable, has_percent, is_named_by_kept}
 use Rattle.bag_renew.specs.Obstacles.{is_unlisted, is_unnameable, is_unnameable_by, keeps_naming, paths_of}
 use Rattle.bag_renew.specs.Renewed.{is_v10, writes_payload_manifest}
 use Rattle.bag_renew.specs.Telling.{AreStillListed, IsNamedByKept, IsToBeNamed}
@@ -93,7 +93,7 @@ module _ (bag : Bag) (facts : Facts) (of : IsFactsOf bag facts) where
       ∙ map-map path entry_of_file (files_of bag)
 
   -- the first of the listed files that can't be named is the first of the bag
-  first_where : (test : List ℕ → Bool) (listed : List FileEntry) (found : Option FileEntry) → listed ≡ files
+  pub first_where : (test : List ℕ → Bool) (listed : List FileEntry) (found : Option FileEntry) → listed ≡ files
       → found ≡ find (λ entry. test entry.path) listed → option_map path found ≡ find test (paths_of bag)
   first_where test listed found same first =
       ap (option_map path) first
@@ -177,11 +177,12 @@ kept_or_not false P old = inr (old refl)
 -- what is asked can be done, where none of these keeps from it
 pub free_to_change : (bag : Bag) (renewal : Renewal)
     → (not (keeps bag renewal) && has_file bag (tag_path Fetch)) ≡ false → new_algs bag renewal ≢ []
-    → ¬ (IsNamedAsTag bag begun_file) → IsFreeToChange bag renewal
-free_to_change bag renewal fetch some_alg own = record {
+    → ¬ (IsNamedAsTag bag begun_file) → first_outdated bag ≡ None → IsFreeToChange bag renewal
+free_to_change bag renewal fetch some_alg own none_outdated = record {
   fetch = fetch_by (keeps bag renewal) (has_file bag (tag_path Fetch)) fetch;
   some_alg = some_alg;
   own = own;
+  none_outdated = none_outdated;
 }
 
 -- and the files can be named

@@ -129,6 +129,7 @@ refused_stop renewal old new stop why.BadValue h is = absurd is
 refused_stop renewal old new stop why.NoAlgorithm h is = absurd is
 refused_stop renewal old new stop (why.InTheWay n) h is = absurd is
 refused_stop renewal old new stop (why.Unnameable p) h is = absurd is
+refused_stop renewal old new stop (why.Outdated p) h is = absurd is
 refused_stop renewal old new stop (why.Unlisted p) h is = absurd is
 refused_stop renewal old new stop why.Fetch h is = absurd is
 refused_stop renewal old new stop (why.PutRefused n q) h is = absurd is
@@ -145,6 +146,7 @@ module _ (renewal : Renewal) (facts : Facts) (old new : TreeState) where
   refused_by_obstacle why.NoAlgorithm none h = (none, h)
   refused_by_obstacle (why.InTheWay n) none h = (none, h)
   refused_by_obstacle (why.Unnameable p) none h = (none, h)
+  refused_by_obstacle (why.Outdated p) none h = (none, h)
   refused_by_obstacle (why.Unlisted p) none h = (none, h)
   refused_by_obstacle why.Fetch none h = (none, h)
   refused_by_obstacle (why.ReadStopped s) none h = h
@@ -165,6 +167,7 @@ module _ (renewal : Renewal) (facts : Facts) (old new : TreeState) where
   refused_by_info (why.InTheWay n) none free way names h calm =
       (none, λ honest of deep. absurd (h old.bag of deep).1)
   refused_by_info (why.Unnameable p) none free way names h calm = (none, λ bag of deep. absurd (h bag of deep).1)
+  refused_by_info (why.Outdated p) none free way names h calm = (none, λ bag of deep. absurd (h bag of deep).1)
   refused_by_info (why.Unlisted p) none free way names h calm = (none, λ bag of deep. absurd (h bag of deep).1)
   refused_by_info why.Fetch none free way names h calm = (none, λ bag of deep. absurd (h bag of deep).1)
   refused_by_info (why.ReadStopped s) none free way names h calm = λ bag of deep. absurd (h bag of deep).1
@@ -179,6 +182,7 @@ module _ (renewal : Renewal) (facts : Facts) (old new : TreeState) where
   memory_by_stage why.NoAlgorithm stop memory is calm = absurd is
   memory_by_stage (why.InTheWay n) stop memory is calm = absurd is
   memory_by_stage (why.Unnameable p) stop memory is calm = absurd is
+  memory_by_stage (why.Outdated p) stop memory is calm = absurd is
   memory_by_stage (why.Unlisted p) stop memory is calm = absurd is
   memory_by_stage why.Fetch stop memory is calm = absurd is
   memory_by_stage (why.ReadStopped s) stop memory is calm = absurd (is.1 memory.0)
@@ -390,6 +394,7 @@ module _ (renewal : Renewal) (facts : Facts) (old mid new : TreeState) (options 
     refused_by_facts (why.InTheWay n) h = folder_there n h
     refused_by_facts why.NoAlgorithm h = its_obstacle why.NoAlgorithm h
     refused_by_facts (why.Unnameable p) h = its_obstacle (why.Unnameable p) h
+    refused_by_facts (why.Outdated p) h = its_obstacle (why.Outdated p) h
     refused_by_facts (why.Unlisted p) h = its_obstacle (why.Unlisted p) h
     refused_by_facts why.Fetch h = its_obstacle why.Fetch h
 

@@ -101,6 +101,7 @@ module _ (renewal : Renewal) (old new : TreeState) (facts : Facts) (summed : Lis
   info_refused why.NoAlgorithm is = absurd (is h.seen.0 h.seen.2 deep).1
   info_refused (why.InTheWay n) is = absurd (is h.seen.0 h.seen.2 deep).1
   info_refused (why.Unnameable p) is = absurd (is h.seen.0 h.seen.2 deep).1
+  info_refused (why.Outdated p) is = absurd (is h.seen.0 h.seen.2 deep).1
   info_refused (why.Unlisted p) is = absurd (is h.seen.0 h.seen.2 deep).1
   info_refused why.Fetch is = absurd (is h.seen.0 h.seen.2 deep).1
   info_refused (why.ReadStopped s) is = absurd (is h.seen.0 h.seen.2 deep).1

@@ -8,20 +8,25 @@ use Rattle.bag_renew.proofs.GoodInfo.{good_elements_are_good_info}
 use Rattle.bag_renew.proofs.OldBag.{known}
 use Rattle.bag_renew.proofs.SomeChanges.{none_begun, some_changes}
 use Rattle.bag_renew.proofs.Valid.{renewed_has_old_faults}
-use Rattle.std.specs.Prelude.{Result, Ok, Err, IfErr, OnOk}
+use Rattle.std.specs.Option.{option_map}
+use Rattle.std.specs.Prelude.{Result, Ok, Err, IfErr, OnOk, take}
 use Rattle.bag_facts.specs.declared.fault.Fault.{Fault}
 use Rattle.bag_tree.specs.ChangeFiles.{HasChanged, LastsResumed, LeavesChange, OutlastsResumedChanges}
-use Rattle.bag_tree.specs.Cut.{MayLeave}
+use Rattle.bag_tree.specs.Changes.{AppliesStep, IsUnchanged}
+use Rattle.bag_tree.specs.Cut.{MayLeave, lose}
 use Rattle.bag_tree.specs.FileChanges.{CanChangeAll, IsAfterFirst}
 use Rattle.bag_tree.specs.Resumed.{EachResumedCut, IsSameBut}
 use Rattle.bag_tree.proofs.PutFile.{not_held}
+use Rattle.bag_tree.specs.Steps.{create}
 use Rattle.bag_tree.specs.Tree.{Keeps, TreeState}
+use Rattle.bag_tree.specs.declared.listing.Listing.{Listing}
 use Rattle.bag_tree.specs.declared.event.DeviceEvent.{DeviceEvent}
 use Rattle.bag_renew.proofs.Openings.{for_renewal_still}
 use Rattle.bag_renew.specs.Openings.{OpensBefore, OpensForRenewal}
 use Rattle.bag_renew.specs.Reading.{HasKnownSize, MayRefuseReading}
 use Rattle.bag_renew.specs.OnTheWay.{CanRenewInPlace}
-use Rattle.bag_renew.specs.Renew.{HasNoNewFault, HasPlanned, HasStoppedAt, IsRenewal, LeavesRenewed, MayRefuseRenewing, told_as}
+use Rattle.bag_renew.specs.Planned.{ChangesCompared}
+use Rattle.bag_renew.specs.Renew.{HasBegun, HasNoNewFault, HasPlanned, HasStoppedAt, IsRenewal, LeavesRenewed, MayRefuseRenewing, told_as}
 use Rattle.bag_renew.specs.Request.{is_bad_request}
 use Rattle.bag_renew.specs.Valid.{HasGoodInfo, IsOldDamage}
 use Rattle.bag_report.specs.Valid.{IsFaultOf}
@@ -34,17 +39,47 @@ use Rattle.bag_renew.specs.declared.fault.RenewFault.TheVariants as why
 abbrev IsAsBefore : TreeState → TreeState → Type 0
 IsAsBefore old new =
     (new.honest ≡ old.honest) × (old.failures ≤ new.failures) × (new.noted ≡ old.noted) × (new.openings ≡ old.openings)
+    × (new.listed ≡ old.listed) × (new.gave ≡ old.gave)
+
+of_step : (step : Bag → Bag) (more : ℕ) (old new : TreeState) → AppliesStep step more old new → IsAsBefore old new
+of_step step more old new done = (done.honest, done.failures, done.noted, done.openings, done.listed, done.gave)
+
+of_unchanged : (old new : TreeState) → IsUnchanged old new → IsAsBefore old new
+of_unchanged old new same =
+    (same.keeps.honest, same.keeps.failures, same.keeps.noted, same.openings, same.listed, same.gave)
 
 left_so : (beside : List ℕ) (change : FileChange) (old new : TreeState) → LeavesChange beside change old new
     → IsAsBefore old new
-left_so beside (Put name bytes) old new (inl same) =
-    (same.keeps.honest, same.keeps.failures, same.keeps.noted, same.openings)
+left_so beside (Put name bytes) old new (inl same) = of_unchanged old new same
 left_so beside (Put name bytes) old new (inr (inl part)) =
-    (part.begun.honest, part.begun.failures, part.begun.noted, part.begun.openings)
-left_so beside (Put name bytes) old new (inr (inr done)) = (done.honest, done.failures, done.noted, done.openings)
-left_so beside (Remove name) old new (inl same) =
-    (same.keeps.honest, same.keeps.failures, same.keeps.noted, same.openings)
-left_so beside (Remove name) old new (inr done) = (done.honest, done.failures, done.noted, done.openings)
+    of_step (create beside (take part.count bytes)) 1 old new part.begun
+left_so beside (Put name bytes) old new (inr (inr done)) = of_step (create name bytes) 1 old new done
+left_so beside (Remove name) old new (inl same) = of_unchanged old new same
+left_so beside (Remove name) old new (inr done) = of_step (lose name) 0 old new done
+
+-- what was compared stays so, where the tree notes the same that it gave
+still_compared : (renewal : Renewal) (old read new : TreeState) (planned : List FileChange)
+    → ChangesCompared renewal old read planned → new.listed ≡ read.listed → new.gave ≡ read.gave
+    → ChangesCompared renewal old new planned
+still_compared renewal old read new planned all same_listed same_gave = record {
+  bag = all.bag;
+  files = all.files;
+  compared =
+      record {
+        is_bag = all.compared.is_bag;
+        listed = ap (option_map (λ (l : Listing). l.files)) same_listed ∙ all.compared.listed;
+        tags = all.compared.tags;
+        tags_are = all.compared.tags_are;
+        gave = same_gave ∙ all.compared.gave;
+        entries = all.compared.entries;
+        right = all.compared.right;
+      };
+  old_info = all.old_info;
+  old_info_is = all.old_info_is;
+  info = all.info;
+  info_is = all.info_is;
+  changes_are = all.changes_are;
+}
 
 -- ---- where nothing was asked of the device
 
@@ -192,6 +227,7 @@ module _ (renewal : Renewal) (old read new : TreeState) (planned : List FileChan
       read = read;
       plan = plan;
       changed = changed;
+      compared = still_compared renewal old read new planned plan.compared changed.listed changed.gave;
       bag = λ honest. renewed_bag honest changed;
     };
     valid = λ honest size. its_faults honest changed size;
@@ -204,10 +240,22 @@ module _ (renewal : Renewal) (old read new : TreeState) (planned : List FileChan
     lasting = λ honest noted. lasts honest noted lasting;
   }
 
+  has_begun : (fault : RenewFault) → HasStoppedAt planned read new fault → HasBegun renewal old new fault
+  has_begun fault h =
+      let so_far = h.stopped.changed in
+      let left = left_so begun_file h.stopped.change h.stopped.before new h.stopped.left in record {
+        planned = planned;
+        read = read;
+        plan = plan;
+        stopped = h;
+        compared =
+            still_compared renewal old read new planned plan.compared (left.4 ∙ so_far.listed) (left.5 ∙ so_far.gave);
+      }
+
   told_stopped : (fault : RenewFault) → HasStoppedAt planned read new fault
       → MayRefuseRenewing renewal old new fault
-  told_stopped (why.PutRefused name cause) h = record { planned = planned; read = read; plan = plan; stopped = h }
-  told_stopped (why.RemoveRefused name cause) h = record { planned = planned; read = read; plan = plan; stopped = h }
+  told_stopped (why.PutRefused name cause) h = has_begun (why.PutRefused name cause) h
+  told_stopped (why.RemoveRefused name cause) h = has_begun (why.RemoveRefused name cause) h
   told_stopped fault h = absurd (never h.change h.told)
     where
       never : (change : FileChange) → fault ≡ told_as change h.refused.cause → ⊥

@@ -1,15 +1,15 @@
 -- What keeps a bag without faults from being renewed (RFC 8493, 2).
 use Rattle.std.specs.Prelude.{◌≡◌, ◌≢◌, ◌⊎◌, ◌==◌, ◌&&◌, ◌||◌, Bool, true, false, not, IsTrue, List}
-use Rattle.std.specs.Prelude.{[], Option, None, Some, Contains, bytes_eq, find, map}
+use Rattle.std.specs.Prelude.{[], Option, None, Some, Contains, bytes_eq, codes, find, map, nat_eq}
 use Rattle.std.specs.Prelude.{if◌then◌else◌}
-use Rattle.std.specs.List.{list_any}
+use Rattle.std.specs.List.{ends_with, list_any, starts_with}
 use Rattle.bag_text.specs.Bytes.{Name, Path}
 use Rattle.bag_text.specs.Alg.{algs}
-use Rattle.bag_text.specs.Path.{is_payload_path}
+use Rattle.bag_text.specs.Path.{is_payload_path, slash}
 use Rattle.bag_text.specs.Spelling.{percent}
 use Rattle.bag_text.specs.declared.alg.Alg.{Alg}
 use Rattle.bag_text.specs.declared.rules.Rules.{Rules}
-use Rattle.bag_read.specs.ManifestName.{tag_path}
+use Rattle.bag_read.specs.ManifestName.{is_manifest_name, prefix, tag_path}
 use Rattle.bag_read.specs.declared.kind.Kind.TheVariants.{Payload, Tag}
 use Rattle.bag_read.specs.declared.tag_name.TagName.TheVariants.{Fetch}
 use Rattle.bag_facts.specs.FactsOfBag.{IfBagRead, IsByV097, IsFactsOf}
@@ -80,12 +80,25 @@ first_unlisted bag renewal =
     if writes_payload_manifest bag renewal then None
     else find (is_unlisted bag renewal) (paths_of bag)
 
--- an algorithm is left; a bag of 0.97 that becomes one of 1.0 fetches nothing; and what has the
--- name of a begun file is one
+-- A file of the base folder with the name of a tag manifest, but for its algorithm, which no
+-- manifest's name can have, as `tagmanifest-sha3_256.txt`. A renewal can't write it anew, and changes
+-- tag files whose digests it may give.
+abbrev pub is_other_tag_manifest : Path → Bool
+is_other_tag_manifest path =
+    starts_with nat_eq path (prefix Tag) && ends_with nat_eq path (codes ".txt")
+    && not (list_any (λ c. c == slash) path) && not (is_manifest_name Tag path)
+
+-- the first of them in path order, if any
+abbrev pub first_outdated : Bag → Option Path
+first_outdated bag = find is_other_tag_manifest (paths_of bag)
+
+-- an algorithm is left; a bag of 0.97 that becomes one of 1.0 fetches nothing; what has the name of
+-- a begun file is one; and no file that stays would be out of date
 pub record IsFreeToChange (bag : Bag) (renewal : Renewal) : Type 0 where
   pub fetch : (keeps bag renewal ≡ true) ⊎ LacksFile bag (tag_path Fetch)
   pub some_alg : new_algs bag renewal ≢ []
   pub own : ¬ (IsNamedAsTag bag begun_file)
+  pub none_outdated : first_outdated bag ≡ None
 
 -- manifests of the renewed bag can name its files, and name its payload
 pub record CanNameFiles (bag : Bag) (renewal : Renewal) : Type 0 where
@@ -113,6 +126,7 @@ IsObstacle bag renewal why.Fetch = (keeps bag renewal ≡ false) × HasFile bag 
 IsObstacle bag renewal why.NoAlgorithm = new_algs bag renewal ≡ []
 IsObstacle bag renewal (why.InTheWay name) = IsInTheWay bag name
 IsObstacle bag renewal (why.Unnameable path) = first_unnameable bag renewal ≡ Some path
+IsObstacle bag renewal (why.Outdated path) = first_outdated bag ≡ Some path
 IsObstacle bag renewal (why.Unlisted path) =
     IsByV097 bag × (first_unlisted bag renewal ≡ Some path)
 IsObstacle bag renewal why.Memory = Unit {0}

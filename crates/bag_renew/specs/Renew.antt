@@ -37,12 +37,14 @@ pub record HasPlanned (renewal : Renewal) (old new : TreeState) (planned : List 
     pub compared : ChangesCompared renewal old new planned
 
 -- The bag was renewed: all was read for it, and then the changes were made. Of an honest tree it is
--- the renewed bag then.
+-- the renewed bag then. Over any tree the changes are of bytes whose digests were compared, and
+-- which the tree notes that it gave, also when they are made.
 pub record HasRenewed (renewal : Renewal) (old new : TreeState) : Type 0 where
   pub planned : List FileChange
   pub read : TreeState
   pub plan : HasPlanned renewal old read planned
   pub changed : HasChanged begun_file planned read new
+  pub compared : ChangesCompared renewal old new planned
   pub bag : IsTrue old.honest → new.bag ≡ renewed old.bag renewal
 
 -- what a refused change is told as
@@ -59,12 +61,14 @@ pub record HasStoppedAt (planned : List FileChange) (read new : TreeState) (faul
   pub place : slice_get planned (refused.place - 1) ≡ Some change
   pub told : fault ≡ told_as change refused.cause
 
--- All was read for the renewal, and then one of the changes was refused.
+-- All was read for the renewal, and then one of the changes was refused. Over any tree those before
+-- it are of bytes whose digests were compared, as they are where all are made.
 pub record HasBegun (renewal : Renewal) (old new : TreeState) (fault : RenewFault) : Type 0 where
   pub planned : List FileChange
   pub read : TreeState
   pub plan : HasPlanned renewal old read planned
   pub stopped : HasStoppedAt planned read new fault
+  pub compared : ChangesCompared renewal old new planned
 
 -- When each refusal comes. Each but that of a change leaves the tree's bag as it was.
 abbrev pub MayRefuseRenewing : Renewal → TreeState → TreeState → RenewFault → Type 0

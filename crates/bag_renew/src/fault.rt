@@ -20,6 +20,9 @@ pub enum RenewFault {
     InTheWay(Text),
     /// No manifest can name the file with this path.
     Unnameable(Text),
+    /// This file has the name of a tag manifest, but for its algorithm, which no manifest's name can
+    /// have. It would keep digests that tag files had before the renewal.
+    Outdated(Text),
     /// No payload manifest that is left would name this file of the payload. The rules of 0.97 let a
     /// manifest name a part of the payload.
     Unlisted(Text),

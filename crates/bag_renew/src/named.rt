@@ -86,7 +86,7 @@ fn stays(path: &str) -> bool
 }
 
 /// Whether a path is the name of a manifest, of any algorithm.
-fn is_manifest(kind: Kind, path: &str) -> bool
+pub(crate) fn is_manifest(kind: Kind, path: &str) -> bool
     ensures { result ≡ is_manifest_name kind path.now }
 {
     manifest_alg(kind, path).is_some()

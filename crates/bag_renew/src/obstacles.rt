@@ -1,7 +1,9 @@
 //! What keeps a bag without faults from being renewed.
-ghost use Rattle.std.specs.Prelude.{◌≡◌, ◌↔◌, ◌&&◌, not, find, IfErr, IfOk, IsTrue};
+ghost use Rattle.std.specs.Prelude.{◌≡◌, ◌↔◌, ◌==◌, ◌&&◌, not, find, IfErr, IfOk, IsTrue};
 ghost use Rattle.std.specs.Prelude.{MatchOption, OnOk};
+ghost use Rattle.std.specs.List.{list_any};
 ghost use Rattle.std.specs.Option.{option_copied};
+ghost use Rattle.bag_text.specs.Path.{slash};
 ghost use Rattle.bag_read.specs.ManifestName.{tag_path};
 ghost use Rattle.bag_read.specs.declared.tag_name.TagName.TheVariants.{Fetch};
 ghost use Rattle.bag_facts.specs.FactsOfBag.{IfBagRead, IsFactsOf};
@@ -15,6 +17,7 @@ ghost use Rattle.bag_renew.specs.Reserved.{IsOutOfTheWay};
 
 use crate::algorithms::{keeps, new_algs, new_rules};
 use crate::folders::check_folders;
+use crate::named::is_manifest;
 use crate::unlisted::unlisted_path;
 use crate::{RenewFault, Renewal};
 use bag_facts::Facts;
@@ -29,10 +32,17 @@ pub(crate) const BEGUN_FILE: &str = ".bagit-begun";
 
 const PERCENT: u8 = b'%';
 
+const SLASH: u8 = b'/';
+
+/// What the name of a tag manifest begins and ends with.
+const TAG_MANIFEST: &[u8] = b"tagmanifest-";
+
+const TEXT: &[u8] = b".txt";
+
 /// Whether nothing keeps a bag without faults from being renewed; else the first obstacle, in this
-/// order: what it fetches, its algorithms, the names of tag files, paths that no manifest can name,
-/// and files of the payload that none would name. The facts are those read for more than the
-/// declaration. Memory is taken for names only.
+/// order: what it fetches, its algorithms, the names of tag files, files that would be out of date,
+/// paths that no manifest can name, and files of the payload that none would name. The facts are
+/// those read for more than the declaration. Memory is taken for names only.
 ///
 /// A folder is in the way of a tag file of its name, also where it holds no file and isn't listed:
 /// the tree is asked for each name. No file is opened.
@@ -68,8 +78,8 @@ pub(crate) fn check_obstacles<T: ReplaceTree>(
     }
 }
 
-/// The first obstacle that what is asked meets, if any: what the bag fetches, its algorithms, and
-/// the name of a begun file.
+/// The first obstacle that what is asked meets, if any: what the bag fetches, its algorithms, the
+/// name of a begun file, and a file that would be out of date.
 fn obstacle_asked(
     alloc: Global,
     facts: &Facts,
@@ -89,7 +99,10 @@ fn obstacle_asked(
     if is_named(facts, &begun) {
         return Ok(Some(RenewFault::InTheWay(begun)));
     }
-    Ok(None)
+    match outdated_path(alloc, facts)? {
+        Some(path) => Ok(Some(RenewFault::Outdated(path))),
+        None => Ok(None),
+    }
 }
 
 /// The first obstacle that the names of the listed files are, if any: a path that no manifest can
@@ -110,6 +123,45 @@ fn obstacle_listed(
         Some(path) => Ok(Some(RenewFault::Unlisted(path))),
         None => Ok(None),
     }
+}
+
+/// The first file that a renewal would leave out of date, in path order.
+fn outdated_path(alloc: Global, facts: &Facts) -> Result<Option<Text>, AllocError>
+    ensures { IfOk result (λ found. (bag : Bag) → IsFactsOf bag facts.now
+        → found ≡ spec.first_outdated bag) }
+{
+    match first_outdated(facts.files()) {
+        Some(entry) => Ok(Some(entry.path.copy(alloc)?)),
+        None => Ok(None),
+    }
+}
+
+/// The first of the files that has the name of a tag manifest, but for its algorithm.
+fn first_outdated(files: &[FileEntry]) -> Option<&FileEntry>
+    ensures { option_copied result
+        ≡ find (λ entry. spec.is_other_tag_manifest entry.path) files.now }
+{
+    files
+        .iter()
+        .find(|entry| is_other_tag_manifest(entry.path.as_str()))
+}
+
+/// Whether a path is the name of a tag manifest, but for its algorithm, which no manifest's name can
+/// have.
+fn is_other_tag_manifest(path: &str) -> bool
+    ensures { result ≡ spec.is_other_tag_manifest path.now }
+{
+    let bytes = path.as_bytes();
+    bytes.starts_with(TAG_MANIFEST)
+        && bytes.ends_with(TEXT)
+        && !has_slash(path)
+        && !is_manifest(Kind::Tag, path)
+}
+
+fn has_slash(path: &str) -> bool
+    ensures { result ≡ list_any (λ c. c == slash) path.now }
+{
+    path.as_bytes().iter().any(|byte| *byte == SLASH)
 }
 
 /// Whether a bag is of version 0.97 and is to become one of 1.0, and has `fetch.txt`.

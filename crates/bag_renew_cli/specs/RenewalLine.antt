@@ -27,6 +27,7 @@ reason why.BadValue = codes "bad value"
 reason why.NoAlgorithm = codes "no algorithm"
 reason (why.InTheWay path) = about_path path (codes " in the way")
 reason (why.Unnameable path) = about_path path (codes " can't be named")
+reason (why.Outdated path) = about_path path (codes " would be out of date")
 reason (why.Unlisted path) = about_path path (codes " would be in no manifest")
 reason why.Fetch = codes "fetch.txt"
 reason (why.ReadStopped stop) = refusal (codes "read") stop.path stop.cause

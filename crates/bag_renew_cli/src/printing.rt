@@ -3,7 +3,7 @@ ghost use Rattle.std.specs.Prelude.{◌≡◌, flat_map, OnOk};
 ghost use Rattle.bag_renew_cli.specs.Printing.{IsPrinting, is_status_of, refused_as, text_of};
 ghost use Rattle.bag_tree.specs.Pieces.{Writes};
 
-use crate::{put_renewal, renewal_status};
+use crate::put_renewal;
 use bag_renew::{RenewFault, TagFile, Unchecked, new_manifests};
 use bag_text::{Alg, AlgSet};
 use bag_tree::{Out, Refused, Tree, TreeFault, put_all};
@@ -45,9 +45,19 @@ fn put_texts<W: Out>(made: &[TagFile], out: &mut W) -> Result<(), Refused>
 fn refuse<E: Out>(name: &str, unchecked: Unchecked, err: &mut E) -> u8
     ensures { is_status_of unchecked result }
 {
-    let refused = Err(reason(unchecked));
-    let _ = put_renewal(name, &refused, false, err);
-    renewal_status(&refused)
+    let status = status_of(&unchecked);
+    let _ = put_renewal(name, &Err(reason(unchecked)), false, err);
+    status
+}
+
+/// 1 for a fault, and else 3.
+fn status_of(unchecked: &Unchecked) -> u8
+    ensures { is_status_of unchecked.now result }
+{
+    match unchecked {
+        Unchecked::Faulty(_) => 1,
+        Unchecked::Stopped(_) => 3,
+    }
 }
 
 /// What the refusal is told as.

@@ -5,8 +5,8 @@ ghost use Rattle.bag_tree.specs.Pieces.{Writes};
 
 use crate::fault_line::put_fault;
 use crate::said::{
-    CANT_BE_NAMED, FAULT, FETCH, IN_NO_MANIFEST, IN_THE_WAY, NOT_RENEWED, PUT, READ, REMOVE,
-    RENEWED,
+    CANT_BE_NAMED, FAULT, FETCH, IN_NO_MANIFEST, IN_THE_WAY, NOT_RENEWED, OUT_OF_DATE, PUT, READ,
+    REMOVE, RENEWED,
 };
 use bag_facts::{Fault, put_line};
 use bag_renew::RenewFault;
@@ -61,6 +61,7 @@ pub(crate) fn put_not_renewed<W: Out>(
         RenewFault::NoAlgorithm => put_reason(name, NO_ALGORITHM, out),
         RenewFault::InTheWay(path) => put_path(name, path.as_str(), IN_THE_WAY, out),
         RenewFault::Unnameable(path) => put_path(name, path.as_str(), CANT_BE_NAMED, out),
+        RenewFault::Outdated(path) => put_path(name, path.as_str(), OUT_OF_DATE, out),
         RenewFault::Unlisted(path) => put_path(name, path.as_str(), IN_NO_MANIFEST, out),
         RenewFault::Fetch => put_reason(name, FETCH, out),
         RenewFault::ReadStopped(stop) => put_refusal(

@@ -34,6 +34,9 @@ pub const IN_THE_WAY: &str = " in the way";
 
 pub const CANT_BE_NAMED: &str = " can't be named";
 
+/// After the path of a tag manifest that the renewal would leave as it is.
+pub const OUT_OF_DATE: &str = " would be out of date";
+
 /// After the path of a file of the payload that no payload manifest would name.
 pub const IN_NO_MANIFEST: &str = " would be in no manifest";
 

@@ -46,7 +46,22 @@ record Steps (change : Bag → Bag) (more : ℕ) (old new : Nodes) : Type 0 wher
   plain : is_plain old ≡ true → is_plain new ≡ true
   entries : entry_count new ≤ entry_count old + more
 
-module _ (old new : DiskState) (own own_then : ℕ) (said said_then : Replies) where
+-- a call that changes nothing that stands there keeps the tree
+pub tree_keeps : (old new : DiskState) (own own_then : ℕ) (said said_then : Replies) → SameDisk old new
+    → old.failures + own ≤ new.failures + own_then
+    → Keeps (file_state_after old own said) (file_state_after new own_then said_then)
+tree_keeps old new own own_then said said_then same grows = record {
+  bag = ap bag_of same.nodes;
+  plain = ap is_plain same.nodes;
+  honest = same.honest;
+  entries = ap entry_count same.nodes;
+  failures = grows;
+  noted = same.noted;
+  trail = same.trail;
+}
+
+-- a step, whose answer leaves what was given before it
+module _ (old new : DiskState) (own own_then : ℕ) (said said_then : Replies) (kept : KeepsGiven said said_then) where
   changed : (change : Bag → Bag) (more : ℕ) → ClosesOpenFile old new → old.failures + own ≤ new.failures + own_then
       → (IsTrue old.honest → Steps change more old.nodes new.nodes)
       → AppliesStep change more (file_state_after old own said)
@@ -97,23 +112,10 @@ module _ (old new : DiskState) (own own_then : ℕ) (said said_then : Replies) w
   renamed_changed from to disk disk_then from_is to_is no_failure same closes moves =
       grind (arith, changed, bag_renamed, stays_plain, nothing_else_moved, as_many_moved)
 
-  -- a call that changes nothing that stands there keeps the tree
-  pub tree_keeps : SameDisk old new → old.failures + own ≤ new.failures + own_then
-      → Keeps (file_state_after old own said) (file_state_after new own_then said_then)
-  tree_keeps same grows = record {
-    bag = ap bag_of same.nodes;
-    plain = ap is_plain same.nodes;
-    honest = same.honest;
-    entries = ap entry_count same.nodes;
-    failures = grows;
-    noted = same.noted;
-    trail = same.trail;
-  }
-
   -- a refused step left all
-  pub step_same : OnlySyncs old new → old.failures + own ≤ new.failures + own_then → KeepsGiven said said_then
+  pub step_same : OnlySyncs old new → old.failures + own ≤ new.failures + own_then
       → IsUnchanged (file_state_after old own said) (file_state_after new own_then said_then)
-  step_same syncs grows same = record {
+  step_same syncs grows = record {
     keeps = record {
       bag = ap bag_of syncs.nodes;
       plain = ap is_plain syncs.nodes;
@@ -123,40 +125,41 @@ module _ (old new : DiskState) (own own_then : ℕ) (said said_then : Replies) w
       noted = syncs.noted;
     };
     openings = syncs.openings;
+    listed = kept.listed;
+    gave = kept.gave;
     rest = syncs.rest;
-    given = same.given;
+    given = kept.given;
   }
 
   -- a refused step left all, or a file of some first bytes
   pub step_begun : (name bytes : List ℕ) → IsDisk old.nodes → IsDisk new.nodes → is_base_name name ≡ true
-      → old.failures + own ≤ new.failures + own_then → KeepsGiven said said_then
-      → OnlyLooks old new ⊎ Begins old new name bytes
+      → old.failures + own ≤ new.failures + own_then → OnlyLooks old new ⊎ Begins old new name bytes
       → IsUnchanged (file_state_after old own said) (file_state_after new own_then said_then)
       ⊎ LeavesPartialFile name bytes (file_state_after old own said)
       (file_state_after new own_then said_then)
-  step_begun name bytes disk disk_then is grows same (inl looks) = inl (step_same (looked old new looks) grows same)
-  step_begun name bytes disk disk_then is grows same (inr begins) =
+  step_begun name bytes disk disk_then is grows (inl looks) = inl (step_same (looked old new looks) grows)
+  step_begun name bytes disk disk_then is grows (inr begins) =
       grind (arith, file_changed name (take begins.count bytes) disk disk_then grows begins.first, free_not_taken)
 
   -- a refused change left all, or a file of some first bytes beside, or was made
   pub put_left : (beside name bytes : List ℕ) → IsDisk old.nodes → IsDisk new.nodes → is_base_name beside ≡ true
-      → old.failures + own ≤ new.failures + own_then → KeepsGiven said said_then → LeavesPut old new beside name bytes
+      → old.failures + own ≤ new.failures + own_then → LeavesPut old new beside name bytes
       → LeavesReplaced beside name bytes (file_state_after old own said)
       (file_state_after new own_then said_then)
-  put_left beside name bytes disk disk_then is grows same (inl syncs) = inl (step_same syncs grows same)
-  put_left beside name bytes disk disk_then is grows same (inr (inl begins)) =
-      elim (step_begun beside bytes disk disk_then is grows same (inr begins))
+  put_left beside name bytes disk disk_then is grows (inl syncs) = inl (step_same syncs grows)
+  put_left beside name bytes disk disk_then is grows (inr (inl begins)) =
+      elim (step_begun beside bytes disk disk_then is grows (inr begins))
       [ inl all ↦ inl all | inr part ↦ inr (inl part) ]
-  put_left beside name bytes disk disk_then is grows same (inr (inr puts)) =
+  put_left beside name bytes disk disk_then is grows (inr (inr puts)) =
       inr (inr (put_changed beside name bytes disk disk_then grows puts))
 
   pub gone_left : (name : List ℕ) → IsDisk old.nodes → IsDisk new.nodes
-      → old.failures + own ≤ new.failures + own_then → KeepsGiven said said_then → OnlySyncs old new ⊎ RemovesIt old new name
+      → old.failures + own ≤ new.failures + own_then → OnlySyncs old new ⊎ RemovesIt old new name
       → IsUnchanged (file_state_after old own said) (file_state_after new own_then said_then)
       ⊎ AppliesStep (lose name) 0 (file_state_after old own said)
       (file_state_after new own_then said_then)
-  gone_left name disk disk_then grows same (inl syncs) = inl (step_same syncs grows same)
-  gone_left name disk disk_then grows same (inr removes) = inr (gone_changed name disk disk_then grows removes)
+  gone_left name disk disk_then grows (inl syncs) = inl (step_same syncs grows)
+  gone_left name disk disk_then grows (inr removes) = inr (gone_changed name disk disk_then grows removes)
 
 pub looked_same : (old new : DiskState) → OnlyLooks old new → SameDisk old new
 looked_same old new looks =

@@ -135,6 +135,8 @@ module _ (beside : List ℕ) where
     honest = refl;
     no_failure = refl;
     openings = refl;
+    listed = refl;
+    gave = refl;
     noted = refl;
     asked = λ noted. record { now = []; trail = sym (append-nil state.trail); is = refl };
   }
@@ -153,6 +155,8 @@ module _ (beside : List ℕ) where
     honest = done.honest ∙ so_far.honest;
     no_failure = no_failure ∙ so_far.no_failure;
     openings = done.openings ∙ so_far.openings;
+    listed = done.listed ∙ so_far.listed;
+    gave = done.gave ∙ so_far.gave;
     noted = done.noted ∙ so_far.noted;
     asked = λ noted.
         subst (λ xs. Adds (ChangesAsk beside xs) old.trail new.trail) (sym (take_one_more changes i change within is))

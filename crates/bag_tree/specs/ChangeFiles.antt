@@ -43,13 +43,16 @@ MayRefuseFileChange beside (Remove name) old new =
     MayRefuseChange (LacksFile old.bag name) ⊥ old new
 
 -- These changes were made. The bag of an honest tree is then the changes' bag, the device didn't
--- fail, it was asked for what the changes ask, and no file was opened.
+-- fail, it was asked for what the changes ask, and no file was listed or opened, so that what the
+-- tree gave before stays noted.
 pub record HasChanged (beside : Name) (changes : List FileChange) (old new : TreeState) : Type 0
   where
     pub bag : IsTrue old.honest → new.bag ≡ after_changes changes old.bag
     pub honest : new.honest ≡ old.honest
     pub no_failure : new.failures ≡ old.failures
     pub openings : new.openings ≡ old.openings
+    pub listed : new.listed ≡ old.listed
+    pub gave : new.gave ≡ old.gave
     pub noted : new.noted ≡ old.noted
     pub asked : IsTrue old.noted → Adds (ChangesAsk beside changes) old.trail new.trail
 

@@ -8,7 +8,8 @@ use Rattle.bag_tree.specs.declared.tree_fault.TreeFault.TheVariants.{Exists}
 use Rattle.bag_tree.specs.Steps.{is_taken, create}
 
 -- A change was made, by at most n files and folders more, and no file is open. The bag of an honest
--- tree is the change's, and what else it has isn't of another kind.
+-- tree is the change's, and what else it has isn't of another kind. What the tree gave before stays
+-- noted.
 pub record AppliesStep (step : Bag → Bag) (more : ℕ) (old new : TreeState) : Type 0 where
   pub bag : IsTrue old.honest → new.bag ≡ step old.bag
   pub plain : IsTrue old.honest → IsTrue old.plain → IsTrue new.plain
@@ -16,6 +17,8 @@ pub record AppliesStep (step : Bag → Bag) (more : ℕ) (old new : TreeState) :
   pub entries : IsTrue old.honest → new.entries ≤ old.entries + more
   pub failures : old.failures ≤ new.failures
   pub openings : new.openings ≡ old.openings
+  pub listed : new.listed ≡ old.listed
+  pub gave : new.gave ≡ old.gave
   pub rest : new.rest ≡ None
   pub noted : new.noted ≡ old.noted
 
@@ -32,6 +35,8 @@ pub record LeavesBag (old new : TreeState) : Type 0 where
 pub record IsUnchanged (old new : TreeState) : Type 0 where
   pub keeps : LeavesBag old new
   pub openings : new.openings ≡ old.openings
+  pub listed : new.listed ≡ old.listed
+  pub gave : new.gave ≡ old.gave
   pub rest : new.rest ≡ old.rest
   pub given : new.given ≡ old.given
 

@@ -20,13 +20,16 @@ use Rattle.bag_walk.specs.declared.part_run.PartOutcome.TheVariants.{Done}
 use Rattle.bag_walk.specs.declared.segment.SegmentEnd.TheVariants.{Full, AtEnd, Unread, Unwritten}
 
 -- the lines of a segment that came to the end, and a closing line
-module _ (name : List ℕ) (part : Part) (faults : List Fault) (limit n : ℕ) (told : Listed)
+module _ (request : Request) (sum : Option (List ℕ)) (part : Part) (faults : List Fault) (limit n : ℕ) (told : Listed)
     (before lines after : OutState) where
+  abbrev line : Listed → ℕ → List ℕ
+  line listed k = done_line request.name part listed request.options.clashes sum k
+
   -- a part is done where its segment came to the end, and its closing line was taken
   ended_by : (cursor : Option Fault) (listed : Listed) (k : ℕ) (end : SegmentEnd)
-      → PutsPartClosing name part (part_outcome cursor listed k end) lines after (Done n told)
+      → PutsPartClosing request sum part (part_outcome cursor listed k end) lines after (Done n told)
       → (end ≡ AtEnd) × (n ≡ k) × (told ≡ listed)
-      × Appends lines.taken after.taken (done_line name part listed k)
+      × Appends lines.taken after.taken (line listed k)
   ended_by (Some fault) listed k AtEnd (inl (same, closed)) = cc
   ended_by (Some fault) listed k AtEnd (inr (same, refused, cut)) = cc
   ended_by None listed k AtEnd (inl (same, closed)) =
@@ -42,25 +45,27 @@ module _ (name : List ℕ) (part : Part) (faults : List Fault) (limit n : ℕ) (
   done_by : (listed : Listed) (k : ℕ) (end : SegmentEnd) → EndsSegment faults limit k end
       → WroteFirst faults k before lines end
       → (end ≡ AtEnd) × (n ≡ k) × (told ≡ listed)
-      × Appends lines.taken after.taken (done_line name part listed k)
+      × Appends lines.taken after.taken (line listed k)
       → (n ≡ length faults)
-      × Appends before.taken after.taken (concat (written faults) ++ done_line name part told n)
+      × Appends before.taken after.taken (concat (written faults) ++ line told n)
   done_by listed k end ends wrote (at_end, count, of, closed) =
       let ends_so = rw at_end at ends in
       let all : take k faults ≡ faults = take_all k faults (omega (arith, ends_so.1)) in (
         count ∙ ends_so.1,
         rw (count, of)
             (Appends-append before.taken lines.taken after.taken (concat (written faults))
-            (done_line name part listed k) (rw all at (rw at_end at wrote)) closed),
+            (line listed k) (rw all at (rw at_end at wrote)) closed),
       )
 
 -- what a part tells that is done
-module _ {old new : TreeState} {profile : Option Profile} {part : Part} {request : Request} {before after : OutState}
-    {n : ℕ} {told : Listed} (run : IsRunOfPart old new profile part request before after (Done n told)) where
+module _ {old new : TreeState} {profile : Option Profile} {sum : Option (List ℕ)} {part : Part} {request : Request}
+    {before after : OutState} {n : ℕ} {told : Listed}
+    (run : IsRunOfPart old new profile sum part request before after (Done n told)) where
   pub ends : (run.segment.end ≡ AtEnd) × (n ≡ run.segment.written) × (told ≡ run.listed)
-      × Appends run.lines.taken after.taken (done_line request.name part run.listed run.segment.written)
+      × Appends run.lines.taken after.taken
+      (done_line request.name part run.listed request.options.clashes sum run.segment.written)
   ends =
-      ended_by request.name part [] 0 n told before run.lines after request.after run.listed run.segment.written run.segment.end
+      ended_by request sum part [] 0 n told before run.lines after request.after run.listed run.segment.written run.segment.end
       run.closes
 
   pub tells : IsTrue old.honest → (files : List FileEntry) → AreFilesIn old.bag files → told ≡ listed_of files
@@ -72,7 +77,7 @@ module _ {old new : TreeState} {profile : Option Profile} {part : Part} {request
       (record { ordered = ordered; sizes = (of honest).files }) are)
 
 pub done_part_is_written : DonePartIsWritten
-done_part_is_written old new profile part request before after n told run from_first honest report is files are =
+done_part_is_written old new profile sum part request before after n told run from_first honest report is files are =
     let all : above request.after report ≡ report =
     ap (λ cursor. above cursor report) from_first ∙ sym (above_none report) in
     let s =
@@ -80,16 +85,17 @@ done_part_is_written old new profile part request before after n told run from_f
     (run.faults honest report is files are) in
     let so = tells run honest files are in
     let done =
-    done_by request.name part (part_of files part report) (limit_of request) n told before run.lines after run.listed
+    done_by request sum part (part_of files part report) (limit_of request) n told before run.lines after run.listed
     run.segment.written run.segment.end s.ends s.wrote (ends run) in (
       done.0,
       so,
       subst (λ listed. Appends before.taken after.taken
-          (concat (written (part_of files part report)) ++ done_line request.name part listed n)) so done.1,
+          (concat (written (part_of files part report))
+          ++ done_line request.name part listed request.options.clashes sum n)) so done.1,
     )
 
 pub one_list_is_told : OneListIsTold
-one_list_is_told old new profile part request before after n told old' new' profile' part' request' before' after' n'
+one_list_is_told old new profile sum part request before after n told old' new' profile' sum' part' request' before' after' n'
     told' files run run' honest honest' are are' = tells run honest files are ∙ sym (tells run' honest' files are')
 
 -- what passes two tests, in either order

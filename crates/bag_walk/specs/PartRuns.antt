@@ -1,7 +1,7 @@
 -- A run over a part of a report.
 use Rattle.std.specs.Prelude.{ℕ, zero, suc, ◌+◌, ◌<◌, ◌≤◌, ◌≡◌, ◌≢◌, ◌⊎◌, ◌++◌, ◌∷◌, true, List, []}
 use Rattle.std.specs.Prelude.{Option, None, Some, slice_get, All, Contains, IsTrue, codes, decimal}
-use Rattle.std.specs.Prelude.{drop, false, length}
+use Rattle.std.specs.Prelude.{Bool, drop, false, length}
 use Rattle.std.specs.List.{concat}
 use Rattle.std.specs.List.Sorted.{IsStrictlySortedBy}
 use Rattle.std.specs.Io.KnownBytes.{Appends}
@@ -39,32 +39,48 @@ use Rattle.bag_walk.specs.declared.segment.Segment.{Segment}
 use Rattle.bag_walk.specs.declared.segment.SegmentEnd.{SegmentEnd}
 use Rattle.bag_walk.specs.declared.segment.SegmentEnd.TheVariants as end_of
 
--- how a part ended, of what files it was cut, and the number of faults that were written
-abbrev pub cut_line : List ℕ → Listed → ℕ → List ℕ
-cut_line how listed n =
+-- what the closing line of a part says of what was asked for: that names that clash are looked for
+abbrev pub clashes_words : Bool → List ℕ
+clashes_words true = codes ", clashes"
+clashes_words false = []
+
+-- and the SHA-256 of the profile that the bag is checked against, if there is one
+abbrev pub profile_words : Option (List ℕ) → List ℕ
+profile_words None = []
+profile_words (Some sum) = codes ", profile: " ++ sum
+
+-- how a part ended, of what files it was cut, what was asked for, and the number of faults that were
+-- written
+abbrev pub cut_line : List ℕ → Listed → Bool → Option (List ℕ) → ℕ → List ℕ
+cut_line how listed clashes sum n =
     how ++ (decimal listed.files ++ (codes ", bytes: "
-    ++ (decimal listed.bytes ++ (codes ", faults: " ++ (decimal n ++ codes "\n")))))
+    ++ (decimal listed.bytes ++ (clashes_words clashes ++ (profile_words sum
+    ++ (codes ", faults: " ++ (decimal n ++ codes "\n")))))))
 
 -- a line that says that the end of a part was reached; the parts are counted from 1
-abbrev pub end_line : List ℕ → List ℕ → Part → Listed → ℕ → List ℕ
-end_line how name part listed n =
+abbrev pub end_line : List ℕ → List ℕ → Part → Listed → Bool → Option (List ℕ) → ℕ → List ℕ
+end_line how name part listed clashes sum n =
     field name ++ (codes " part " ++ (decimal (part.number + 1) ++ (codes " of "
-    ++ (decimal part.of ++ cut_line how listed n))))
+    ++ (decimal part.of ++ cut_line how listed clashes sum n))))
 
 -- the same of a part that was checked from its first fault on, and of one from a cursor on
-abbrev pub done_line : List ℕ → Part → Listed → ℕ → List ℕ
-done_line name part listed n = end_line (codes " done, files: ") name part listed n
+abbrev pub done_line : List ℕ → Part → Listed → Bool → Option (List ℕ) → ℕ → List ℕ
+done_line name part listed clashes sum n =
+    end_line (codes " done, files: ") name part listed clashes sum n
 
-abbrev pub rest_line : List ℕ → Part → Listed → ℕ → List ℕ
-rest_line name part listed n = end_line (codes " rest done, files: ") name part listed n
+abbrev pub rest_line : List ℕ → Part → Listed → Bool → Option (List ℕ) → ℕ → List ℕ
+rest_line name part listed clashes sum n =
+    end_line (codes " rest done, files: ") name part listed clashes sum n
 
 -- the closing line of a run over a part, with its end, or nothing where there is none
-abbrev pub part_closing : List ℕ → Part → PartOutcome → List ℕ
-part_closing name part (Done n listed) = done_line name part listed n
-part_closing name part (Rest n listed) = rest_line name part listed n
-part_closing name part (Stopped n) = about_count name (codes " stopped, faults: ") n
-part_closing name part (Unread n stop) = unread_line name stop n
-part_closing name part (Unwritten n) = []
+abbrev pub part_closing : Request → Option (List ℕ) → Part → PartOutcome → List ℕ
+part_closing request sum part (Done n listed) =
+    done_line request.name part listed request.options.clashes sum n
+part_closing request sum part (Rest n listed) =
+    rest_line request.name part listed request.options.clashes sum n
+part_closing request sum part (Stopped n) = about_count request.name (codes " stopped, faults: ") n
+part_closing request sum part (Unread n stop) = unread_line request.name stop n
+part_closing request sum part (Unwritten n) = []
 
 -- how a run over a part ends that reached its end: a part is done by a run without a cursor alone
 abbrev pub part_ended : Option Fault → ℕ → Listed → PartOutcome
@@ -95,12 +111,12 @@ part_status (Unread n stop) = 3
 part_status (Unwritten n) = 3
 
 -- The closing line of an ending was written, or the output refused it.
-abbrev pub PutsPartClosing : List ℕ → Part → PartOutcome → OutState → OutState → PartOutcome
-    → Type 0
-PutsPartClosing name part ending before after outcome =
-    ((outcome ≡ ending) × Appends before.taken after.taken (part_closing name part ending))
+abbrev pub PutsPartClosing : Request → Option (List ℕ) → Part → PartOutcome → OutState → OutState
+    → PartOutcome → Type 0
+PutsPartClosing request sum part ending before after outcome =
+    ((outcome ≡ ending) × Appends before.taken after.taken (part_closing request sum part ending))
     ⊎ ((outcome ≡ Unwritten (part_count ending)) × (after.has_refused ≡ true)
-    × IsCut before.taken after.taken (part_closing name part ending))
+    × IsCut before.taken after.taken (part_closing request sum part ending))
 
 -- so it is for the faults of the part that the request asks for, of the report of an honest tree's
 -- bag
@@ -188,8 +204,9 @@ LooksNoFurtherInPart profile request part old new =
 -- their turn, and stops at its device only where that failed. What it writes is the lines of a
 -- segment and a closing line, and over an honest tree they are the lines of the faults of the part
 -- that the request asks for; below depth Full they are those of some bag over any tree.
-pub record IsRunOfPart (old new : TreeState) (profile : Option Profile) (part : Part)
-    (request : Request) (before after : OutState) (outcome : PartOutcome) : Type 0 where
+pub record IsRunOfPart (old new : TreeState) (profile : Option Profile)
+    (sum : Option (List ℕ)) (part : Part) (request : Request) (before after : OutState)
+    (outcome : PartOutcome) : Type 0 where
   pub keeps : Keeps old new
   pub untouched : request.limit ≡ Some 0 → new ≡ old
   pub segment : Segment
@@ -212,33 +229,35 @@ pub record IsRunOfPart (old new : TreeState) (profile : Option Profile) (part : 
   -- where the end was reached, of what files the part was cut
   pub listed : Listed
   pub counts : segment.end ≡ end_of.AtEnd → ForListing old (λ files. listed ≡ listed_of files)
-  pub closes : PutsPartClosing request.name part
+  pub closes : PutsPartClosing request sum part
       (part_outcome request.after listed segment.written segment.end) lines after outcome
 
 -- The law of a part that is done without a cursor: over an honest tree its output is the line of
 -- each fault that its report has in that part, and the closing line, which counts them.
 abbrev pub DonePartIsWritten : Type 0
 DonePartIsWritten =
-    (old new : TreeState) (profile : Option Profile) (part : Part) (request : Request)
-    (before after : OutState) (n : ℕ) (listed : Listed)
-    → IsRunOfPart old new profile part request before after (Done n listed) → request.after ≡ None
+    (old new : TreeState) (profile : Option Profile) (sum : Option (List ℕ)) (part : Part)
+    (request : Request) (before after : OutState) (n : ℕ) (listed : Listed)
+    → IsRunOfPart old new profile sum part request before after (Done n listed)
+    → request.after ≡ None
     → ForReportAsked old profile request (λ report.
     (files : List FileEntry) → AreFilesIn old.bag files
     → (n ≡ length (part_of files part report)) × (listed ≡ listed_of files)
     × Appends before.taken after.taken (concat (written (part_of files part report))
-    ++ done_line request.name part (listed_of files) n))
+    ++ done_line request.name part (listed_of files) request.options.clashes sum n))
 
 -- The law of what parts tell of their files: where the bags of two honest trees have one list of
 -- files with their sizes, parts of them that are done tell the same, whatever else they were asked
 -- for. So parts that tell different numbers are of different lists.
 abbrev pub OneListIsTold : Type 0
 OneListIsTold =
-    (old new : TreeState) (profile : Option Profile) (part : Part) (request : Request)
-    (before after : OutState) (n : ℕ) (listed : Listed)
-    (old' new' : TreeState) (profile' : Option Profile) (part' : Part) (request' : Request)
-    (before' after' : OutState) (n' : ℕ) (listed' : Listed) (files : List FileEntry)
-    → IsRunOfPart old new profile part request before after (Done n listed)
-    → IsRunOfPart old' new' profile' part' request' before' after' (Done n' listed')
+    (old new : TreeState) (profile : Option Profile) (sum : Option (List ℕ)) (part : Part)
+    (request : Request) (before after : OutState) (n : ℕ) (listed : Listed)
+    (old' new' : TreeState) (profile' : Option Profile) (sum' : Option (List ℕ)) (part' : Part)
+    (request' : Request) (before' after' : OutState) (n' : ℕ) (listed' : Listed)
+    (files : List FileEntry)
+    → IsRunOfPart old new profile sum part request before after (Done n listed)
+    → IsRunOfPart old' new' profile' sum' part' request' before' after' (Done n' listed')
     → IsTrue old.honest → IsTrue old'.honest
     → AreFilesIn old.bag files → AreFilesIn old'.bag files → listed ≡ listed'
 

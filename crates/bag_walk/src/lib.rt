@@ -52,7 +52,7 @@ pub use fixed::Fixed;
 pub use merge::Merge;
 pub use outcome::{Outcome, Request, status};
 pub use part::Listed;
-pub use part_run::{PartOutcome, run_part};
+pub use part_run::{PartOutcome, put_done_line, run_part};
 pub use runner::run;
 pub use segments::run_segments;
 pub use sequence::Then;

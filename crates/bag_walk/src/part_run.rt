@@ -1,5 +1,5 @@
 //! A run over a part of a report.
-ghost use Rattle.std.specs.Prelude.{◌≡◌, ◌<◌, IsTrue, List, Some};
+ghost use Rattle.std.specs.Prelude.{◌≡◌, ◌<◌, ◌++◌, IsTrue, List, Some};
 ghost use Rattle.std.specs.Option.{option_copied};
 ghost use Rattle.bag_tree.specs.Tree.{Keeps, NothingFailed};
 ghost use Rattle.bag_facts.specs.Wanted.{ForListing};
@@ -36,6 +36,10 @@ const DONE_FILES: &str = " done, files: ";
 const REST_FILES: &str = " rest done, files: ";
 
 const BYTES: &str = ", bytes: ";
+
+const CLASHES: &str = ", clashes";
+
+const PROFILE: &str = ", profile: ";
 
 /// How a run over a part ended, with the number of fault lines that it wrote. It is never the
 /// verdict of a bag.
@@ -90,23 +94,28 @@ impl PartOutcome {
 /// it is the first, and those after it where none follows that has a file; each lists the tree and
 /// reads its tag files.
 ///
-/// The closing line of a part that is done says what it was cut of: parts whose numbers of files or
-/// bytes differ aren't joined. It is written though the request is quiet, and takes no memory.
+/// The closing line of a part that is done says what it was cut of, whether names that clash were
+/// looked for, and `profile_sum`, which is to be the SHA-256 of the profile's bytes: parts that
+/// differ in any of these aren't joined. It is written though the request is quiet, and takes no
+/// memory.
 pub fn run_part<T: Tree, W: Out>(
     alloc: Global,
     tree: T,
     profile: Option<&Profile>,
+    profile_sum: Option<&str>,
     part: Part,
     request: Request,
     out: &mut W,
 ) -> (T, PartOutcome)
     ensures untouched { request.limit ≡ Some 0 → result.0 ≡ tree }
     ensures run { IsRunOfPart (T.state tree) (T.state result.0) (option_copied profile.entry)
-        part request (W.state out.old) (W.state out.new) result.1 }
+        (option_copied profile_sum.entry) part request
+        (W.state out.old) (W.state out.new) result.1 }
 {
     let request = &request;
     let (tree, lines) = lines_of_part(alloc, tree, profile, part, request, out);
-    let outcome = close_part(request, part, part_outcome(request, lines), out);
+    let ending = part_outcome(request, lines);
+    let outcome = close_part(request, profile_sum, part, ending, out);
     (tree, outcome)
 }
 
@@ -197,35 +206,63 @@ fn part_outcome(request: &Request, lines: PartLines) -> PartOutcome
 /// of fault lines. It takes no memory.
 fn close_part<W: Out>(
     request: &Request,
+    profile_sum: Option<&str>,
     part: Part,
     ending: PartOutcome,
     out: &mut W,
 ) -> PartOutcome
-    ensures { PutsPartClosing request.now.name part ending
+    ensures { PutsPartClosing request.now (option_copied profile_sum.entry) part ending
         (W.state out.old) (W.state out.new) result }
 {
-    match put_part_closing(request.name.as_str(), part, &ending, out) {
+    match put_part_closing(request, profile_sum, part, &ending, out) {
         Ok(()) => ending,
         Err(Refused) => PartOutcome::Unwritten(ending.count()),
     }
 }
 
 fn put_part_closing<W: Out>(
-    name: &str,
+    request: &Request,
+    profile_sum: Option<&str>,
     part: Part,
     ending: &PartOutcome,
     out: &mut W,
 ) -> Result<(), Refused>
     ensures { Writes (W.state out.old) (W.state out.new)
-        (spec.part_closing name.now part ending.now) result }
+        (spec.part_closing request.now (option_copied profile_sum.entry) part ending.now) result }
 {
+    let name = request.name.as_str();
+    let clashes = request.options.clashes;
     match ending {
-        PartOutcome::Done(count, listed) => put_end(name, part, DONE_FILES, *listed, *count, out),
-        PartOutcome::Rest(count, listed) => put_end(name, part, REST_FILES, *listed, *count, out),
+        PartOutcome::Done(count, listed) => {
+            put_done_line(name, part, *listed, clashes, profile_sum, *count, out)
+        }
+        PartOutcome::Rest(count, listed) => {
+            let how = REST_FILES;
+            put_end(name, part, how, *listed, clashes, profile_sum, *count, out)
+        }
         PartOutcome::Stopped(count) => put_count(name, said::STOPPED, *count, out),
         PartOutcome::Unread(count, stop) => put_unread(name, stop, *count, out),
         PartOutcome::Unwritten(_) => Ok(()),
     }
+}
+
+/// Hands the closing line of a part that is done to the output: of what files it was cut, whether
+/// names that clash were looked for, the SHA-256 of a profile, and how many faults it has.
+pub fn put_done_line<W: Out>(
+    name: &str,
+    part: Part,
+    listed: Listed,
+    clashes: bool,
+    profile_sum: Option<&str>,
+    count: u64,
+    out: &mut W,
+) -> Result<(), Refused>
+    ensures { Writes (W.state out.old) (W.state out.new)
+        (spec.done_line name.now part listed clashes (option_copied profile_sum.entry) count)
+        result }
+{
+    let how = DONE_FILES;
+    put_end(name, part, how, listed, clashes, profile_sum, count, out)
 }
 
 fn put_end<W: Out>(
@@ -233,11 +270,13 @@ fn put_end<W: Out>(
     part: Part,
     how: &str,
     listed: Listed,
+    clashes: bool,
+    profile_sum: Option<&str>,
     count: u64,
     out: &mut W,
 ) -> Result<(), Refused>
-    ensures { Writes (W.state out.old) (W.state out.new)
-        (spec.end_line how.now name.now part listed count) result }
+    ensures { Writes (W.state out.old) (W.state out.new) (spec.end_line how.now name.now part
+        listed clashes (option_copied profile_sum.entry) count) result }
 {
     let parts = part.of();
     let place = part.number() + 1;
@@ -245,14 +284,23 @@ fn put_end<W: Out>(
     let mut of = Buffer::new();
     let pieces = [PART, number.format(place), OF, of.format(parts)];
     put_line(name, &pieces, out)?;
-    put_cut(how, listed, count, out)
+    put_cut(how, listed, clashes, profile_sum, count, out)
 }
 
-/// How a part ended, of what files it was cut, and the number of faults that were written.
-fn put_cut<W: Out>(how: &str, listed: Listed, count: u64, out: &mut W) -> Result<(), Refused>
+/// How a part ended, of what files it was cut, what was asked for, and the number of faults that
+/// were written.
+fn put_cut<W: Out>(
+    how: &str,
+    listed: Listed,
+    clashes: bool,
+    profile_sum: Option<&str>,
+    count: u64,
+    out: &mut W,
+) -> Result<(), Refused>
     ensures { Writes (W.state out.old) (W.state out.new)
-        (spec.cut_line how.now listed count) result }
+        (spec.cut_line how.now listed clashes (option_copied profile_sum.entry) count) result }
 {
+    let (profile, sum) = profile_words(profile_sum);
     let mut files = Buffer::new();
     let mut bytes = Buffer::new();
     let mut faults = Buffer::new();
@@ -261,9 +309,30 @@ fn put_cut<W: Out>(how: &str, listed: Listed, count: u64, out: &mut W) -> Result
         files.format(listed.files),
         BYTES,
         bytes.format(listed.bytes),
+        clashes_words(clashes),
+        profile,
+        sum,
         said::FAULTS,
         faults.format(count),
         "\n",
     ];
     put_pieces(out, &pieces)
+}
+
+/// What is said where names that clash are looked for.
+fn clashes_words<'a>(clashes: bool) -> &'a str
+    ensures { result.now ≡ spec.clashes_words clashes }
+{
+    if clashes { CLASHES } else { "" }
+}
+
+/// What is said before the SHA-256 of a profile, and that, if there is one.
+fn profile_words<'a>(profile_sum: Option<&'a str>) -> (&'a str, &'a str)
+    ensures { result.0.now ++ result.1.now
+        ≡ spec.profile_words (option_copied profile_sum.entry) }
+{
+    match profile_sum {
+        Some(sum) => (PROFILE, sum),
+        None => ("", ""),
+    }
 }

@@ -10,7 +10,7 @@ use std::marker::Model;
 #[derive(Debug, Drop)]
 pub(crate) struct Queue<T> {
     items: Vec<T>,
-    next: usize,
+    pub(crate) next: usize,
 }
 
 impl<T> Model for Queue<T> {

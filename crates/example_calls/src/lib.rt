@@ -1,6 +1,7 @@
 //! The examples of docs/LIBRARY.md, proved: a check by a profile that goes on after an earlier
 //! report, a check that passes over files that can't be read, a report in segments and one in parts,
-//! a making with each refusal, a renewal, and a tree and an output of one's own.
+//! a check of a tar file, a making with each refusal, a renewal, and a tree and an output of one's
+//! own.
 #![tactic(auto)]
 
 mod check;
@@ -12,6 +13,7 @@ mod parts;
 mod passing;
 mod renewing;
 mod segments;
+mod tars;
 
 pub use check::check_by_profile;
 pub use making::{Advice, make_bag};
@@ -22,3 +24,4 @@ pub use parts::check_part;
 pub use passing::check_what_can_be_read;
 pub use renewing::add_sha512;
 pub use segments::check_in_segments;
+pub use tars::check_tar;

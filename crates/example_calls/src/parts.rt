@@ -28,6 +28,6 @@ pub fn check_part<T: Tree + Drop, W: Out>(
         quiet: false,
         name: Text::from_str(alloc, "deposit")?,
     };
-    let (tree, outcome) = run_part(alloc, tree, None, part, request, out);
+    let (tree, outcome) = run_part(alloc, tree, None, None, part, request, out);
     Ok((tree, outcome.status()))
 }

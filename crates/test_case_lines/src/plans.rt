@@ -60,6 +60,7 @@ fn put_plan(plan: &Plan, out: &mut Bytes) {
         Action::Help(_) => "help",
         Action::Check => "check",
         Action::CheckTars => "check tar",
+        Action::Join => "join",
         Action::Make => "make",
     });
     for directory in plan.directories.as_slice() {

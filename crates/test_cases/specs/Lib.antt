@@ -1,3 +1,4 @@
+pub mod CaseReports
 pub mod CaseTar
 pub mod Checked
 pub mod Shelf

@@ -3,6 +3,7 @@
 #![tactic(auto)]
 
 mod answers;
+mod case_reports;
 mod case_tar;
 mod commands;
 mod files;

@@ -1,11 +1,13 @@
 //! Disks in memory for the program.
-ghost use Rattle.std.specs.Prelude.{◌≡◌, [], ⊤, IfOk};
+ghost use Rattle.std.specs.Prelude.{◌≡◌, [], ⊤, IfOk, length};
+ghost use Rattle.bag_cli.specs.SystemReports.{unread_reports};
 ghost use Rattle.bag_cli.specs.SystemTar.{refused_times};
 ghost use Rattle.test_disk.specs.MemoryDisk.{state_of};
 ghost use Rattle.test_disk.specs.Refusing.{refusing};
 ghost use Rattle.test_cases.specs.Shelf.{disk_at, unclaimed};
 
 use crate::answers::answer_to;
+use crate::case_reports::CaseReports;
 use crate::case_tar::CaseTar;
 use crate::commands::Verb;
 use crate::world::World;
@@ -51,9 +53,13 @@ impl Disks for World {
 
     type Archive = CaseTar;
 
+    type Reports = CaseReports;
+
     ghost below = { λ world. unclaimed world.disks };
 
     ghost archived = { λ _ _. refused_times 0 [] };
+
+    ghost reported = { λ _ paths. unread_reports (length paths) };
 
     ghost file = { λ _ _ _. ⊤ };
 
@@ -72,6 +78,10 @@ impl Disks for World {
 
     fn archive(&self, alloc: Global, path: &str) -> Result<CaseTar, AllocError> {
         CaseTar::of(alloc, self.file(path))
+    }
+
+    fn reports(&self, alloc: Global, paths: &[Text]) -> Result<CaseReports, AllocError> {
+        CaseReports::of(alloc, self, paths)
     }
 
     fn read_file(&self, alloc: Global, path: &str, most: u32) -> Result<Vec<u8>, ReadFault> {
@@ -100,9 +110,13 @@ impl<'a, D: Disks> Disks for Refusing<'a, D> {
 
     type Archive = D::Archive;
 
+    type Reports = D::Reports;
+
     ghost below = { λ these base. refusing (D.below these.disks.now base) these.fault 0 };
 
     ghost archived = { λ these. D.archived these.disks.now };
+
+    ghost reported = { λ these. D.reported these.disks.now };
 
     ghost file = { λ these. D.file these.disks.now };
 
@@ -117,6 +131,10 @@ impl<'a, D: Disks> Disks for Refusing<'a, D> {
 
     fn archive(&self, alloc: Global, path: &str) -> Result<D::Archive, AllocError> {
         self.disks.archive(alloc, path)
+    }
+
+    fn reports(&self, alloc: Global, paths: &[Text]) -> Result<D::Reports, AllocError> {
+        self.disks.reports(alloc, paths)
     }
 
     fn read_file(&self, alloc: Global, path: &str, most: u32) -> Result<Vec<u8>, ReadFault> {

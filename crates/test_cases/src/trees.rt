@@ -44,7 +44,7 @@ fn checked_part<T: Tree + Drop>(
     request: Request,
 ) -> (T, Vec<u8>, u8) {
     let mut out = WriterOut::new(Vec::<u8>::new(alloc));
-    let (tree, outcome) = run_part(alloc, tree, None, part, request, &mut out);
+    let (tree, outcome) = run_part(alloc, tree, None, None, part, request, &mut out);
     (tree, out.into_inner(), outcome.status())
 }
 

@@ -11,8 +11,6 @@ mod drawn;
 #[cfg(test)]
 mod fetch_list;
 #[cfg(test)]
-mod joins;
-#[cfg(test)]
 mod metadata;
 #[cfg(test)]
 mod parts;

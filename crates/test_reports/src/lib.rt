@@ -1,8 +1,7 @@
 //! What runs, walks, makings and readers do that no words of the command line and no case file can
-//! ask for: the order of faults and their copies, which files are opened, faults that are taken one
-//! at a time, outputs that refuse at each place, lists and sizes that are not the bag's, thousands
-//! of lines and files, and requests that words can't give, and what a
-//! profile says of bags in archives.
+//! ask for: the order of faults and their copies, faults that are taken one at a time, outputs that
+//! refuse at each place, lists and sizes that are not the bag's, thousands of lines and files, and
+//! requests that words can't give.
 #![tactic(auto)]
 
 #[cfg(test)]
@@ -10,15 +9,11 @@ mod checks;
 #[cfg(test)]
 mod faults;
 #[cfg(test)]
-mod forms;
-#[cfg(test)]
 mod large_bags;
 #[cfg(test)]
 mod listings;
 #[cfg(test)]
 mod makings;
-#[cfg(test)]
-mod openings;
 #[cfg(test)]
 mod pieces;
 #[cfg(test)]
@@ -36,10 +31,6 @@ mod shown;
 #[cfg(test)]
 mod sources;
 #[cfg(test)]
-mod texts;
-#[cfg(test)]
 mod walks;
-#[cfg(test)]
-mod words;
 #[cfg(test)]
 mod written;

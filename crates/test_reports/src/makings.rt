@@ -2,9 +2,8 @@
 //! which a making can end, and thousands of files.
 use crate::checks::{Files, opened, put_files, put_letters};
 use crate::series::{Parts, text_of};
-use bag_cli::{make_and_report, put_making};
-use bag_make::MakeFault;
-use bag_store::{FailTree, MemoryTree, Tree, TreeFault, WriteTree, WriterOut, read_whole};
+use bag_cli::make_and_report;
+use bag_store::{FailTree, MemoryTree, Tree, WriteTree, WriterOut, read_whole};
 use bag_text::{Alg, AlgSet, Text};
 use std::alloc::Global;
 use std::process::Abort;
@@ -105,88 +104,6 @@ fn try_refused(stop: &impl Abort, alloc: Global, files: Files, request: Request,
 fn bad_requests_are_refused_before_the_folder_is_listed(rt: HostRuntime) {
     for &(files, request, line) in REFUSED {
         try_refused(&rt, rt.alloc(), files, request, line);
-    }
-}
-
-/// A bag whose metadata has labels that no option has, in the order in which they were given, the
-/// size of the payload last.
-const LABELLED: Files = &[
-    (
-        "bag-info.txt",
-        b"Source-Organization: Z\nContact-Name: Ann\nContact-Name: Bo\na b: \na: b: c :d\n#: %0A\nPayload-Oxum-: 1.1\n\
-          Bag-Count: 1 of 2\nPayload-Oxum: 5.2\n",
-    ),
-    (
-        "bagit.txt",
-        b"BagIt-Version: 1.0\nTag-File-Character-Encoding: UTF-8\n",
-    ),
-    ("data/c", b"abc"),
-    ("data/data/a", b"ab"),
-    (
-        "manifest-sha1.txt",
-        b"a9993e364706816aba3e25717850c26c9cd0d89d  data/c\n\
-          da23614e02469a0d7c7bd1bdab5c9c474b1904dc  data/data/a\n",
-    ),
-    (
-        "tagmanifest-sha1.txt",
-        b"98bc3f77dfe452b8cf133849aab3b71f6c4184a9  bag-info.txt\n\
-          8010d7758f1793d0221c529fef818ff988dda141  bagit.txt\n\
-          56d7a8de62a1fb07112fd7050df44cd04fecf8d4  manifest-sha1.txt\n",
-    ),
-];
-
-/// What that bag's metadata was to say.
-const LABELS: &[(&str, &str)] = &[
-    ("Source-Organization", "Z"),
-    ("Contact-Name", "Ann"),
-    ("Contact-Name", "Bo"),
-    ("a b", ""),
-    ("a", "b: c :d"),
-    ("#", "%0A"),
-    ("Payload-Oxum-", "1.1"),
-    ("Bag-Count", "1 of 2"),
-];
-
-#[test]
-fn labels_that_no_option_has(rt: HostRuntime) {
-    let tree = folder(&rt, rt.alloc(), &[("c", b"abc"), ("data/a", b"ab")]);
-    let (mut tree, told) = made(&rt, rt.alloc(), tree, (&[Alg::Sha1], LABELS));
-    assert!(rt; told.as_str() == "d made\n" && holds(&rt, rt.alloc(), &mut tree, LABELLED));
-}
-
-/// The causes, and their words.
-const CAUSES: &[(TreeFault, &str)] = &[
-    (TreeFault::Device, "device"),
-    (TreeFault::Special, "special"),
-    (TreeFault::Name, "name"),
-    (TreeFault::NotFound, "not-found"),
-    (TreeFault::TooMany, "too-many"),
-    (TreeFault::Changed, "changed"),
-    (TreeFault::NoneOpen, "none-open"),
-    (TreeFault::Memory, "memory"),
-    (TreeFault::Exists, "exists"),
-];
-
-/// A making whose step was refused for a cause writes this word, quiet or not.
-fn try_told(stop: &impl Abort, alloc: Global, cause: TreeFault, word: &str, quiet: bool) {
-    let made = Err(MakeFault::StepRefused(u64::MAX, cause));
-    let mut out = WriterOut::new(Vec::<u8>::new(alloc));
-    let _ = put_making("d", &made, quiet, &mut out);
-    let wanted = format!(in alloc; "d not made: step 18446744073709551615 {word}\n").expect(
-        stop, "succeeds",
-    );
-    assert!(stop;
-        out.into_inner().as_slice() == wanted.as_bytes(),
-        "{wanted}"
-    );
-}
-
-#[test]
-fn a_step_that_is_refused(rt: HostRuntime) {
-    for &(cause, word) in CAUSES {
-        for quiet in [false, true] {
-            try_told(&rt, rt.alloc(), cause, word, quiet);
-        }
     }
 }
 

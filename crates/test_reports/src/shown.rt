@@ -88,6 +88,10 @@ const OPTIONS: &[(CheckOption, (&str, &str))] = &[
         CheckOption::Tar,
         ("bagit: --tar needs --validate", "NeedsValidate(Tar)"),
     ),
+    (
+        CheckOption::Join,
+        ("bagit: --join needs --validate", "NeedsValidate(Join)"),
+    ),
 ];
 
 #[test]
@@ -118,6 +122,11 @@ fn refused_words(rt: HostRuntime) {
         "NotAPart",
     );
     try_shown(&rt, rt.alloc(), &Usage::NotAPart, texts);
+    let texts = (
+        "bagit: --join takes neither --quiet nor another option of a check",
+        "JoinWithOther",
+    );
+    try_shown(&rt, rt.alloc(), &Usage::JoinWithOther, texts);
     let texts = ("bagit: out of memory", "Memory");
     try_shown(&rt, rt.alloc(), &Usage::Memory, texts);
     let refused = Usage::Refused(text_of(&rt, rt.alloc(), "error: 'x'\n"));

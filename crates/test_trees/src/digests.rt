@@ -2,7 +2,7 @@
 //! cut, and where a call is refused.
 ghost use Rattle.std.specs.Prelude.{◌<◌, length};
 
-use bag_store::{Digests, FailTree, FileEntry, HexFault, MemoryTree, Sums, TreeFault, digest_file};
+use bag_store::{Digests, FailTree, FileEntry, MemoryTree, Sums, TreeFault, digest_file};
 use bag_text::{Alg, AlgSet, Text};
 use std::alloc::Global;
 use std::process::Abort;
@@ -80,19 +80,6 @@ fn pieces_have_the_digest_of_the_whole(rt: HostRuntime) {
     }
 }
 
-/// Only the algorithms that were asked for have a digest, and each of them has.
-#[test]
-fn no_other_algorithm_has_a_digest(rt: HostRuntime) {
-    for asked in Alg::ALL {
-        let sums = summed(AlgSet::empty().with(asked), &[b"abc".as_slice()]);
-        for &(alg, value) in OF_ABC {
-            let refusal = (alg != asked).then_some(HexFault::NotAsked);
-            assert!(rt; sums.hex(rt.alloc(), alg).err() == refusal, "{value}");
-            assert!(rt; sums.is_spelled(alg, value) == (alg == asked), "{value}");
-        }
-    }
-}
-
 /// So many bytes, of which no neighbours are alike.
 pub(crate) fn bytes_of(stop: &impl Abort, alloc: Global, size: u32) -> Vec<u8> {
     let mut bytes = Vec::new(alloc);
@@ -122,60 +109,6 @@ fn sums_of(
     tree.put_file(PATH, bytes).expect(stop, "succeeds");
     let mut tree = FailTree::new(tree, refused);
     digest_file(&mut tree, &FileEntry { path, size }, every_alg(), buffer)
-}
-
-/// The digests of a file of `size` bytes are those of its bytes.
-fn try_summed(stop: &impl Abort, alloc: Global, size: u32, buffer: &mut [u8])
-    requires { 0 < length buffer.old }
-{
-    let bytes = bytes_of(stop, alloc, size);
-    let listed = (PATH, u64::from(size));
-    let found = sums_of(stop, alloc, &bytes, listed, 0, buffer).expect(stop, "succeeds");
-    let wanted = summed(every_alg(), &[&bytes]);
-    for alg in Alg::ALL {
-        let value = wanted.hex(alloc, alg).expect(stop, "succeeds");
-        assert!(stop;
-            found.is_spelled(alg, value.as_str()),
-            "{size} bytes: {value}"
-        );
-    }
-}
-
-#[test]
-fn files_are_summed_through_any_buffer(rt: HostRuntime) {
-    for size in [0, 1, 3, 7, 8, 70_000] {
-        try_summed(&rt, rt.alloc(), size, &mut [0; 1]);
-        try_summed(&rt, rt.alloc(), size, &mut [0; 7]);
-        try_summed(&rt, rt.alloc(), size, &mut [0; 65_536]);
-    }
-}
-
-/// How a file of seven bytes is listed, its path and its size, each with what its digests are
-/// refused for.
-const REFUSED: &[((&str, u64), TreeFault)] = &[
-    ((PATH, 0), TreeFault::Changed),
-    ((PATH, 6), TreeFault::Changed),
-    ((PATH, 8), TreeFault::Changed),
-    ((PATH, u64::MAX), TreeFault::Changed),
-    (("data/y", 7), TreeFault::NotFound),
-    (("/data/x", 7), TreeFault::NotFound),
-];
-
-/// Each row is refused.
-fn try_refused(stop: &impl Abort, alloc: Global, buffer: &mut [u8])
-    requires { 0 < length buffer.old }
-{
-    for &(listed, fault) in REFUSED {
-        let found = sums_of(stop, alloc, b"abcdefg", listed, 0, buffer).err();
-        assert!(stop; found == Some(fault), "{}", listed.1);
-    }
-}
-
-#[test]
-fn other_sizes_and_paths_are_refused(rt: HostRuntime) {
-    try_refused(&rt, rt.alloc(), &mut [0; 1]);
-    try_refused(&rt, rt.alloc(), &mut [0; 7]);
-    try_refused(&rt, rt.alloc(), &mut [0; 65_536]);
 }
 
 /// A pass makes a call for the opening, one for each piece, and one for the end: at most two more

@@ -1,11 +1,9 @@
-//! What stands at paths, disks in memory that hold it, and what trees list and read.
+//! What stands at paths, and what trees list and read.
 use bag_store::{FileEntry, Tree, TreeFault, read_whole};
 use bag_text::Text;
 use std::alloc::Global;
-use std::collections::BTreeMap;
 use std::process::Abort;
 use std::str;
-use test_disk::{MemoryDisk, Node};
 
 /// What stands at a path of a table.
 #[derive(Clone, Copy)]
@@ -22,30 +20,6 @@ pub(crate) type Place = (&'static [u8], Held);
 
 pub(crate) fn text_of(stop: &impl Abort, alloc: Global, text: &str) -> Text {
     Text::from_str(alloc, text).expect(stop, "succeeds")
-}
-
-fn node(stop: &impl Abort, alloc: Global, held: Held) -> Node {
-    match held {
-        Held::File(text) => Node::File(text.as_bytes().to_vec(alloc).expect(stop, "succeeds")),
-        Held::Folder => Node::Folder,
-        Held::Other => Node::Other,
-    }
-}
-
-/// The disk of a table, where there is one.
-pub(crate) fn maybe_disk(stop: &impl Abort, alloc: Global, places: &[Place]) -> Option<MemoryDisk> {
-    let mut nodes = BTreeMap::new(alloc);
-    for (path, held) in places {
-        let key = path.to_vec(alloc).expect(stop, "succeeds");
-        let put: Result<_, _> = nodes.insert(key, node(stop, alloc, *held));
-        put.expect(stop, "succeeds");
-    }
-    MemoryDisk::holding(alloc, nodes)
-}
-
-/// The disk of a table.
-pub(crate) fn disk(stop: &impl Abort, alloc: Global, places: &[Place]) -> MemoryDisk {
-    maybe_disk(stop, alloc, places).expect(stop, "a disk")
 }
 
 /// Writes what a file of a tree holds, after `=`.

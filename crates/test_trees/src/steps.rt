@@ -68,7 +68,6 @@ pub(crate) enum Step {
     RenameFolder(Name, Name),
     /// Makes a file with this text.
     Create(Name, &'static str),
-    List,
     Open(&'static str),
     /// Reads with room for four bytes.
     Read,
@@ -119,7 +118,6 @@ pub(crate) fn take<T: WriteTree>(tree: &mut T, step: Step) -> Answer {
         Step::MoveIn(top, folder) => answer_of(move_in(tree, top.text(), folder.text())),
         Step::RenameFolder(from, to) => answer_of(tree.rename_folder(from.text(), to.text())),
         Step::Create(name, text) => answer_of(tree.create(name.text(), text.as_bytes())),
-        Step::List => count_listed(tree),
         Step::Open(path) => answer_of(tree.open_file(path)),
         Step::Read => tree.read(&mut [0; 4]),
     }

@@ -5,7 +5,7 @@ use crate::steps::Name::{
     Blanks, D, Data, Declaration, Ends, L, Letter, Line, LineFeed, M, N, New, Nothing, Percent,
     Return, X, Y,
 };
-use crate::steps::Step::{Create, List, MakeFolder, MoveIn, Open, Read, RenameFolder};
+use crate::steps::Step::{Create, MakeFolder, MoveIn, Open, Read, RenameFolder};
 use crate::steps::{Answer, Trial};
 use bag_store::TreeFault;
 
@@ -216,60 +216,4 @@ pub(crate) const DISK_TRIALS: &[Trial] = &[
         ],
         after: "special",
     },
-];
-
-const ONE_FILE: &[Place] = &[(b"data/x", File("abc"))];
-
-const ONE_HELD: &str = "true, data/x=abc";
-
-/// What is tried on trees of which the call of a number is refused.
-pub(crate) const REFUSED_TRIALS: &[(u64, Trial)] = &[
-    (
-        1,
-        Trial {
-            title: "a list is refused once",
-            before: ONE_FILE,
-            steps: &[
-                (List, DEVICE),
-                (List, Ok(1)),
-                (Open("data/x"), DONE),
-                (Read, Ok(3)),
-            ],
-            after: ONE_HELD,
-        },
-    ),
-    (
-        3,
-        Trial {
-            title: "after a refused opening nothing is open",
-            before: ONE_FILE,
-            steps: &[
-                (List, Ok(1)),
-                (Open("data/x"), DONE),
-                (Open("data/x"), DEVICE),
-                (Read, NONE_OPEN),
-                (List, Ok(1)),
-                (Read, NONE_OPEN),
-                (Open("data/y"), NOT_FOUND),
-                (Read, NONE_OPEN),
-                (Open("data/x"), DONE),
-                (Read, Ok(3)),
-            ],
-            after: ONE_HELD,
-        },
-    ),
-    (
-        2,
-        Trial {
-            title: "after a refused read the file is open",
-            before: ONE_FILE,
-            steps: &[
-                (Open("data/x"), DONE),
-                (Read, DEVICE),
-                (Read, Ok(3)),
-                (Read, DONE),
-            ],
-            after: ONE_HELD,
-        },
-    ),
 ];

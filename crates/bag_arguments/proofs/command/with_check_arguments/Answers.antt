@@ -10,7 +10,5 @@ returns c =
     let four = added c.in_ok-arg-4.ensures c.check_value.ensures.global three c.check_value.ensures.rule in
     let five = added c.in_ok-arg-5.ensures c.check_value-2.ensures.global four c.check_value-2.ensures.rule in
     let six = added c.in_ok-arg-6.ensures c.check_number.ensures.global five c.check_number.ensures.rule in
-    let seven = added c.in_ok-arg-7.ensures c.check_flag-4.ensures.global six c.check_flag-4.ensures.rule in
-    let eight = added c.in_ok-arg-8.ensures c.check_value-3.ensures.global seven c.check_value-3.ensures.rule in
-    IfOk-weaker c.arg-9.result _ _ (λ r h. added h c.check_flag-5.ensures.global eight c.check_flag-5.ensures.rule)
-    c.arg-9.ensures
+    IfOk-weaker c.arg-7.result _ _ (λ r h. added h c.check_flag-4.ensures.global six c.check_flag-4.ensures.rule)
+    c.arg-7.ensures

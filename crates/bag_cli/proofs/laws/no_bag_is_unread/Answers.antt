@@ -1,6 +1,6 @@
 -- What is reported of an honest tar file that holds no one bag.
 use Rattle.bag_cli.proofs.Common.{◌≡◌, ◌⊎◌, ◌∙◌, [], ◌∷◌, ℕ, inl, inr, IsTrue, List, Option, arith, subst, sym}
-use Rattle.bag_cli.proofs.Common.{ArchiveState, Event, OutState, Plan, Profile, AreTarChecksOf, Result, Err}
+use Rattle.bag_cli.proofs.Common.{ArchiveState, Event, OutState, Plan, SummedProfile, AreTarChecksOf, Result, Err}
 use Rattle.bag_cli.proofs.Common.{IsLastTarCheck, IsWholeTarCheck, unwrap_or}
 use Rattle.bag_tar.specs.Found.{Contents}
 use Rattle.bag_tar.specs.Walk.{MayStop, contents_of}
@@ -18,7 +18,7 @@ said_for archive new cause said honest none (inr (same, inl memory)) = inr (inr 
 said_for archive new cause said honest none (inr (same, inr due)) =
     inl (one_fault (contents_of archive.bytes) said cause (due honest) none)
 
-module _ (plan : Plan) (profile : Option Profile) (archive : ArchiveState) (name : List ℕ) (cause : TarFault)
+module _ (plan : Plan) (profile : Option SummedProfile) (archive : ArchiveState) (name : List ℕ) (cause : TarFault)
     (honest : IsTrue archive.honest) (none : contents_of archive.bytes ≡ Err cause) where
   whole : (before after : OutState) (visits : List Event) (n : ℕ)
       → IsWholeTarCheck plan profile archive name before after visits n → (n ≡ 3) × IsToldFor cause name before after
@@ -34,7 +34,7 @@ module _ (plan : Plan) (profile : Option Profile) (archive : ArchiveState) (name
     ),
   )
 
-by_turn : (plan : Plan) (profile : Option Profile) (archived : List ℕ → ArchiveState) (name : List ℕ)
+by_turn : (plan : Plan) (profile : Option SummedProfile) (archived : List ℕ → ArchiveState) (name : List ℕ)
     (cause : TarFault) (before after : OutState) (visits : List Event) (n : ℕ)
     → IsTrue (archived name).honest → contents_of (archived name).bytes ≡ Err cause
     → AreTarChecksOf plan profile archived (name ∷ []) before after visits n

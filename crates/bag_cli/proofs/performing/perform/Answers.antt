@@ -8,7 +8,8 @@ returns-in-Ok g c =
     let plan = c.args.plan.now in
     let done = c.in-Ok.ensures in record {
       status =
-          performed_status (g.D.Disks.below disks) (g.D.Disks.archived disks) (g.D.Disks.file disks) plan plan.action
+          performed_status (g.D.Disks.below disks) (g.D.Disks.archived disks) (g.D.Disks.reported disks)
+          (g.D.Disks.file disks) plan plan.action
           (g.O.Out.state c.args.out.now) (g.O.Out.state c.perform.new.out) done.0 c.in-Ok.status done.2;
       performed = done;
     }

@@ -3,6 +3,9 @@ use Rattle.bag_cli.proofs.words_refusal.say_usage.Goals as goal
 pub returns-in-NeedsValidate : goal.returns-in-NeedsValidate
 returns-in-NeedsValidate g c = rw c.in-NeedsValidate.is (rw c.id.ensures at c.say_on.ensures)
 
+pub returns-in-JoinWithOther : goal.returns-in-JoinWithOther
+returns-in-JoinWithOther g c = rw c.in-JoinWithOther.is c.say_on-in-JoinWithOther.ensures
+
 pub returns-in-TwoDepths : goal.returns-in-TwoDepths
 returns-in-TwoDepths g c = rw c.in-TwoDepths.is c.say_on-in-TwoDepths.ensures
 

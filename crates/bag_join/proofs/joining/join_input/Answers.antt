@@ -1,4 +1,4 @@
-use Rattle.std.proofs.Common.{IsTrue, [], arith, subst, sym}
+use Rattle.std.proofs.Common.{IsTrue, [], ap, arith, subst, sym}
 use Rattle.std.proofs.lemmas.Grind.{common_steps}
 use Rattle.bag_join.proofs.Ends.{may_refuse}
 use Rattle.bag_join.proofs.Joined.{joins_all}
@@ -12,7 +12,7 @@ returns-clause-joined g c =
     let joins = c.in_ok-count.ensures.joins in
     let closes = rw c.as_str.ensures at c.in_ok-outcome.ensures.closes in
     rw c.in_ok-outcome.ensures.outcome
-    (joins_all _ _ _ _ _ _ _ _ _ _ c.in_ok-plan.ensures.some c.in_ok-plan.ensures.most joins.1 closes)
+    (joins_all _ _ _ _ _ _ _ _ _ c.in_ok-plan.ensures.some c.in_ok-plan.ensures.most joins.1 closes)
 
 pub returns-in_err-plan-clause-whole : goal.returns-in_err-plan-clause-whole
 returns-in_err-plan-clause-whole g c findings whole =
@@ -37,7 +37,7 @@ returns-clause-whole g c findings whole =
     let wrote = c.in_ok-count.ensures.whole findings whole.are honest planned in
     let closes = rw c.as_str.ensures at c.in_ok-outcome.ensures.closes in
     report_written findings _ wrote.0 (g.W.Out.state c.args.out.now) (g.W.Out.state c.write_again.new.out)
-    (g.W.Out.state c.close.new.out) _ _ planned.name wrote.1 closes c.in_ok-outcome.ensures.outcome
+    (g.W.Out.state c.close.new.out) _ _ (ap (λ s. s.name) planned.subject) wrote.1 closes c.in_ok-outcome.ensures.outcome
 
 pub returns-in_err-plan-clause-left : goal.returns-in_err-plan-clause-left
 returns-in_err-plan-clause-left g c =

@@ -1,11 +1,20 @@
 use Rattle.std.proofs.Common.{◌≡◌, ℕ, ◌<◌, None, Some, length, subst, vec_len, arith}
 use Rattle.std.proofs.lemmas.Grind.{common_steps}
 use Rattle.bag_join.specs.Join.{JoinsPart}
-use Rattle.bag_join.proofs.Joined.{joins_more, part_numbered}
+use Rattle.bag_join.proofs.Joined.{joins_more, joins_none, part_numbered}
 use Rattle.bag_join.proofs.Left.{leaves_on}
-use Rattle.bag_join.proofs.OneReport.{same_more}
-use Rattle.bag_join.proofs.Turns.{has_place, place_at, turn_comes, writes_first_more}
+use Rattle.bag_join.proofs.OneReport.{same_itself, same_more}
+use Rattle.bag_join.proofs.Turns.{has_place, place_at, turn_comes, writes_first_more, writes_first_none}
 use Rattle.bag_join.proofs.parts.write_parts.Goals as goal
+
+pub parts-init : goal.parts-init
+parts-init g c =
+    let state = g.R.Reports.state c.args.input.now.reports in
+    let out = g.W.Out.state c.args.out.now in (
+      joins_none c.args.plan.now.subject (length c.args.plan.now.places.items) state out,
+      same_itself state,
+      λ findings are honest planned. writes_first_none findings out,
+    )
 
 pub parts-preserved : goal.parts-preserved
 parts-preserved g c =
@@ -15,11 +24,11 @@ parts-preserved g c =
     let next = c.in-Ok.ensures.joins in
     let size : vec_len plan.places ≡ length plan.places.items = grind (arith, common_steps) in
     let Joins : ℕ → Type 0 =
-    λ of. JoinsPart plan.name plan.listed (part_numbered c.parts.index of) (state c.parts.input.reports)
+    λ of. JoinsPart plan.subject (part_numbered c.parts.index of) (state c.parts.input.reports)
     (state c.write_next.new.input.reports) c.parts.last c.write_next.new.last (out c.parts.out)
     (out c.write_next.new.out) next.0 in
     let part = subst Joins size next.2 in (
-      rw next.1 (joins_more _ _ _ _ _ _ _ _ _ _ _ _ _ _ c.parts.invariant.0 part),
+      rw next.1 (joins_more _ _ _ _ _ _ _ _ _ _ _ _ _ c.parts.invariant.0 part),
       same_more _ _ _ c.parts.invariant.1 c.in-Ok.ensures.same,
       λ findings are honest planned.
           let parts = planned.parts in

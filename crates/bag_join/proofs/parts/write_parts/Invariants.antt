@@ -7,7 +7,7 @@ use Rattle.bag_join.proofs.parts.write_parts.Given as goal
 
 abbrev pub invariant-parts : goal.invariant-parts
 invariant-parts g l =
-    JoinsFirst l.plan.name l.plan.listed (length l.plan.places.items) (g.R.Reports.state l.initial.input.reports)
+    JoinsFirst l.plan.subject (length l.plan.places.items) (g.R.Reports.state l.initial.input.reports)
     (g.R.Reports.state l.input.reports) l.last (g.W.Out.state l.initial.out) (g.W.Out.state l.out) l.index l.total
     × SameReports (g.R.Reports.state l.initial.input.reports) (g.R.Reports.state l.input.reports)
     × ((findings : Findings) → AreFindings findings → IsTrue (g.R.Reports.state l.initial.input.reports).honest

@@ -16,21 +16,21 @@ lines-preserved g c =
     )
 
 pub returns-then-is_empty-clause-last : goal.returns-then-is_empty-clause-last
-returns-then-is_empty-clause-last g c faults front other after few honest there held =
+returns-then-is_empty-clause-last g c lines front plain are few honest there held =
     let said = c.in_ok-next_line.ensures in
     let falsity : c.in_ok-next_line.field-0 ≡ false = grind (arith, common_steps) in
     let opened = c.in_ok-open.ensures.ahead _ honest held in
     let ends = nears_end _ _ _ c.open.new.self.passed.bytes c.lines.input.passed.bytes _ _ c.lines.last.items
-    c.lines.counter _ falsity c.lines.invariant.1 said.first said.none faults front other after opened in
+    c.lines.counter _ falsity c.lines.invariant.1 said.first said.none lines front plain are opened in
     ends.1
 
 pub returns-then-not-branch-clause-last : goal.returns-then-not-branch-clause-last
-returns-then-not-branch-clause-last g c faults front other after few honest there held =
+returns-then-not-branch-clause-last g c lines front plain are few honest there held =
     let said = c.in_ok-next_line.ensures in
     let falsity : c.in_ok-next_line.field-0 ≡ false = grind (arith, common_steps) in
     let opened = c.in_ok-open.ensures.ahead _ honest held in
     let ends = nears_end _ _ _ c.open.new.self.passed.bytes c.lines.input.passed.bytes _ _ c.lines.last.items
-    c.lines.counter _ falsity c.lines.invariant.1 said.first said.none faults front other after opened in
+    c.lines.counter _ falsity c.lines.invariant.1 said.first said.none lines front plain are opened in
     let empty = ends.0 in
     let not = c.if-is_empty.false in
     grind (arith, common_steps)

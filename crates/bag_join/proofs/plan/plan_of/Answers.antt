@@ -5,22 +5,22 @@ use Rattle.bag_join.proofs.Placing.{all_placed, fills_next, fills_none, held_cou
 use Rattle.bag_join.proofs.OneReport.{same_itself, same_more}
 use Rattle.bag_join.proofs.plan.plan_of.Goals as goal
 
-pub returns-in_err-name-clause-whole : goal.returns-in_err-name-clause-whole
-returns-in_err-name-clause-whole g c findings whole =
+pub returns-in_err-subject-clause-whole : goal.returns-in_err-subject-clause-whole
+returns-in_err-subject-clause-whole g c findings whole =
     let turn = is_planned findings _ _ 0 (same_itself (g.R.Reports.state c.args.input.now.reports)) whole whole.are.some in
-    let told = c.in_err-name.ensures.whole findings (get_or whole.order 0 0) whole.are turn.below turn.honest turn.there
+    let told = c.in_err-subject.ensures.whole findings (get_or whole.order 0 0) whole.are turn.below turn.honest turn.there
     turn.held in
     grind (arith, common_steps)
 
 pub reports-init : goal.reports-init
 reports-init g c = (
-  c.in_ok-name.ensures.same,
+  c.in_ok-subject.ensures.same,
   λ findings whole.
       let state = g.R.Reports.state c.args.input.now.reports in
       let is = order_is (length findings.parts) whole.order whole.each_once in
       let size = is.size in
       let turn = is_planned findings _ _ 0 (same_itself state) whole whole.are.some in
-      let told = c.in_ok-name.ensures.whole findings (get_or whole.order 0 0) whole.are turn.below turn.honest
+      let told = c.in_ok-subject.ensures.whole findings (get_or whole.order 0 0) whole.are turn.below turn.honest
       turn.there turn.held in
       let of : c.of.result ≡ length whole.order = c.of.ensures.of ∙ ap (λ said. said.part.of) told ∙ sym size in
       fills_none whole.order c.in-Ok.places.items
@@ -31,7 +31,7 @@ pub returns-in_err-said-clause-whole : goal.returns-in_err-said-clause-whole
 returns-in_err-said-clause-whole g c findings whole =
     let has = c.reports.invariant in
     let count = c.count-number-end.ensures in
-    let same = c.in_ok-name.ensures.same in
+    let same = c.in_ok-subject.ensures.same in
     let as_many = same.count ∙ held_count findings _ whole in
     let more = c.reports-test.true in
     let turn = is_planned findings _ _ c.reports.number has.0 whole (omega arith) in
@@ -44,12 +44,12 @@ returns-in-Err-take_place-clause-whole g c findings whole =
     let state = g.R.Reports.state c.args.input.now.reports in
     let has = c.reports.invariant in
     let count = c.count-number-end.ensures in
-    let same = c.in_ok-name.ensures.same in
+    let same = c.in_ok-subject.ensures.same in
     let as_many = same.count ∙ held_count findings _ whole in
     let more = c.reports-test.true in
     let is = order_is (length findings.parts) whole.order whole.each_once in
     let first = is_planned findings _ _ 0 (same_itself state) whole whole.are.some in
-    let told = c.in_ok-name.ensures.whole findings (get_or whole.order 0 0) whole.are first.below first.honest
+    let told = c.in_ok-subject.ensures.whole findings (get_or whole.order 0 0) whole.are first.below first.honest
     first.there first.held in
     let turn = is_planned findings _ _ c.reports.number has.0 whole (omega arith) in
     let said = c.in_ok-said.ensures.whole findings (get_or whole.order c.reports.number 0) whole.are turn.below
@@ -57,16 +57,14 @@ returns-in-Err-take_place-clause-whole g c findings whole =
     let fills = has.1 findings whole in
     let free = next_free (length findings.parts) whole.order c.reports.places.items c.reports.number is (omega arith)
     fills in
-    let n1 : c.in_ok-said.said.name ≡ c.in_ok-name.field-0.name = ap (λ s. s.name) said ∙ sym (ap (λ s. s.name) told) in
-    let n2 : c.in_ok-said.said.listed ≡ c.in_ok-name.field-0.listed =
-    ap (λ s. s.listed) said ∙ sym (ap (λ s. s.listed) told) in
+    let n1 : c.in_ok-said.said.subject ≡ c.in_ok-subject.field-0.subject = ap (λ s. s.subject) said ∙ sym (ap (λ s. s.subject) told) in
     let size = is.size in
     let long = fills.size in
     let of : c.in_ok-said.said.part.of ≡ length findings.parts = ap (λ s. s.part.of) said in
     let n3 : c.in_ok-said.said.part.of ≡ vec_len c.reports.places = grind (arith, common_steps) in
     let n4 : slice_get c.reports.places.items c.in_ok-said.said.part.number ≡ Some None =
     ap (λ n. slice_get c.reports.places.items n) (ap (λ s. s.part.number) said) ∙ free in
-    absurd (c.in-Err-take_place.ensures.takes n1 n2 n3 n4)
+    absurd (c.in-Err-take_place.ensures.takes n1 n3 n4)
 
 pub reports-preserved : goal.reports-preserved
 reports-preserved g c = (
@@ -75,12 +73,12 @@ reports-preserved g c = (
       let state = g.R.Reports.state c.args.input.now.reports in
       let has = c.reports.invariant in
       let count = c.count-number-end.ensures in
-      let same = c.in_ok-name.ensures.same in
+      let same = c.in_ok-subject.ensures.same in
       let as_many = same.count ∙ held_count findings _ whole in
       let more = c.reports-test.true in
       let is = order_is (length findings.parts) whole.order whole.each_once in
       let first = is_planned findings _ _ 0 (same_itself state) whole whole.are.some in
-      let told = c.in_ok-name.ensures.whole findings (get_or whole.order 0 0) whole.are first.below first.honest
+      let told = c.in_ok-subject.ensures.whole findings (get_or whole.order 0 0) whole.are first.below first.honest
       first.there first.held in
       let turn = is_planned findings _ _ c.reports.number has.0 whole (omega arith) in
       let said = c.in_ok-said.ensures.whole findings (get_or whole.order c.reports.number 0) whole.are turn.below
@@ -88,9 +86,7 @@ reports-preserved g c = (
       let fills = has.1 findings whole in
       let free = next_free (length findings.parts) whole.order c.reports.places.items c.reports.number is (omega arith)
       fills in
-      let n1 : c.in_ok-said.said.name ≡ c.in_ok-name.field-0.name = ap (λ s. s.name) said ∙ sym (ap (λ s. s.name) told) in
-      let n2 : c.in_ok-said.said.listed ≡ c.in_ok-name.field-0.listed =
-      ap (λ s. s.listed) said ∙ sym (ap (λ s. s.listed) told) in
+      let n1 : c.in_ok-said.said.subject ≡ c.in_ok-subject.field-0.subject = ap (λ s. s.subject) said ∙ sym (ap (λ s. s.subject) told) in
       let size = is.size in
       let long = fills.size in
       let of : c.in_ok-said.said.part.of ≡ length findings.parts = ap (λ s. s.part.of) said in
@@ -99,7 +95,7 @@ reports-preserved g c = (
       ap (λ n. slice_get c.reports.places.items n) (ap (λ s. s.part.number) said) ∙ free in
       fills_next (length findings.parts) whole.order c.reports.places.items c.take_place.new.places.items c.reports.number
       is (omega arith) fills
-      (c.in_default.ensures.takes n1 n2 n3 n4
+      (c.in_default.ensures.takes n1 n3 n4
       ∙ ap (λ n. slice_set c.reports.places.items n (Some c.reports.number)) (ap (λ s. s.part.number) said)),
 )
 
@@ -108,19 +104,18 @@ returns-clause-whole g c findings whole =
     let state = g.R.Reports.state c.args.input.now.reports in
     let has = c.reports.invariant in
     let count = c.count-number-end.ensures in
-    let same = c.in_ok-name.ensures.same in
+    let same = c.in_ok-subject.ensures.same in
     let as_many = same.count ∙ held_count findings _ whole in
     let done = c.reports-test.false in
     let is = order_is (length findings.parts) whole.order whole.each_once in
     let size = is.size in
     let first = is_planned findings _ _ 0 (same_itself state) whole whole.are.some in
-    let told = c.in_ok-name.ensures.whole findings (get_or whole.order 0 0) whole.are first.below first.honest
+    let told = c.in_ok-subject.ensures.whole findings (get_or whole.order 0 0) whole.are first.below first.honest
     first.there first.held in
     let fills = has.1 findings whole in
     let long = fills.size in
     record {
-      name = ap (λ said. said.name) told;
-      listed = ap (λ said. said.listed) told;
+      subject = ap (λ said. said.subject) told;
       parts = grind (arith, common_steps);
       placed =
           λ k inside. all_placed findings _ _ c.reports.places.items c.reports.number has.0 whole (omega arith) fills k

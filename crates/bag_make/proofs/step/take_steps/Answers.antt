@@ -28,6 +28,8 @@ more_taken steps i step old mid new within is taken done can no_failure asked = 
   honest = done.honest ∙ taken.honest;
   no_failure = no_failure ∙ taken.no_failure;
   openings = done.openings ∙ taken.openings;
+  listed = done.listed ∙ taken.listed;
+  gave = done.gave ∙ taken.gave;
   noted = done.noted ∙ taken.noted;
   asked = λ noted.
       subst (λ xs. Adds (AllAsk xs) old.trail new.trail) (sym (take_one_more steps i step within is))
@@ -44,6 +46,8 @@ none_taken steps state = record {
   honest = refl;
   no_failure = refl;
   openings = refl;
+  listed = refl;
+  gave = refl;
   noted = refl;
   asked = λ noted. none_added state.trail;
 }

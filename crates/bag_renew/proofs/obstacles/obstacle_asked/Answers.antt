@@ -10,6 +10,7 @@ returns c = λ bag of deep.
     (λ e. false≢true (sym c.if-is_empty.false ∙ c.is_empty.ensures.1 (c.new_algs.ensures bag of deep ∙ e)))
     (λ named. false≢true (sym c.if-is_named.false
     ∙ c.is_named.ensures.unnamed bag of deep (subst (IsNamedAsTag bag) (sym c.in_ok-begun.ensures) named)))
+    (sym (c.in_ok-path.ensures bag of) ∙ c.in-None.is)
 
 pub returns-then-is_named : goal.returns-then-is_named
 returns-then-is_named c = λ bag of deep.

@@ -1,4 +1,4 @@
-use Rattle.bag_walk.proofs.Common.{subst, codes, err_from_is_err_and, field, IsCut, Writes, ◌+◌}
+use Rattle.bag_walk.proofs.Common.{subst, codes, err_from_is_err_and, field, option_copied, IsCut, Writes, ◌+◌}
 use Rattle.std.specs.Prelude.{decimal}
 use Rattle.bag_tree.proofs.Writing.{IsCut-append, five_joined, writes_after}
 use Rattle.bag_walk.specs.PartRuns.{cut_line}
@@ -17,7 +17,7 @@ returns-in_err-put_line g c =
     rw p.1 (
       subst (IsCut _ _)
           (five_joined (field c.args.name.now) (codes " part ") (decimal (part.number + 1)) (codes " of ")
-          (decimal part.of) (cut_line c.args.how.now c.args.listed c.args.count))
+          (decimal part.of) (cut_line c.args.how.now c.args.listed c.args.clashes (option_copied c.args.profile_sum) c.args.count))
           (IsCut-append _ _ _ _ wrote.0),
       wrote.1,
     )
@@ -35,5 +35,5 @@ returns g c =
     let after = g.W.Out.state c.put_cut.new.out in
     subst (λ text. Writes before after text c.put_cut.result)
     (five_joined (field c.args.name.now) (codes " part ") (decimal (part.number + 1)) (codes " of ")
-    (decimal part.of) (cut_line c.args.how.now c.args.listed c.args.count))
+    (decimal part.of) (cut_line c.args.how.now c.args.listed c.args.clashes (option_copied c.args.profile_sum) c.args.count))
     (writes_after before (g.W.Out.state c.put_line.new.out) after _ _ _ c.put_cut.ensures wrote)

@@ -21,5 +21,5 @@ returns-clause-run g c =
       of_one_bag = then.ensures.of_one_bag;
       listed = then.result.1.listed;
       counts = then.ensures.listed;
-      closes = rw c.part_outcome.ensures at c.close_part-outcome.ensures;
+      closes = rw c.part_outcome-ending.ensures at c.close_part-outcome.ensures;
     }

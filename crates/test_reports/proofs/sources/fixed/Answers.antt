@@ -3,8 +3,4 @@ use Rattle.test_reports.proofs.sources.fixed.Goals as goal
 
 pub new-requires : goal.new-requires
 unfolding IsStrictlySortedBy
-new-requires g c = rw (c.new-faults.ensures.items) tt
-
-pub new-requires-2 : goal.new-requires-2
-unfolding IsStrictlySortedBy
-new-requires-2 g c = rw (c.push.ensures.items, c.expect.ensures, c.new-faults.ensures.items) (tt, tt)
+new-requires g c = rw (c.push.ensures.items, c.expect.ensures, c.new-faults.ensures.items) (tt, tt)

@@ -1,4 +1,6 @@
 use Rattle.std.proofs.Common.{◌≡◌, ℕ, List, [], Option, None, refl, subst}
+use Rattle.bag_cli.specs.SystemReports.{unread_reports}
+use Rattle.bag_join.specs.Reports.{ReportsState}
 use Rattle.bag_tar.specs.Archive.{ArchiveState}
 use Rattle.bag_tar.specs.MemoryArchive.{state_of_bytes}
 use Rattle.bag_tree.specs.Tree.{TreeState}
@@ -16,6 +18,7 @@ returns g c name one =
     let plan = c.args.plan.now in
     let below : List ℕ → DiskState = λ _. fresh (state_of c.args.held.now).nodes in
     let archived : List ℕ → ArchiveState = λ _. state_of_bytes [] in
+    let reported : List (List ℕ) → ReportsState = λ _. unread_reports 0 in
     let file : List ℕ → Option (List ℕ) → Type 0 = λ _ bytes. bytes ≡ None in
     let before = g.O.Out.state c.args.out.now in
     let after = g.O.Out.state c.perform.new.out in
@@ -23,9 +26,9 @@ returns g c name one =
     let performed = c.perform.ensures.performed in
     let visits = performed.0 in
     let over : SameDisks → Type 0 = λ disks.
-    IsPerformed (λ _. fresh (state_of disks.held.now).nodes) archived file plan before after visits n in
+    IsPerformed (λ _. fresh (state_of disks.held.now).nodes) archived reported file plan before after visits n in
     let done = subst over c.of-visits.ensures.disks performed.2 in
-    let acted = subst (λ (action : Action). IsDoneBy action below archived file plan before after visits n) one.0 done in
+    let acted = subst (λ (action : Action). IsDoneBy action below archived reported file plan before after visits n) one.0 done in
     let checks =
     subst (λ (path : Option (List ℕ)). IsChecked (AreChecked below plan) file plan path before after visits n) one.1
     acted in

@@ -13,12 +13,12 @@ returns-in-Ok g c =
       added _ _ _ (read ∷ []) done.0 (rw c.as_str.ensures at file.visits) done.1,
       rw c.in-Some.is (
         file.answer,
-        Ok c.in-Ok.profile,
+        Ok c.in-Ok.read,
         done.0,
         refl,
         rw c.as_str.ensures at file.is_answer,
         file.is_read,
-        form_of_read _ _ plan plan.action c.in-Ok.profile _ (g.O.Out.state c.args.out.now) (g.O.Out.state c.check_by.new.out) done.0 _
+        form_of_read _ _ plan plan.action c.in-Ok.read _ (g.O.Out.state c.args.out.now) (g.O.Out.state c.check_by.new.out) done.0 _
             c.in_form-formed.ensures done.2,
       ),
     )

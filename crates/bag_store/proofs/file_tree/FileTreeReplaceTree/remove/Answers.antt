@@ -19,11 +19,11 @@ returns-clause-removes g c =
     answered old (g.D.Disk.state c.remove-done.new.disk) _ _ _ _ _ _ _ _ _ (LacksFileThere old name) _ _
     done c.to.result c.to.ensures.answer c.to.ensures.failures c.to.ensures.last did.failures
     (on_ok_weaker done (λ removed kept same. (
-      gone_changed _ _ _ _ _ _ name is is_then (kept_count _ _ _ _ kept same) removed,
+      gone_changed _ _ _ _ _ _ c.to.ensures.given name is is_then (kept_count _ _ _ _ kept same) removed,
       λ honest. (has_file_there _ name (removed.was honest), λ never. never),
     )) did.removed)
     (on_err_weaker done (λ left grows.
-    gone_left _ _ _ _ _ _ name is is_then grows c.to.ensures.given left) did.left)
+    gone_left _ _ _ _ _ _ c.to.ensures.given name is is_then grows left) did.left)
     (λ none. none)
     (IfErr-weaker done (IsDueInRemoving old (LacksFileThere old name))
     (IsDueInStep (MeetsSpecial old) (LacksFileThere old name) (IsTrue old.honest → ⊥)) (λ r.

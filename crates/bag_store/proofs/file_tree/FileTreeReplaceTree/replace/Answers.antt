@@ -16,13 +16,13 @@ returns-clause-replaces g c =
     answered (g.D.Disk.state c.args.self.now.disk) (g.D.Disk.state c.replace-done.new.disk) _ _ _ _ _ _ _ _ _ ⊥ _ _
     done c.to.result c.to.ensures.answer c.to.ensures.failures c.to.ensures.last did.failures
     (on_ok_weaker done (λ put kept same. (
-      put_changed _ _ _ _ _ _ beside name bytes is is_then (kept_count _ _ _ _ kept same) put,
+      put_changed _ _ _ _ _ _ c.to.ensures.given beside name bytes is is_then (kept_count _ _ _ _ kept same) put,
       λ honest.
           let file = put.file honest in
           (λ never. never, place_free _ beside name c.requires.beside c.requires.name file.free file.no_folder),
     )) did.put)
     (on_err_weaker done (λ left grows.
-    put_left _ _ _ _ _ _ beside name bytes is is_then c.requires.beside grows c.to.ensures.given left) did.left)
+    put_left _ _ _ _ _ _ c.to.ensures.given beside name bytes is is_then c.requires.beside grows left) did.left)
     (λ never. absurd never) did.refused did.asked
 
 pub returns-clause-cause : goal.returns-clause-cause

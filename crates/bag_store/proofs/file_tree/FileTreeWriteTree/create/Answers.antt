@@ -19,11 +19,11 @@ returns-clause-creates g c =
     answered old new _ _ _ _ _ _ _ _ _ ⊥ _ _
     done c.to.result c.to.ensures.answer c.to.ensures.failures c.to.ensures.last did.failures
     (on_ok_weaker done (λ made kept same. (
-      file_changed _ _ _ _ _ _ name bytes is is_then (kept_count _ _ _ _ kept same) made,
+      file_changed _ _ _ _ _ _ c.to.ensures.given name bytes is is_then (kept_count _ _ _ _ kept same) made,
       λ honest. (λ never. never, not_taken _ name c.requires (made.file honest).free),
     )) did.made)
     (on_err_weaker done (λ begun grows.
-    step_begun _ _ _ _ _ _ name bytes is is_then c.requires grows c.to.ensures.given begun) did.begun)
+    step_begun _ _ _ _ _ _ c.to.ensures.given name bytes is is_then c.requires grows begun) did.begun)
     (λ never. absurd never) did.refused (begun_asked name bytes old new done did.asked)
 
 pub returns-clause-cause : goal.returns-clause-cause

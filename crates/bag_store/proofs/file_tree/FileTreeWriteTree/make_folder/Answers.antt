@@ -12,11 +12,11 @@ returns-clause-makes g c =
     answered (g.D.Disk.state c.args.self.now.disk) (g.D.Disk.state c.make_folder-done.new.disk) _ _ _ _ _ _ _ _ _ ⊥ _ _
     done c.to.result c.to.ensures.answer c.to.ensures.failures c.to.ensures.last did.failures
     (on_ok_both done did.made did.closed (λ made closed kept same. (
-      folder_changed _ _ _ _ _ _ name (g.met.D.Disk.is_disk c.args.self.now.disk)
+      folder_changed _ _ _ _ _ _ c.to.ensures.given name (g.met.D.Disk.is_disk c.args.self.now.disk)
           (g.met.D.Disk.is_disk c.make_folder-done.new.disk) c.requires kept same closed made,
       λ honest. (λ never. never, not_taken _ name c.requires (made honest).free),
     )))
-    (on_err_weaker done (λ syncs grows. step_same _ _ _ _ _ _ syncs grows c.to.ensures.given) did.same)
+    (on_err_weaker done (λ syncs grows. step_same _ _ _ _ _ _ c.to.ensures.given syncs grows) did.same)
     (λ never. absurd never) did.refused did.asked
 
 pub returns-clause-cause : goal.returns-clause-cause

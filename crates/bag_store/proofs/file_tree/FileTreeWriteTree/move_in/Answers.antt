@@ -8,7 +8,7 @@ use Rattle.bag_store.proofs.file_tree.FileTreeWriteTree.move_in.Goals as goal
 pub returns-in-Ok-clause-moves : goal.returns-in-Ok-clause-moves
 returns-in-Ok-clause-moves g c = record {
   changed =
-      moved_changed _ _ _ _ _ _ c.args.top.now c.args.folder.now (g.met.D.Disk.is_disk c.args.self.now.disk)
+      moved_changed _ _ _ _ _ _ c.give.ensures.given c.args.top.now c.args.folder.now (g.met.D.Disk.is_disk c.args.self.now.disk)
       (g.met.D.Disk.is_disk c.move_in.new.disk) c.requires.top
       c.in-Ok.ensures.failures c.give.ensures.failures c.in-Ok.ensures.closed c.in-Ok.ensures.moved;
   no_failure = grind arith;
@@ -30,9 +30,8 @@ returns-in-Err-clause-moves g c = record {
   possible = tt;
   last = grind arith;
   leaves =
-      step_same _ _ _ _ _ _ c.in-Err.ensures.same
-      (count_grows c.in-Err.refusal _ _ _ _ c.in-Err.ensures.failures c.refuse.ensures.failures)
-      c.refuse.ensures.given;
+      step_same _ _ _ _ _ _ c.refuse.ensures.given c.in-Err.ensures.same
+      (count_grows c.in-Err.refusal _ _ _ _ c.in-Err.ensures.failures c.refuse.ensures.failures);
   refused =
       move_answered_so (g.D.Disk.state c.args.self.now.disk) (g.D.Disk.state c.move_in.new.disk) _ _ c.in-Err.refusal _
       _ _ _ _

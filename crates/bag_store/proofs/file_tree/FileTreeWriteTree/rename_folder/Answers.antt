@@ -13,14 +13,14 @@ returns-clause-renames g c =
     answered (g.D.Disk.state c.args.self.now.disk) (g.D.Disk.state c.rename_folder-done.new.disk) _ _ _ _ _ _ _ _ _ _ _ _
     done c.to.result c.to.ensures.answer c.to.ensures.failures c.to.ensures.last did.failures
     (on_ok_both done did.renamed did.closed (λ renamed closed kept same. (
-      renamed_changed _ _ _ _ _ _ from to (g.met.D.Disk.is_disk c.args.self.now.disk)
+      renamed_changed _ _ _ _ _ _ c.to.ensures.given from to (g.met.D.Disk.is_disk c.args.self.now.disk)
           (g.met.D.Disk.is_disk c.rename_folder-done.new.disk) c.requires.from c.requires.to kept same closed renamed,
       λ honest. (
         has_it _ from c.requires.from (renamed honest).folder_is,
         not_taken _ to c.requires.to (renamed honest).free,
       ),
     )))
-    (on_err_weaker done (λ syncs grows. step_same _ _ _ _ _ _ syncs grows c.to.ensures.given) did.same)
+    (on_err_weaker done (λ syncs grows. step_same _ _ _ _ _ _ c.to.ensures.given syncs grows) did.same)
     (λ none. none) did.refused did.asked
 
 pub returns-clause-cause : goal.returns-clause-cause

@@ -1,0 +1,443 @@
+"""`bagit-keep check`: a bag is checked in parts, which `bagit` joins."""
+import argparse
+import fcntl
+import hashlib
+import json
+import os
+import re
+import time
+from contextlib import contextmanager, suppress
+from dataclasses import asdict, dataclass, field, replace
+from functools import partial
+from typing import Iterator, List, Optional, Sequence, Tuple
+
+from . import usage
+from .checks import obstacle, told_of
+from .files import (
+    EXCLUSIVE, has_lock, is_within, locked, place, read_bytes, sha256_of,
+    whole, write_synced,
+)
+from .fingerprint import altered, fingerprint
+from .lines import MOST_PARTS, Closing, Unchecked, encoded, line_of, report_of
+from .messages import Refused, explained, now, say, shown
+from .program import (
+    Asked, Program, Verdict, named, needed, read_profile, verdict_of,
+)
+from .progress import Far, read_by
+from .progress import shown as shown_while
+
+PART_BYTES = 4 << 30
+LISTING, OPENING, READING = 15e-6, 20e-6, 1e-9
+"""Seconds for a file that is listed, for one that is opened, for a byte."""
+
+COARSE, FINE = 2.0, 0.05
+"""Seconds after which what is altered has another time."""
+
+TRIES, WAIT = 20, 60
+PASSING = ("device", "memory")
+"""Causes that may be gone when something is tried again."""
+
+OURS = re.compile(
+    r"asked|joined|lock|listing|profile\.json|report|(all|[0-9]+)\.locked"
+    r"|[0-9]+\.part|[0-9a-z]+\.[0-9a-f]{16}\.(try|past)"
+)
+
+
+def read_words(words: Sequence[str]) -> argparse.Namespace:
+    asked = usage.read(
+        "check", words, 2, 2, jobs=usage.JOBS, task=usage.share_of,
+        parts=usage.number(1, MOST_PARTS), tries=usage.COUNT,
+        wait=usage.number(),
+    )
+    shared = asked.jobs is not None or asked.parts is not None
+    if (asked.task is not None) + bool(asked.join) + shared > 1:
+        raise Refused("of --jobs and --parts, --task and --join it takes one")
+    if asked.task is not None and asked.task[1] > MOST_PARTS:
+        raise Refused(f"--task: there are {MOST_PARTS} parts at most")
+    return asked
+
+
+@dataclass(frozen=True)
+class Head:
+    """What all parts check, and of which state of the bag."""
+
+    bag: str
+    real: str
+    parts: int
+    clashes: bool
+    profile: Optional[str]
+    bagit: str
+    begun: str
+    fingerprint: str = ""
+    bytes: int = 0
+
+
+@dataclass(frozen=True)
+class Parts:
+    """A folder REPORT.parts that has its head, which is in `asked`. K.part is
+    the report of part K, once that is done; K.HEX.try one that isn't."""
+
+    folder: str
+    head: Head
+
+    def at(self, name: str) -> str:
+        return os.path.join(self.folder, name)
+
+    def part(self, number: int) -> str:
+        return self.at(f"{number}.part")
+
+    def new(self, name: str, end: str = "try") -> str:
+        return self.at(f"{name}.{os.urandom(8).hex()}.{end}")
+
+    def missing(self) -> List[int]:
+        names = set(os.listdir(self.folder))
+        numbers = range(1, self.head.parts + 1)
+        return [it for it in numbers if f"{it}.part" not in names]
+
+    def asked(self, number: int) -> Asked:
+        """What is asked of a part. Keys of a profile are said but once."""
+        profile = os.path.abspath(self.at("profile.json"))
+        return Asked(
+            clashes=self.head.clashes,
+            profile=None if self.head.profile is None else profile,
+            part=(number, self.head.parts),
+            quiet=number > 1,
+        )
+
+    def refuse_altered(self) -> None:
+        """Refuses a bag that isn't as it was when the check began."""
+        if fingerprint(self.head.bag).digest != self.head.fingerprint:
+            name = altered(self.head.bag, self.at("listing"))
+            raise Refused(
+                f"{name} was altered since the check began; remove"
+                f" {shown(self.folder)} to begin anew",
+                3,
+            )
+
+    def remove(self, ours: "re.Pattern[str]") -> None:
+        """Removes the files with such names."""
+        for name in filter(ours.fullmatch, os.listdir(self.folder)):
+            with suppress(FileNotFoundError):
+                os.unlink(self.at(name))
+
+    def clear(self) -> None:
+        """Removes the folder; what isn't of a check stays."""
+        self.remove(OURS)
+        with suppress(OSError):
+            os.rmdir(self.folder)
+
+
+def parts_for(files: int, size: int) -> int:
+    """Of some 4 GiB, and so few that all listings take at most a twentieth of
+    the time that the check takes."""
+    seconds = files * OPENING + size * READING
+    most = int(seconds / (20 * LISTING * max(1, files)))
+    return max(1, min(-(-size // PART_BYTES), most, MOST_PARTS))
+
+
+# ------------------------------------------------------------ the folder
+
+
+def opened(
+    read: argparse.Namespace, bagit: str, profile: Optional[bytes]
+) -> Parts:
+    """The folder of parts, which is made where there is none."""
+    bag, report = read.operands
+    folder = f"{report}.parts"
+    given = read.task[1] if read.task else read.parts
+    head = Head(
+        bag,
+        os.path.realpath(bag),
+        given or 0,
+        bool(read.clashes),
+        None if profile is None else hashlib.sha256(profile).hexdigest(),
+        sha256_of(bagit),
+        now(),
+    )
+    if not os.path.lexists(folder):
+        if read.join:
+            text = f"{shown(folder)} isn't there: no part was checked"
+            raise Refused(text, 3)
+        begin(folder, head, profile)
+    parts = Parts(folder, head_in(folder))
+    refuse_other(parts, replace(head, parts=given or parts.head.parts))
+    return parts
+
+
+def begin(folder: str, head: Head, profile: Optional[bytes]) -> None:
+    """Makes the folder. Whatever is altered once it has its name has another
+    time than in its listing."""
+    with whole(os.fsencode(folder)) as draft:
+        parts = Parts(os.fsdecode(draft), head)
+        with open(parts.at("listing"), "x", encoding="ascii") as file:
+            found = fingerprint(head.bag, file)
+            file.flush()
+            os.fsync(file.fileno())
+        head = replace(
+            head,
+            parts=head.parts or parts_for(found.files, found.size),
+            fingerprint=found.digest,
+            bytes=found.size,
+        )
+        if profile is not None:
+            write_synced(parts.at("profile.json"), profile)
+        text = json.dumps(asdict(head)).encode() + b"\n"
+        write_synced(parts.at("asked"), text)
+        time.sleep(COARSE if found.is_coarse else FINE)
+
+
+def head_in(folder: str, name: str = "asked") -> Head:
+    """The head of a folder; refused where it has none."""
+    with suppress(OSError, ValueError, TypeError, RecursionError):
+        head = Head(**json.loads(read_bytes(os.path.join(folder, name))))
+        if 1 <= head.parts <= MOST_PARTS:
+            return head
+    raise Refused(f"{shown(folder)} is there, and isn't of a check in parts")
+
+
+def refuse_other(parts: Parts, ours: Head) -> None:
+    """Refuses parts of another bag, other options, or another `bagit`."""
+    for name, what in (
+        ("bag", "another bag"),
+        ("real", "another bag"),
+        ("clashes", "other options"),
+        ("profile", "another profile"),
+        ("bagit", "another bagit"),
+        ("parts", f"{parts.head.parts} parts, and not {ours.parts}"),
+    ):
+        if getattr(parts.head, name) != getattr(ours, name):
+            raise Refused(
+                f"{shown(parts.folder)} is of a check of {what}; remove it to"
+                " begin anew"
+            )
+
+
+def clear_left(folder: str, report: str) -> None:
+    """Removes what a check has left that was killed when its report had got
+    its name; where it was killed before, its parts are taken back."""
+    with suppress(Refused):
+        parts = Parts(folder, head_in(folder, "joined"))
+        if os.path.lexists(parts.at("report")) and not os.path.lexists(report):
+            os.rename(parts.at("joined"), parts.at("asked"))
+        else:
+            parts.clear()
+
+
+@contextmanager
+def alone(parts: Parts, number: Optional[int]) -> Iterator[None]:
+    """Refuses a second process at a part, or at all of them."""
+    busy = f"another process is at work in {shown(parts.folder)}"
+    claim = parts.at(f"{number or 'all'}.locked")
+    place = (0, 0) if number is None else (1, number)
+    with open(parts.at("lock"), "ab") as file:
+        is_locked = has_lock(fcntl.lockf, file, EXCLUSIVE, *place)
+        with locked(is_locked, claim, busy):
+            yield
+
+
+# ------------------------------------------------------------ the checks
+
+
+@dataclass
+class Work:
+    """Parts that are checked: how often each is tried, with which rest after a
+    failure, and whether files that can't be read are passed by."""
+
+    parts: Parts
+    program: Program
+    tries: int
+    wait: int
+    go_past: bool
+    at_work: List[int] = field(default_factory=list)
+
+    def turns(self) -> Iterator[int]:
+        """The turns in which something is tried, with how many are left."""
+        for left in reversed(range(self.tries)):
+            yield left
+            if left:
+                self.program.pause(self.wait)
+
+    def check(self, number: int) -> None:
+        """Checks a part. What isn't read is a message."""
+        self.at_work.append(number)
+        asked: Optional[Asked] = self.parts.asked(number)
+        while asked is not None:
+            verdict, file = self.persist(number, asked)
+            at = verdict.closing
+            is_done = at is not None and at.cause is None
+            if is_done:
+                self.look()
+            if is_done and asked.after is None:
+                self.keep(number, file)
+            elif is_done:
+                self.say(number, verdict, file)
+            asked = None if is_done else self.past(asked, at)
+        self.at_work.remove(number)
+
+    def past(self, asked: Asked, at: Optional[Closing]) -> Optional[Asked]:
+        """What comes after the file that can't be read, if it is asked for."""
+        if not self.go_past or at is None or at.cause != "device":
+            return None
+        if at.path is None or not at.path.startswith("data/"):
+            return None
+        after = f"701 payload-sum-differs {encoded(at.path)}%00 - - -"
+        return replace(asked, after=after, quiet=True)
+
+    def persist(self, number: int, asked: Asked) -> Tuple[Verdict, str]:
+        """Tries a part until it is done, or can't be; gives the last try."""
+        end, last = "try" if asked.after is None else "past", ""
+        for _ in self.turns():
+            file = self.parts.new(str(number), end)
+            with open(file, "x+b") as out:
+                verdict = self.program.check(self.parts.head.bag, asked, out)
+                os.fsync(out.fileno())
+            if last:
+                os.unlink(last)
+            last, at = file, verdict.closing
+            if at is not None and at.cause is None:
+                break
+            self.say(number, verdict, file)
+            if at is not None and at.cause not in PASSING:
+                break
+        return verdict, last
+
+    def say(self, number: int, verdict: Verdict, file: str) -> None:
+        """Says how a part is, which isn't done, or not by itself."""
+        bag = os.fsencode(self.parts.head.bag)
+        text = told_of(bag, verdict, os.fsencode(file))
+        say(f"part {number} of {self.parts.head.parts}: {text}")
+
+    def look(self) -> None:
+        """Refuses a bag that was altered. Where it can't be listed, this is
+        tried again, too."""
+        for left in self.turns():
+            try:
+                return self.parts.refuse_altered()
+            except OSError as error:
+                if not left:
+                    raise
+                say(explained(error))
+
+    def keep(self, number: int, file: str) -> None:
+        """Gives the report of a part its name, and removes what is left of
+        the part."""
+        with suppress(FileExistsError):
+            place(file, self.parts.part(number))
+            self.parts.remove(re.compile(rf"{number}\..*\.(try|past)"))
+
+    def far(self, numbers: List[int]) -> Far:
+        """How far these parts are."""
+        size = self.parts.head.bytes // self.parts.head.parts
+        done = len(set(numbers) - set(self.parts.missing()))
+        at_work = [f"part {it}" for it in self.at_work]
+        read = done * size + read_by(self.program)
+        total = len(numbers) * size
+        return Far("parts", len(numbers), done, at_work, read, total)
+
+    def join(self, report: str) -> int:
+        """Has the parts joined, and gives what `bagit` has written of them
+        the name of the report."""
+        parts, of = self.parts, self.parts.head.parts
+        if missing := parts.missing():
+            text = f"of {of} parts these aren't done: {ranges_of(missing)}"
+            raise Refused(text, 3)
+        self.look()
+        names = [f"{number}.part" for number in range(1, of + 1)]
+        words = ["--validate", "--join", "--", *names]
+        name, file = named(parts.head.bag)[0], parts.new("report")
+        with open(file, "x+b") as out:
+            ended = self.program.run(words, out, parts.folder)
+            out.seek(0)
+            verdict = verdict_of(ended, report_of(out), name, Asked())
+            os.fsync(out.fileno())
+        if verdict.status == 3:
+            os.unlink(file)
+            text = f"{shown(parts.folder)} isn't joined: {verdict.result}"
+            raise Refused(text, 3)
+        os.rename(file, parts.at("report"))
+        os.rename(parts.at("asked"), parts.at("joined"))
+        place(os.path.abspath(parts.at("report")), os.path.abspath(report))
+        parts.clear()
+        print(verdict.result)
+        return verdict.status
+
+
+def ranges_of(numbers: List[int]) -> str:
+    """Numbers as a job array takes them, such as 2,5-7."""
+    ranges: List[List[int]] = []
+    for number in numbers:
+        if ranges and ranges[-1][-1] == number - 1:
+            ranges[-1][1:] = [number]
+        else:
+            ranges.append([number])
+    return ",".join("-".join(map(str, it)) for it in ranges)
+
+
+def say_unchecked(path: str) -> None:
+    """Says the keys of a profile that weren't checked, by part 1."""
+    with open(path, "rb") as file:
+        for line in map(line_of, file):
+            if not isinstance(line, Unchecked):
+                return
+            say(line)
+
+
+def task(parts: Parts, number: int) -> int:
+    """Writes the closing line of a part, and says its status."""
+    path = parts.part(number)
+    if not os.path.lexists(path):
+        return 3
+    with open(path, "rb") as file:
+        report = report_of(file)
+    if report.closing is None:
+        text = f"{shown(path)} isn't the report of a part: {report.wrong}"
+        raise Refused(text, 3)
+    if number == 1:
+        say_unchecked(path)
+    print(report.closing)
+    return min(1, report.faults)
+
+
+def refuse_places(bag: str, report: str) -> None:
+    """Refuses what is no bag, and a report that is there, or in the bag."""
+    if why := obstacle(os.fsencode(bag)):
+        raise Refused(f"{shown(bag)} {why}", 3)
+    if not os.path.basename(report):
+        raise Refused(f"the report isn't a file: {shown(report)}")
+    if is_within(os.path.dirname(report) or ".", bag):
+        where = shown(report)
+        raise Refused(f"the report would be a file of the bag: {where}")
+    clear_left(f"{report}.parts", report)
+    if os.path.lexists(report):
+        raise Refused(f"{shown(report)} is there; give another name")
+
+
+def run(words: Sequence[str]) -> int:
+    """Does what the command `check` is asked for, and says its status."""
+    read = read_words(words)
+    refuse_places(*read.operands)
+    bagit = needed()
+    parts = opened(read, bagit, read_profile(read.profile))
+    number = read.task and read.task[0]
+    wait = WAIT if read.wait is None else read.wait
+    with alone(parts, number), Program(bagit) as program:
+        tries = read.tries or TRIES
+        work = Work(parts, program, tries, wait, bool(read.go_past))
+        left = [] if read.join else parts.missing()
+        if number is not None:
+            left = [it for it in left if it == number]
+        elif left and len(left) < parts.head.parts:
+            say(
+                f"goes on with the check that began at {parts.head.begun}:"
+                f" {parts.head.parts - len(left)} of {parts.head.parts} parts"
+                " are done"
+            )
+            work.look()
+        if left:
+            with shown_while(partial(work.far, left), read.progress):
+                program.each(work.check, left, read.jobs or 1)
+        if number is not None:
+            return task(parts, number)
+        if not parts.missing():
+            say_unchecked(parts.part(1))
+        return work.join(read.operands[1])
