@@ -7,7 +7,7 @@ import subprocess
 import tarfile
 import unicodedata
 from pathlib import Path
-from typing import Dict, List, Optional
+from typing import Dict, List, Optional, Set
 
 from tar_bags import Wrong, headers, sealed, write
 
@@ -101,13 +101,23 @@ def same_to_readers(program: str, archive: str, content: bytes) -> None:
         raise Wrong(f"{archive} is valid, and GNU tar unpacks no valid bag")
     for command in OTHERS:
         other = unpacked_by(command, archive, "by-another") if shutil.which(command[0]) else None
-        if other is not None and composed(other) != composed(by_tar):
+        if other is not None and not alike(by_tar, other):
             raise Wrong(f"{archive} is valid, and {command[0]} unpacks other files: {sorted(by_tar)} and {sorted(other)}")
 
 
-def composed(files: Files) -> Files:
-    """The files by names in their composed form, since bsdtar composes what records say."""
-    return {unicodedata.normalize("NFC", path): content for path, content in files.items()}
+def composed(files: Files) -> Dict[str, Set[bytes]]:
+    """The contents of each file, by its path in composed form."""
+    contents: Dict[str, Set[bytes]] = {}
+    for path, content in files.items():
+        contents.setdefault(unicodedata.normalize("NFC", path), set()).add(content)
+    return contents
+
+
+def alike(files: Files, other: Files) -> bool:
+    """Whether another reader unpacked the same files. bsdtar composes names that come in records, so that of two files whose names differ by
+    their form alone the later one is left."""
+    wanted, found = composed(files), composed(other)
+    return wanted.keys() == found.keys() and all(found[path] <= wanted[path] for path in wanted)
 
 
 def verdicts(program: str, archives: List[bytes]) -> List[str]:
