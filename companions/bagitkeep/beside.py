@@ -25,6 +25,9 @@ DRAFT = "bagit-keep.json.part"
 WORK = "bag"
 TEXT = "text"
 
+Build = Callable[[str], None]
+"""Is given the folder of a new bag."""
+
 
 def kept_of(bag: str) -> str:
     """A name beside a bag for what is kept of it, which nothing has."""
@@ -119,16 +122,17 @@ class Beside:
         return bool(record["words"] == list(words))
 
     def replace(
-        self, words: Sequence[str], build: Callable[[str], None]
+        self, words: Sequence[str], build: Build, look: Build
     ) -> BagReport:
         """Puts what is built in the place of the bag, if a full check of it
-        ends with 0. This is its report."""
+        ends with 0, and `look` refuses nothing. This is its report."""
         self.clear()
         self.note(words=list(words))
         try:
             os.mkdir(self.work)
             build(self.work)
             report = checked(self.work)
+            look(self.work)
             with alone(self.work, self.bag):
                 self.put(words)
         finally:
@@ -180,10 +184,15 @@ def folder_of(word: str) -> str:
 
 
 def replaced(
-    bag: str, command: str, words: Sequence[str], build: Callable[[str], None]
+    bag: str,
+    command: str,
+    words: Sequence[str],
+    build: Build,
+    look: Build = lambda work: None,
 ) -> int:
-    """Replaces a bag by what is built in a folder. The status is that of the
-    last check, whose report is written."""
+    """Replaces a bag by what is built in a folder, unless `look` refuses what
+    was built. The status is that of the last check, whose report is
+    written."""
     place = Beside(bag, command)
     if os.path.ismount(bag):
         raise BagError(f"{shown(bag)} is where a disk is mounted")
@@ -191,7 +200,7 @@ def replaced(
         try:
             if place.is_done(words):
                 return show(check(bag, Asked()))
-            return show(place.replace(words, build))
+            return show(place.replace(words, build, look))
         except Faulty as faulty:
             return show(faulty.report)
 
