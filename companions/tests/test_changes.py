@@ -9,7 +9,7 @@ import unittest
 from typing import Dict, List, Optional
 from unittest.mock import patch
 
-from bagitkeep.beside import Beside, folder_of, path_in_bag
+from bagitkeep.beside import Beside, bag_beside, folder_of, path_in_bag
 from bagitkeep.errors import BagError
 from bagitkeep.make import algorithms_in, elements_given
 from bagitkeep.mending import Entry, changed, line_of, mended, untold
@@ -406,3 +406,54 @@ class Notes(InAFolder):
         self.at("bag.new/mine", b"")
         with self.assertRaises(BagError):
             Beside(self.at("bag"), "edit").left()
+
+
+class Left(InAFolder):
+    """What a command leaves beside a bag."""
+
+    def beside(self, name: str) -> str:
+        """The bag beside which a folder of this name is left, if any."""
+        found = bag_beside(os.fsencode(self.at(name)))
+        return os.path.basename(os.fsdecode(found)) if found else ""
+
+    def test_by_names(self) -> None:
+        self.at("bag/bagit.txt", b"")
+        self.at("bag.kept.012abc/bagit.txt", b"")
+        self.at("folder/x", b"")
+        for name, bag in (
+            ("bag.kept.012abc", "bag"),
+            ("bag.kept.ffffff", "bag"),
+            ("bag.kept.012abc.kept.ffffff", "bag.kept.012abc"),
+            ("bag.kept.012ab", ""),
+            ("bag.kept.012abcd", ""),
+            ("bag.kept.012ABC", ""),
+            ("bag.kept.", ""),
+            ("bag.kept", ""),
+            ("bag.old", ""),
+            ("bag", ""),
+            ("bagxkept.012abc", ""),
+            ("other.kept.012abc", ""),
+            ("folder.kept.012abc", ""),
+        ):
+            self.assertEqual(self.beside(name), bag, name)
+
+    def test_links(self) -> None:
+        self.at("bag/bagit.txt", b"")
+        os.symlink("bag", self.at("link"))
+        os.symlink("bag", self.at("bag.kept.012abc"))
+        for name in "link.kept.012abc", "bag.kept.012abc":
+            self.assertEqual(self.beside(name), "")
+
+    def test_a_folder_of_a_command(self) -> None:
+        self.at("bag/bagit.txt", b"")
+        place = Beside(self.at("bag"), "edit")
+        self.assertEqual(self.beside("bag.new"), "")
+        os.mkdir(place.path)
+        self.assertEqual(self.beside("bag.new"), "")
+        place.note(words=[])
+        self.assertEqual(self.beside("bag.new"), "bag")
+        self.at("bag.new/bag/bagit.txt", b"")
+        self.at("bag.new/text/0-x", b"")
+        self.assertEqual(self.beside("bag.new"), "bag")
+        self.at("bag.new/bagit.txt", b"")
+        self.assertEqual(self.beside("bag.new"), "")
