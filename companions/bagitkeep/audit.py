@@ -159,7 +159,7 @@ def bags_in(stores: List[str]) -> Iterator[bytes]:
                 yield place
                 continue
             folders = [it for it in sorted(names) if it[:1] != b"."]
-            others = [it for it in folders if bag_beside(join(place, it))]
+            others = {it for it in folders if bag_beside(join(place, it))}
             left += (join(place, it) for it in others)
             names[:] = [it for it in folders if it not in others]
             shown = (join(place, it) for it in files if it[:1] != b".")
