@@ -12,7 +12,7 @@ from pathlib import Path
 from typing import Optional
 from unittest import mock
 
-from bagitkeep import check, go_round, supported
+from bagitkeep import audit, check, go_round, keeping, supported
 from bagitkeep.lines import Closing, Report
 from bagitkeep.messages import Refused
 from bagitkeep.program import (
@@ -194,6 +194,10 @@ class Runs(unittest.TestCase):
                 go_round.read_words([*words, text])
         with self.assertRaisesRegex(Refused, "--wait"):
             check.read_words(["bag", "report", "--wait", "9" * 18])
+        with self.assertRaisesRegex(Refused, "--days"):
+            audit.run(["register", "--days", "9" * 18])
+        with self.assertRaisesRegex(Refused, "--every"):
+            keeping.init(["register", "/", "--every", "9" * 18])
 
     def test_time_out_of_what_has_ended_and_left_another(self) -> None:
         pid = self.folder / "pid"
