@@ -178,18 +178,19 @@ class Life(unittest.TestCase):
         """Writes the files of a bag, with its manifests."""
         files = dict(files)
         for kind in "manifest", "tagmanifest":
-            texts = {}
-            for algorithm in algorithms:
-                texts[f"{kind}-{algorithm}.txt"] = "".join(
-                    f"{digest(content, algorithm)}  {spelled(path)}\n"
-                    for path, content in files.items()
-                    if path.startswith("data/") == (kind == "manifest")
-                ).encode()
-            files.update(texts)
+            files.update({f"{kind}-{it}.txt": self.manifest(files, it, kind == "manifest") for it in algorithms})
         for path, content in files.items():
             file = Path(name, path)
             file.parent.mkdir(parents=True, exist_ok=True)
             file.write_bytes(content)
+
+    def manifest(self, files, algorithm, is_of_payload):
+        """The manifest of the payload files among these, or the tag manifest of the others."""
+        return "".join(
+            f"{digest(content, algorithm)}  {spelled(path)}\n"
+            for path, content in files.items()
+            if path.startswith("data/") == is_of_payload
+        ).encode()
 
     def assert_valid(self, name):
         ended = subprocess.run([os.environ["BAGIT"], "--validate", "--", name], capture_output=True, text=True)
@@ -740,6 +741,92 @@ class EachAlone(Life):
             self.assertEqual((content_of("d"), self.left_beside()), (before, []))
         kept = ended.said.split()[-1]
         self.assertIn("Eve ", Path(kept).read_text())
+
+    def only_md5_tells(self, path, content=None, version="1.0"):
+        """A bag in which a file has this content now, or is gone: its SHA-256 manifests were written again since, those of MD5 not."""
+        shutil.rmtree("d", ignore_errors=True)
+        good = {it: held for it, held in self.new_bag(names=["x"], version=version).items() if "manifest-" not in it}
+        shutil.rmtree("d")
+        good["bag-info.txt"] = b"Contact-Name: Ann\n"
+        now = {**good, path: content} if content is not None else {it: held for it, held in good.items() if it != path}
+        of = {"md5": good, "sha256": now}
+        manifests = {f"manifest-{it}.txt": self.manifest(files, it, True) for it, files in of.items()}
+        tags = {f"tagmanifest-{it}.txt": self.manifest({**files, **manifests}, it, False) for it, files in of.items()}
+        self.write("d", {**now, **manifests, **tags}, [])
+        return {**good, **manifests, **tags}
+
+    def assert_only_fault(self, *fault):
+        ended = subprocess.run([os.environ["BAGIT"], "--validate", "--", "d"], capture_output=True, text=True)
+        found = [line.split()[:4] for line in ended.stdout.splitlines()]
+        self.assertEqual([[it[0], *it[2:]] for it in found[:-1]], [list(fault)], ended.stdout)
+
+    def test_an_edit_hides_no_damage_of_the_payload(self):
+        for version in "1.0", "0.97":
+            for content, code in (b"damaged", "701"), (None, "601"):
+                with self.subTest(version, code=code):
+                    good = self.only_md5_tells("data/b", content, version)
+                    self.assert_only_fault(code, "data/b", "md5")
+                    line, text = f"{digest(good['data/b'], 'md5')}  data/b\n", good["manifest-md5.txt"].decode()
+                    self.assertIn(line, text)
+                    said = [self.refused(1, "edit", "d", "manifest-md5.txt", "--remove")]
+                    for becomes in "", f"{digest(b'damaged', 'md5')}  data/b\n":
+                        Path("new").write_text(text.replace(line, becomes))
+                        said.append(self.refused(1, "edit", "d", "manifest-md5.txt", "--from", "new"))
+                    # That a payload file is in no manifest, or is missing, is a fault by itself.
+                    is_fault = [False, version == "1.0" and content is not None, content is None]
+                    for ended, has_fault in zip(said, is_fault):
+                        self.assertEqual("data/b isn't there with its md5 checksum" in ended.said, not has_fault, str(ended))
+                        self.assertEqual(" has faults: 1" in ended.out, has_fault, str(ended))
+                    os.unlink("new")
+
+    def test_an_edit_hides_no_damage_of_tag_files(self):
+        for content, code in (b"damaged", "702"), (None, "602"):
+            with self.subTest(code):
+                good = self.only_md5_tells("meta/notes.xml", content)
+                self.assert_only_fault(code, "meta/notes.xml", "md5")
+                text = good["tagmanifest-md5.txt"].decode().splitlines(keepends=True)
+                Path("new").write_text("".join(line for line in text if "notes" not in line))
+                for words in ["--remove"], ["--from", "new"]:
+                    ended = self.refused(1, "edit", "d", "tagmanifest-md5.txt", *words)
+                    self.assertIn("meta/notes.xml isn't there with its md5 checksum", ended.said)
+                os.unlink("new")
+
+    def test_what_was_written_is_kept_where_it_hides_damage(self):
+        good = self.only_md5_tells("data/b", b"damaged")
+        before = content_of("d")
+        was, becomes = digest(good["data/b"], "md5"), digest(b"damaged", "md5")
+        for paths in ["manifest-md5.txt"], ["manifest-md5.txt", "meta/notes.xml"]:
+            editor = f"sed -i -e s/{was}/{becomes}/ -e s/notes/others/"
+            ended = self.ends(1, "edit", "d", *paths, EDITOR=editor, VISUAL="")
+            self.assertIn("data/b isn't there with its md5 checksum", ended.said)
+            self.assertEqual((content_of("d"), self.left_beside()), (before, []))
+            kept = {line.split()[-3]: line.split()[-1] for line in ended.said.splitlines() if " is " in line and ".kept." in line}
+            self.assertEqual(sorted(kept), sorted(paths), ended.said)
+            for path, file in kept.items():
+                wanted = good[path].replace(was.encode(), becomes.encode()).replace(b"notes", b"others")
+                self.assertEqual(Path(file).read_bytes(), wanted)
+                os.unlink(file)
+
+    def test_what_was_written_is_kept_where_the_bag_is_not_read(self):
+        self.new_bag()
+        os.symlink("b", "d/data/link")
+        for how in {}, self.program('[[ $bag == */bag ]] || exec "$bagit" "$@"; echo "$bag unread - device, faults: 0"; exit 3'):
+            ended = self.ends(3, "edit", "d", "bag-info.txt", EDITOR="sed -i s/Ann/Eve/", VISUAL="", **how)
+            (kept,) = [line.split()[-1] for line in ended.said.splitlines() if ".kept." in line]
+            self.assertIn("Contact-Name: Eve", Path(kept).read_text())
+            if lexists("d/data/link"):
+                os.unlink("d/data/link")
+
+    def test_a_manifest_of_a_good_bag_is_removed(self):
+        for version in "1.0", "0.97":
+            shutil.rmtree("d", ignore_errors=True)
+            before = self.new_bag(names=["x"], version=version)
+            for name in "manifest-md5.txt", "tagmanifest-sha256.txt":
+                self.ends(0, "edit", "d", name, "--remove")
+                self.assert_valid("d")
+                self.assertNotIn(name, os.listdir("d"))
+            wanted = "".join(it for it in before["tagmanifest-md5.txt"].decode().splitlines(True) if " manifest-md5" not in it)
+            self.assertEqual(Path("d/tagmanifest-md5.txt").read_text(), wanted)
 
     def test_repacks_nothing_out_of_the_bag_or_with_faults(self):
         self.new_bag()

@@ -334,6 +334,72 @@ def night_moved_and_remade():
     news()
 
 
+def night_of_what_is_kept():
+    """What a command leaves beside a bag is passed over, by name, while the bag is there; a folder that is only called so isn't."""
+    def passed_over(*lines):
+        """An audit with these news, and what it says that it has passed over."""
+        status, out, said = end(begin('audit', register))
+        found = [line for line in out.splitlines()[1:] if not line[:1].isdigit()]
+        assert (status, sorted(found)) == (1 if lines else 0, sorted(lines)), out + said
+        assert said.count('passed over') <= 1, said
+        return said.partition('bagit-keep: passed over, as left beside a bag: ')[2]
+
+    text = work / 'text'
+    text.write_text('Contact-Name: Ada\n')
+    run('edit', bag(16), 'bag-info.txt', '--from', text)
+    run('repack', bag(16), 'rename', 'data/a', 'data/b')
+    run('accept', register, bag(16), *who)
+    old, renamed = sorted(store.glob('bag-16.kept.*'), key=lambda it: (it / 'bag-info.txt').exists())
+    assert passed_over() == f'{min(old, renamed)}, and 1 more\n'
+    shutil.copytree(bag(16), work / 'copy')
+    shutil.rmtree(renamed)
+    (bag(16) / 'data/b').unlink()
+    (bag(16) / 'data/b').write_text('x')
+    run('restore', bag(16), '--from', work / 'copy')
+    (replaced,) = set(store.glob('bag-16.kept.*')) - {old}
+    assert passed_over() == f'{min(old, replaced)}, and 1 more\n'
+    shutil.rmtree(replaced)
+    # Of a bag that isn't there, or that nothing says to be one, all is looked at.
+    os.rename(bag(16), work / 'away')
+    assert not passed_over(f'missing {bag(16)}', f'new {old}')
+    os.rename(work / 'away', bag(16))
+    assert passed_over() == f'{old}\n'
+    (bag(16) / 'bagit.txt').rename(work / 'declaration')
+    said = end(begin('audit', register))
+    assert said[0] == 1 and f'new {old}\n' in said[1] and 'passed over' not in said[2], said
+    (work / 'declaration').rename(bag(16) / 'bagit.txt')
+    news()
+    for name in 'bag-16.kept.12345', 'bag-16.kept.ABCDEF', 'bag-16.keptx123456', 'bag-16.old', 'bag-16.new', 'other.kept.123456':
+        make(store / name, 'x')
+        assert passed_over(f'new {store / name}') == f'{old}\n'
+        shutil.rmtree(store / name)
+    # The folder of a command that was killed, and one that only has its name.
+    left = store / 'bag-16.new'
+    make(left / 'bag', 'x')
+    assert passed_over(f'new {left / "bag"}') == f'{old}\n'
+    (left / 'bagit-keep.json').write_text('{}')
+    assert passed_over() == f'{min(old, left)}, and 1 more\n'
+    (left / 'mine').mkdir()
+    assert passed_over(f'new {left / "bag"}') == f'{old}\n'
+    shutil.rmtree(left)
+    # A link that has the bag's name, or that of what is kept.
+    os.rename(bag(16), work / 'away')
+    bag(16).symlink_to(work / 'away')
+    assert not passed_over(f'new {old}')
+    bag(16).unlink()
+    os.rename(work / 'away', bag(16))
+    run('adopt', register, old)
+    assert passed_over() == f'{old}\n'
+    (old / 'data/a').unlink()
+    (old / 'data/a').write_text('x')
+    assert run('audit', register, wanted=1)[0] == 'news of 1 bag: 1 with faults'
+    run('retire', register, old, *who)
+    shutil.rmtree(old)
+    remake(16, '16')
+    run('accept', register, bag(16), *who)
+    shutil.rmtree(work / 'copy')
+
+
 def night_disk_full():
     """An audit that can write no file of more than so many blocks."""
     for blocks in 0, 8, 64, 200:

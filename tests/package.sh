@@ -117,6 +117,25 @@ for page in $programs; do
     all_options=$((all_options + $(wc -l <in_help)))
 done
 
+# Texts with an apostrophe, a backslash and what else a shell may read.
+cat >odd <<'END'
+usage: odd COMMAND FILE
+
+  go  doesn't \ stop: [$x] `y`
+
+Options:
+  -e, --ex FILE  don't: [take] \ $x or `y`, as often as wanted
+END
+for shell in bash zsh fish; do "$root/packaging/completions" $shell odd go=odd <odd >odd.$shell; done
+quotes() { grep -qF -- "$2" "odd.$1" || { cat "odd.$1"; give_up "completions for $1 have no line $2"; }; }
+bash -n odd.bash
+quotes zsh "'go:doesn'\''t \ stop: [\$x] \`y\`'"
+quotes zsh "'*--ex=[don'\''t\: \[take\] \\\\ \$x or \`y\`, as often as wanted]:FILE:_files'"
+quotes fish "-a go -d 'doesn\\'t \\\\ stop: [\$x] \`y\`'"
+quotes fish "-s e -l ex -rF -d 'don\\'t: [take] \\\\ \$x or \`y\`, as often as wanted'"
+! type -P zsh >/dev/null || zsh -n odd.zsh
+! type -P fish >/dev/null || fish --no-execute odd.fish
+
 # What bash completes. After `--` there are no options; an equals sign is an argument of its own.
 mkdir -p here/photographs here/plans
 touch here/profile.json

@@ -615,6 +615,9 @@ follows() {
     [[ $status == "$1" ]] || { cat printed messages; give_up "docs/OPERATIONS.md: this ends with $status: $(<"$2")"; }
     followed=$((followed + 1))
 }
+# What a disk has beside them, and what a command left beside a bag, are no bags of a round.
+mkdir bags/lost+found
+cp -a 'bags/bag 10' 'bags/bag 10.kept.0a1b2c'
 for way in 1 3; do
     block docs/OPERATIONS.md 'Check many bags' "$way" >way
     follows 3 way

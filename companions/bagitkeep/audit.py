@@ -10,6 +10,7 @@ from os.path import join
 from typing import Dict, Iterator, List, Optional, Sequence, Tuple
 
 from . import rounds
+from .beside import bag_beside, say_passed
 from .checks import Checks
 from .files import text_of
 from .go_round import rows_left
@@ -23,7 +24,7 @@ from .register import Register, Row, alone, path_of
 from .rounds import Round
 from .rounds import Row as Result
 from .seal import is_tar
-from .usage import COUNT, JOBS, read, share_of
+from .usage import COUNT, DAYS, JOBS, read, share_of
 
 FULL = Asked()
 LAST_ROUNDS = 40
@@ -148,16 +149,22 @@ def tell_of(error: OSError) -> None:
 
 def bags_in(stores: List[str]) -> Iterator[bytes]:
     """The bags in some folders, but none within another one, or in a folder
-    of which the name begins with a dot; and each .tar."""
+    of which the name begins with a dot; and each .tar. What was left beside a
+    bag that is there is passed over too, and that is said."""
+    left: List[bytes] = []
     for store in stores:
         for place, names, files in os.walk(path_of(store), onerror=tell_of):
             if b"bagit.txt" in files:
                 names.clear()
                 yield place
                 continue
-            names[:] = sorted(it for it in names if it[:1] != b".")
+            folders = [it for it in sorted(names) if it[:1] != b"."]
+            others = {it for it in folders if bag_beside(join(place, it))}
+            left += (join(place, it) for it in others)
+            names[:] = [it for it in folders if it not in others]
             shown = (join(place, it) for it in files if it[:1] != b".")
             yield from filter(is_tar, sorted(shown))
+    say_passed(left)
 
 
 def take_in(
@@ -255,7 +262,7 @@ def tell(register: Register, cut_off: Optional[Row] = None) -> int:
 def run(words: Sequence[str]) -> int:
     """Does what the command is asked for, and says its status."""
     asked = read(
-        "audit", words, share=share_of, days=COUNT, bytes=COUNT, hours=COUNT,
+        "audit", words, share=share_of, days=DAYS, bytes=COUNT, hours=COUNT,
         jobs=JOBS, task=share_of,
     )
     folder = os.path.abspath(os.fsencode(asked.operands[0]))

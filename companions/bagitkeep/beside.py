@@ -6,12 +6,13 @@ it there in full; and what was there is kept, as BAG.kept.XXXXXX.
 """
 import json
 import os
+import re
 import secrets
 import shutil
 import sys
 from contextlib import suppress
-from os.path import dirname, isdir, join, lexists
-from typing import Any, Callable, Dict, Sequence
+from os.path import dirname, isdir, isfile, islink, join, lexists
+from typing import Any, Callable, Dict, List, Optional, Sequence
 
 from .bagit import content_of, reading
 from .errors import BagError
@@ -25,10 +26,47 @@ DRAFT = "bagit-keep.json.part"
 WORK = "bag"
 TEXT = "text"
 
+Build = Callable[[str], None]
+"""Is given the folder of a new bag."""
+
 
 def kept_of(bag: str) -> str:
     """A name beside a bag for what is kept of it, which nothing has."""
     return f"{bag}.kept.{secrets.token_hex(3)}"
+
+
+LEFT = re.compile(rb"(.+)\.(?:kept\.[0-9a-f]{6}|(new))", re.DOTALL)
+"""The path of what is beside a bag, by the bag's."""
+
+
+def bag_beside(path: bytes) -> Optional[bytes]:
+    """The bag beside which a command has left the folder at this path: what
+    it kept of the bag, or the folder in which it was at work. None where no
+    bag has this name, or another has made the folder."""
+    found = LEFT.fullmatch(path)
+    if found is None or islink(path) or islink(found[1]):
+        return None
+    if not isfile(join(found[1], b"bagit.txt")):
+        return None
+    return None if found[2] and not is_work(path) else found[1]
+
+
+def is_work(path: bytes) -> bool:
+    """Whether a folder has what a command notes in its own, and what it makes
+    there, and nothing else."""
+    try:
+        names = {os.fsdecode(it) for it in os.listdir(path)}
+    except OSError:
+        return False
+    notes = {RECORD, DRAFT}
+    return bool(names & notes) and names <= notes | {WORK, TEXT}
+
+
+def say_passed(paths: List[bytes]) -> None:
+    """Says that these folders are passed over."""
+    if paths:
+        more = f", and {len(paths) - 1} more" if paths[1:] else ""
+        say(f"passed over, as left beside a bag: {shown(min(paths))}{more}")
 
 
 class Faulty(Exception):
@@ -119,16 +157,17 @@ class Beside:
         return bool(record["words"] == list(words))
 
     def replace(
-        self, words: Sequence[str], build: Callable[[str], None]
+        self, words: Sequence[str], build: Build, look: Build
     ) -> BagReport:
         """Puts what is built in the place of the bag, if a full check of it
-        ends with 0. This is its report."""
+        ends with 0, and `look` refuses nothing. This is its report."""
         self.clear()
         self.note(words=list(words))
         try:
             os.mkdir(self.work)
             build(self.work)
             report = checked(self.work)
+            look(self.work)
             with alone(self.work, self.bag):
                 self.put(words)
         finally:
@@ -180,10 +219,15 @@ def folder_of(word: str) -> str:
 
 
 def replaced(
-    bag: str, command: str, words: Sequence[str], build: Callable[[str], None]
+    bag: str,
+    command: str,
+    words: Sequence[str],
+    build: Build,
+    look: Build = lambda work: None,
 ) -> int:
-    """Replaces a bag by what is built in a folder. The status is that of the
-    last check, whose report is written."""
+    """Replaces a bag by what is built in a folder, unless `look` refuses what
+    was built. The status is that of the last check, whose report is
+    written."""
     place = Beside(bag, command)
     if os.path.ismount(bag):
         raise BagError(f"{shown(bag)} is where a disk is mounted")
@@ -191,7 +235,7 @@ def replaced(
         try:
             if place.is_done(words):
                 return show(check(bag, Asked()))
-            return show(place.replace(words, build))
+            return show(place.replace(words, build, look))
         except Faulty as faulty:
             return show(faulty.report)
 

@@ -21,7 +21,8 @@ from .fingerprint import altered, fingerprint
 from .lines import MOST_PARTS, Closing, Unchecked, encoded, line_of, report_of
 from .messages import Refused, explained, now, say, shown
 from .program import (
-    Asked, Program, Verdict, named, needed, read_profile, verdict_of,
+    LONGEST_WAIT, Asked, Program, Verdict, named, needed, read_profile,
+    verdict_of,
 )
 from .progress import Far, read_by
 from .progress import shown as shown_while
@@ -47,7 +48,7 @@ def read_words(words: Sequence[str]) -> argparse.Namespace:
     asked = usage.read(
         "check", words, 2, 2, jobs=usage.JOBS, task=usage.share_of,
         parts=usage.number(1, MOST_PARTS), tries=usage.COUNT,
-        wait=usage.number(),
+        wait=usage.number(0, LONGEST_WAIT),
     )
     shared = asked.jobs is not None or asked.parts is not None
     if (asked.task is not None) + bool(asked.join) + shared > 1:

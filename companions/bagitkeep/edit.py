@@ -14,7 +14,7 @@ from .files import write_synced
 from .lines import encoded
 from .mending import Changes, build, untold
 from .messages import Refused, say, shown
-from .program import Asked
+from .program import Asked, needed
 from .runs import check
 from .usage import MANY, read
 
@@ -49,11 +49,12 @@ def edited(bag: str, paths: Sequence[str], folder: str) -> Changes:
 
 
 def refuse_untold(bag: str, new: str) -> None:
-    """Refuses a new bag that tells less of damage than the old one."""
+    """Refuses a new bag, in which no fault was found, if it tells less of
+    damage than the old one."""
     for path, algorithm in untold(bag, new):
         raise Refused(
-            f"{encoded(path)} hasn't its {algorithm} checksum, and with this"
-            " change nothing would say so",
+            f"{encoded(path)} isn't there with its {algorithm} checksum, and"
+            " with this change nothing would say so: restore it first",
             1,
         )
 
@@ -77,14 +78,16 @@ def change(bag: str, paths: Sequence[str], given: Optional[Changes]) -> int:
         nonlocal changes
         changes = given or edited(bag, paths, place.text)
         build(bag, work, changes)
+
+    def look(work: str) -> None:
         refuse_untold(bag, work)
 
     words = [*paths, *([] if given else ["by an editor"])]
     status = 1
     try:
-        status = replaced(bag, "edit", words, make)
+        status = replaced(bag, "edit", words, make, look)
     finally:
-        if status == 1 and not given:
+        if status != 0 and not given:
             keep_text(bag, changes)
     return status
 
@@ -99,6 +102,7 @@ def run(words: Sequence[str]) -> int:
     for path in paths:
         if path.split("/")[0] == "data":
             raise Refused(f"{shown(path)} is no tag file")
+    needed()
     with reading(bag):
         if source:
             return change(bag, paths, {paths[0]: content_of(source)})

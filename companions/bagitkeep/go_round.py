@@ -7,11 +7,12 @@ from os.path import join
 from typing import Dict, List, Optional, Sequence
 
 from . import rounds, usage
+from .beside import bag_beside, say_passed
 from .checks import Checks, random_name
 from .files import absolute, is_within, text_of
 from .lines import encoded
 from .messages import Refused, explained, printable, say
-from .program import Asked, read_profile
+from .program import LONGEST_WAIT, Asked, read_profile
 from .rounds import Round, Row, options_of
 from .table import FORMATS, table_of
 
@@ -21,7 +22,7 @@ DEPTHS = ("fast", "completeness_only", "declaration_only")
 def read_words(words: Sequence[str]) -> Namespace:
     asked = usage.read(
         "round", words, 1, usage.MANY, jobs=usage.JOBS, task=usage.share_of,
-        timeout=usage.COUNT,
+        timeout=usage.number(1, LONGEST_WAIT),
     )
     if not asked.table and (asked.format or asked.since is not None):
         raise Refused("--format and --since go with --table")
@@ -53,13 +54,22 @@ def read_list(name: str) -> List[bytes]:
     return content[:-1].split(b"\0")
 
 
+def without_left(names: List[bytes]) -> List[bytes]:
+    """The directories of a list, but for what was left beside bags that are
+    in the list too; and that is said."""
+    listed = set(map(absolute, filter(None, names)))
+    left = {it for it in listed if bag_beside(it) in listed}
+    say_passed(list(left))
+    return [it for it in names if not it or absolute(it) not in left]
+
+
 def directories_of(asked: Namespace) -> List[bytes]:
     """The directories that are asked for, absolute, each once."""
     names = [os.fsencode(name) for name in asked.operands[1:]]
     if asked.list is not None:
         if names:
             raise Refused("it takes directories or --list, not both")
-        names = read_list(asked.list)
+        names = without_left(read_list(asked.list))
     if not names:
         raise Refused(
             "it takes a directory or more, or --list FILE; --help says more"

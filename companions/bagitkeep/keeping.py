@@ -20,9 +20,9 @@ from .premis import premis_of
 from .register import Register, Row, alone, make, take
 from .rounds import Round
 from .rounds import Row as Result
-from .usage import COUNT, JOBS, MANY, read
+from .usage import DAYS, JOBS, MANY, read
 
-DAYS = 90
+EVERY = 90
 
 
 def who_of(asked: Namespace) -> Dict[str, str]:
@@ -59,13 +59,13 @@ def good(result: Result) -> Optional[Dict[str, Any]]:
 
 def init(words: Sequence[str]) -> int:
     """Makes a register."""
-    asked = read("init", words, 2, MANY, every=COUNT)
+    asked = read("init", words, 2, MANY, every=DAYS)
     folder, *stores = map(absolute, asked.operands)
     for store in stores:
         if not os.path.isdir(store):
             raise Refused(f"{encoded(store)} is not a folder")
     names = [text_of(store) for store in stores]
-    make(folder, {"stores": names, "every": asked.every or DAYS})
+    make(folder, {"stores": names, "every": asked.every or EVERY})
     print(f"{encoded(folder)} is a register of no bag yet: see adopt")
     return 0
 

@@ -7,6 +7,7 @@ passes for a change.
 import hashlib
 import re
 import shutil
+from collections import Counter
 from os.path import basename, dirname, isdir, join, lexists
 from typing import Callable, Dict, Iterable, Iterator, Optional, Set, Tuple
 
@@ -115,19 +116,22 @@ def mended(bag: str, changes: Changes) -> Changes:
     }
 
 
-def given_in(bag: str, is_tag: bool) -> Dict[Entry, Set[str]]:
-    """All digests that the manifests of one kind give, by path and
-    algorithm."""
-    found: Dict[Entry, Set[str]] = {}
-    for algorithm, place in manifests_in(bag, is_tag).items():
-        content, old = content_of(place), is_old(bag)
-        for path, digest in tags.given_by(content, algorithm, is_tag, old):
-            found.setdefault((path, algorithm), set()).add(digest)
+def given(
+    content: bytes, algorithm: str, is_tag: bool, old: bool
+) -> Dict[str, Set[str]]:
+    """All digests that a manifest gives, by paths. Of one that isn't UTF-8
+    they are taken too, though `bagit` reads none there."""
+    text = content.decode("utf-8", "backslashreplace").encode("utf-8")
+    found: Dict[str, Set[str]] = {}
+    for path, digest in tags.given_by(text, algorithm, is_tag, old):
+        found.setdefault(path, set()).add(digest)
     return found
 
 
 def has_one(path: str, algorithm: str, digests: Set[str]) -> bool:
     """Whether a file is there, and has one of these digests."""
+    if isdir(path):
+        return False
     try:
         with opened(path) as file:
             return digests_of(file, [algorithm])[algorithm] in digests
@@ -135,23 +139,51 @@ def has_one(path: str, algorithm: str, digests: Set[str]) -> bool:
         return False
 
 
+def lost(
+    was: Dict[str, Set[str]],
+    becomes: Dict[str, Set[str]],
+    has: Callable[[str, Set[str]], bool],
+) -> Iterator[str]:
+    """The paths whose digests one manifest gives, and not the next, though
+    the file hasn't them. A digest may come to a path that wasn't named, one
+    for each path that goes."""
+    come = Counter(
+        digest
+        for path, digests in becomes.items()
+        if path not in was
+        for digest in digests
+    )
+    for path, digests in was.items():
+        if digests & becomes.get(path, set()) or has(path, digests):
+            continue
+        moved = {it for it in digests if come[it] > 0}
+        if path in becomes or not moved:
+            yield path
+        else:
+            come[min(moved)] -= 1
+
+
 def untold(bag: str, new: str) -> Iterator[Entry]:
     """What the manifests of a bag tell of damage, and those of a new bag
     don't: a path, and the algorithm by which its file hasn't the digest that
-    was given. A digest may come to a path that wasn't named."""
+    was given."""
+    old, becomes_old = is_old(bag), is_old(new)
     for is_tag in (False, True):
-        was, becomes = given_in(bag, is_tag), given_in(new, is_tag)
-        moved = {
-            (entry[1], digest) for entry, digests in becomes.items()
-            if entry not in was for digest in digests
-        }
-        for (path, algorithm), digests in was.items():
-            left = becomes.get((path, algorithm))
-            if left is None:
-                left = {it for it in digests if (algorithm, it) in moved}
-            if digests & left:
+        places = manifests_in(new, is_tag)
+        for algorithm, place in manifests_in(bag, is_tag).items():
+            was, next_place = content_of(place), places.get(algorithm)
+            becomes = content_of(next_place) if next_place else b""
+            if (was, old) == (becomes, becomes_old):
                 continue
-            if not has_one(join(bag, path), algorithm, digests):
+
+            def has(path: str, digests: Set[str]) -> bool:
+                return has_one(join(bag, path), algorithm, digests)
+
+            for path in lost(
+                given(was, algorithm, is_tag, old),
+                given(becomes, algorithm, is_tag, becomes_old),
+                has,
+            ):
                 yield path, algorithm
 
 

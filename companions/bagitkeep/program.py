@@ -26,6 +26,10 @@ from .messages import Refused, explained, first_line
 from .seal import is_tar
 
 LONGEST_STOP = 10
+LONGEST_WAIT = 2_147_483
+"""The seconds that a process can be waited for: the milliseconds of one more
+are no `int` of C."""
+
 MARK = "BAGIT_KEEP_GUARD"
 
 GUARD = """
@@ -235,7 +239,7 @@ class Program:
         seconds: Optional[float] = None,
     ) -> Ended:
         """Runs it with these arguments, in this folder, for at most so many
-        seconds. Its standard output is `out`.
+        seconds, or LONGEST_WAIT. Its standard output is `out`.
 
         It isn't run where no status would be had: the system keeps none for
         a process that ignores SIGCHLD, and Python then takes it for 0.
@@ -246,6 +250,8 @@ class Program:
             process = self._start(words, out, folder)
         except OSError as error:
             return Ended(None, f"couldn't be run: {error.strerror}")
+        if seconds is not None:
+            seconds = min(seconds, LONGEST_WAIT)
         with process:
             try:
                 _, messages = process.communicate(timeout=seconds)

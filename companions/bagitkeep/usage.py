@@ -94,7 +94,7 @@ def number(least: int = 0, most: int = 10 ** 18 - 1) -> Reader:
     return read
 
 
-COUNT, JOBS = number(1), number(1, 1024)
+COUNT, JOBS, DAYS = number(1), number(1, 1024), number(1, 999_999_999)
 
 
 def share_of(word: str) -> Tuple[int, int]:

@@ -6,13 +6,13 @@ import stat
 import tarfile
 import tempfile
 import unittest
-from typing import List, Optional
+from typing import Dict, List, Optional
 from unittest.mock import patch
 
-from bagitkeep.beside import Beside, folder_of, path_in_bag
+from bagitkeep.beside import Beside, bag_beside, folder_of, path_in_bag
 from bagitkeep.errors import BagError
 from bagitkeep.make import algorithms_in, elements_given
-from bagitkeep.mending import Entry, changed, line_of, mended
+from bagitkeep.mending import Entry, changed, line_of, mended, untold
 from bagitkeep.messages import Refused
 from bagitkeep.repack import OXUM, change_of, is_at
 from bagitkeep.restore import Copy
@@ -123,6 +123,129 @@ class TagManifests(InAFolder):
             self.assertIsNone(changes["x"])
             new = changes.get("tagmanifest-md5.txt", content)
             self.assertEqual(new, left + other)
+
+
+class Untold(InAFolder):
+    """What a bag tells of damage, and not with other manifests."""
+
+    def untold(
+        self, old: Dict[str, str], new: Dict[str, str], version: str = "1.0"
+    ) -> List[Entry]:
+        """The same of a bag with the files that were written into `old`, and
+        of one that is given the texts of tag files."""
+        with tempfile.TemporaryDirectory() as folder:
+            self.folder = folder
+            declaration = f"BagIt-Version: {version}\n"
+            declaration += "Tag-File-Character-Encoding: UTF-8\n"
+            for name, texts in ("old", old), ("new", new):
+                self.at(f"{name}/bagit.txt", declaration.encode())
+                for path, text in texts.items():
+                    content = text.encode("utf-8", "surrogateescape")
+                    self.at(f"{name}/{path}", content)
+            return list(untold(self.at("old"), self.at("new")))
+
+    def of(
+        self, was: str, becomes: Optional[str] = None, version: str = "1.0"
+    ) -> List[str]:
+        """The paths of a bag with the file data/x, which has `a`, and an MD5
+        manifest that becomes another, or goes."""
+        name = "manifest-md5.txt"
+        old = {"data/x": "a", name: was}
+        new = {} if becomes is None else {name: becomes}
+        return [path for path, _ in self.untold(old, new, version)]
+
+    def test_a_manifest_goes(self) -> None:
+        self.assertEqual(self.of(f"{A}  data/x\n"), [])
+        self.assertEqual(self.of(f"{EMPTY}  data/x\n"), ["data/x"])
+        self.assertEqual(self.of(f"{A}  data/y\n"), ["data/y"])
+        self.assertEqual(self.of(f"{A}  data/x/y\n"), ["data/x/y"])
+        self.assertEqual(self.of(f"{A}  data/x\n{EMPTY}  data\n"), [])
+
+    def test_a_folder_is_no_file(self) -> None:
+        old = {"data/x/y": "a", "manifest-md5.txt": f"{A}  data/x\n"}
+        self.assertEqual(self.untold(old, {}), [("data/x", "md5")])
+
+    def test_each_manifest_by_itself(self) -> None:
+        both = {
+            "manifest-md5.txt": f"{EMPTY}  data/x\n",
+            "manifest-sha1.txt": f"{'0' * 40}  data/x\n",
+            "tagmanifest-md5.txt": f"{EMPTY}  notes\n{A}  other\n",
+        }
+        old = {"data/x": "a", "notes": "a", "other": "a", **both}
+        wanted = {path: [("data/x", path[9:-4])] for path in list(both)[:2]}
+        wanted["tagmanifest-md5.txt"] = [("notes", "md5")]
+        self.assertEqual(self.untold(old, both), [])
+        for gone, found in wanted.items():
+            new = {path: text for path, text in both.items() if path != gone}
+            self.assertEqual(self.untold(old, new), found)
+
+    def test_a_digest_is_another(self) -> None:
+        was = f"{EMPTY}  data/x\n"
+        self.assertEqual(self.of(was, f"{A}  data/x\n"), ["data/x"])
+        self.assertEqual(self.of(was, ""), ["data/x"])
+        self.assertEqual(self.of(f"{A}  data/x\n", was), [])
+
+    def test_other_spellings_of_a_digest(self) -> None:
+        for was in f"{EMPTY.upper()}  data/x", f"\ufeff{EMPTY} *./data/x\r":
+            self.assertEqual(self.of(was), ["data/x"])
+            self.assertEqual(self.of(was, f"{EMPTY}  data/x\n"), [])
+        self.assertEqual(self.of(f"{A.upper()}  data/x\n"), [])
+
+    def test_a_path_is_another(self) -> None:
+        was = f"{EMPTY}  data/old\n"
+        self.assertEqual(self.of(was, f"{EMPTY}  data/new\n"), [])
+        self.assertEqual(self.of(was, f"{A}  data/new\n"), ["data/old"])
+        two = f"{was}{EMPTY}  data/older\n"
+        self.assertEqual(
+            self.of(two, f"{EMPTY}  data/new\n"), ["data/older"]
+        )
+        self.assertEqual(self.of(f"{A}  data/x\n", ""), [])
+        swapped = f"{EMPTY}  data/x\n{A}  data/y\n", f"{A}  data/x\n"
+        self.assertEqual(
+            self.of(swapped[0], f"{swapped[1]}{EMPTY}  data/y\n"),
+            ["data/x", "data/y"],
+        )
+
+    def test_a_path_is_named_twice(self) -> None:
+        twice = f"{EMPTY}  data/x\n{A}  data/x\n"
+        self.assertEqual(self.of(twice, f"{A}  data/x\n"), [])
+        self.assertEqual(self.of(twice, f"{EMPTY}  data/x\n"), [])
+        self.assertEqual(self.of(twice), [])
+        neither = f"{EMPTY}  data/x\n{'0' * 32}  data/x\n"
+        self.assertEqual(self.of(neither), ["data/x"])
+        self.assertEqual(self.of(neither, f"{A}  data/x\n"), ["data/x"])
+
+    def test_lines_with_faults_tell_nothing(self) -> None:
+        for was in f"{A[1:]}  data/y", f"{A}  y", f"{A}  data/../y", "x", "":
+            self.assertEqual(self.of(f"{was}\n"), [])
+
+    def test_a_manifest_that_is_no_utf_8(self) -> None:
+        was = "".join(
+            f"{it}  data/caf\udce9{it}\n" for it in (A, EMPTY)
+        )
+        self.assertEqual(self.of(was, was.replace("\udce9", "\u00e9")), [])
+        self.assertEqual(
+            self.of(was, f"{A}  data/caf\u00e9\n"),
+            [f"data/caf\\xe9{EMPTY}"],
+        )
+
+    def test_a_bag_of_0_97(self) -> None:
+        was = f"{EMPTY}  data/50%25%0a\n"
+        self.assertEqual(self.of(was, version="0.97"), ["data/50%25\n"])
+        self.assertEqual(self.of(was), ["data/50%\n"])
+        old = {"data/50%25\n": "a", "manifest-md5.txt": was}
+        self.assertEqual(len(self.untold(old, {}, "0.97")), 1)
+        good = f"{A}  data/50%25%0a\n"
+        old["manifest-md5.txt"] = good
+        self.assertEqual(self.untold(old, {}, "0.97"), [])
+
+    def test_the_same_bytes_by_another_version(self) -> None:
+        was = {"manifest-md5.txt": f"{A}  data/%\n"}
+        for version, found in ("0.97", []), ("1.0", [("data/%", "md5")]):
+            text = f"BagIt-Version: {version}\n"
+            text += "Tag-File-Character-Encoding: UTF-8\n"
+            new = {**was, "bagit.txt": text}
+            self.assertEqual(self.untold(was, new, "0.97"), found)
 
 
 class Paths(unittest.TestCase):
@@ -283,3 +406,54 @@ class Notes(InAFolder):
         self.at("bag.new/mine", b"")
         with self.assertRaises(BagError):
             Beside(self.at("bag"), "edit").left()
+
+
+class Left(InAFolder):
+    """What a command leaves beside a bag."""
+
+    def beside(self, name: str) -> str:
+        """The bag beside which a folder of this name is left, if any."""
+        found = bag_beside(os.fsencode(self.at(name)))
+        return os.path.basename(os.fsdecode(found)) if found else ""
+
+    def test_by_names(self) -> None:
+        self.at("bag/bagit.txt", b"")
+        self.at("bag.kept.012abc/bagit.txt", b"")
+        self.at("folder/x", b"")
+        for name, bag in (
+            ("bag.kept.012abc", "bag"),
+            ("bag.kept.ffffff", "bag"),
+            ("bag.kept.012abc.kept.ffffff", "bag.kept.012abc"),
+            ("bag.kept.012ab", ""),
+            ("bag.kept.012abcd", ""),
+            ("bag.kept.012ABC", ""),
+            ("bag.kept.", ""),
+            ("bag.kept", ""),
+            ("bag.old", ""),
+            ("bag", ""),
+            ("bagxkept.012abc", ""),
+            ("other.kept.012abc", ""),
+            ("folder.kept.012abc", ""),
+        ):
+            self.assertEqual(self.beside(name), bag, name)
+
+    def test_links(self) -> None:
+        self.at("bag/bagit.txt", b"")
+        os.symlink("bag", self.at("link"))
+        os.symlink("bag", self.at("bag.kept.012abc"))
+        for name in "link.kept.012abc", "bag.kept.012abc":
+            self.assertEqual(self.beside(name), "")
+
+    def test_a_folder_of_a_command(self) -> None:
+        self.at("bag/bagit.txt", b"")
+        place = Beside(self.at("bag"), "edit")
+        self.assertEqual(self.beside("bag.new"), "")
+        os.mkdir(place.path)
+        self.assertEqual(self.beside("bag.new"), "")
+        place.note(words=[])
+        self.assertEqual(self.beside("bag.new"), "bag")
+        self.at("bag.new/bag/bagit.txt", b"")
+        self.at("bag.new/text/0-x", b"")
+        self.assertEqual(self.beside("bag.new"), "bag")
+        self.at("bag.new/bagit.txt", b"")
+        self.assertEqual(self.beside("bag.new"), "")

@@ -12,9 +12,11 @@ from pathlib import Path
 from typing import Optional
 from unittest import mock
 
-from bagitkeep import supported
+from bagitkeep import audit, check, go_round, keeping, supported
 from bagitkeep.lines import Closing, Report
+from bagitkeep.messages import Refused
 from bagitkeep.program import (
+    LONGEST_WAIT,
     Asked,
     Ended,
     Program,
@@ -177,6 +179,25 @@ class Runs(unittest.TestCase):
         verdict = self.check("sleep 60; echo d is valid", 0.2)
         result = "bagit was killed after 0.2 seconds"
         self.assertEqual(verdict, Verdict(3, result, 0))
+
+    def test_times_that_are_too_long(self) -> None:
+        longest = LONGEST_WAIT + 1.0
+        for seconds in LONGEST_WAIT, longest, 1e30, float("inf"):
+            verdict = self.check("sleep 0.1; echo d is valid", seconds)
+            self.assertEqual(verdict, Verdict(0, "d is valid", 0))
+        words = ["round", "bag", "--timeout"]
+        text = str(LONGEST_WAIT)
+        asked = go_round.read_words([*words, text])
+        self.assertEqual(asked.timeout, LONGEST_WAIT)
+        for text in str(LONGEST_WAIT + 1), "9" * 18, "0":
+            with self.assertRaisesRegex(Refused, f"--timeout.*{text}"):
+                go_round.read_words([*words, text])
+        with self.assertRaisesRegex(Refused, "--wait"):
+            check.read_words(["bag", "report", "--wait", "9" * 18])
+        with self.assertRaisesRegex(Refused, "--days"):
+            audit.run(["register", "--days", "9" * 18])
+        with self.assertRaisesRegex(Refused, "--every"):
+            keeping.init(["register", "/", "--every", "9" * 18])
 
     def test_time_out_of_what_has_ended_and_left_another(self) -> None:
         pid = self.folder / "pid"

@@ -8,6 +8,7 @@ from dataclasses import replace
 from pathlib import Path
 from typing import Optional
 
+from bagitkeep.go_round import without_left
 from bagitkeep.messages import Refused
 from bagitkeep.program import Asked
 from bagitkeep.rounds import Record, Row, begin, load, record_of
@@ -125,6 +126,30 @@ class Rounds(unittest.TestCase):
         for now, since in (ours, theirs), (theirs, ours):
             with self.assertRaises(Refused):
                 table_of(now, since, "tsv")
+
+
+class Lists(unittest.TestCase):
+    def setUp(self) -> None:
+        folder = tempfile.TemporaryDirectory()
+        self.addCleanup(folder.cleanup)
+        self.at = os.fsencode(folder.name)
+        bag = Path(folder.name) / "bag"
+        bag.mkdir()
+        (bag / "bagit.txt").write_text("")
+
+    def test_what_is_left_beside_a_bag_of_the_list(self) -> None:
+        bag, kept = [
+            os.path.join(self.at, it) for it in (b"bag", b"bag.kept.012abc")
+        ]
+        spelled = os.path.join(self.at, b".", b"bag.kept.012abc", b"")
+        other = os.path.join(self.at, b"other.kept.012abc")
+        for names, left in (
+            ([bag, kept, other], [bag, other]),
+            ([spelled, bag], [bag]),
+            ([kept, other], [kept, other]),
+            ([b"", bag], [b"", bag]),
+        ):
+            self.assertEqual(without_left(names), left)
 
 
 class Changes(unittest.TestCase):
