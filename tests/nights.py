@@ -360,9 +360,9 @@ def night_of_what_is_kept():
     assert passed_over() == f'{min(old, replaced)}, and 1 more\n'
     shutil.rmtree(replaced)
     # Of a bag that isn't there, or that nothing says to be one, all is looked at.
-    os.rename(bag(16), work / 'away')
+    os.rename(bag(16), work / 'aside')
     assert not passed_over(f'missing {bag(16)}', f'new {old}')
-    os.rename(work / 'away', bag(16))
+    os.rename(work / 'aside', bag(16))
     assert passed_over() == f'{old}\n'
     (bag(16) / 'bagit.txt').rename(work / 'declaration')
     said = end(begin('audit', register))
@@ -383,11 +383,11 @@ def night_of_what_is_kept():
     assert passed_over(f'new {left / "bag"}') == f'{old}\n'
     shutil.rmtree(left)
     # A link that has the bag's name, or that of what is kept.
-    os.rename(bag(16), work / 'away')
-    bag(16).symlink_to(work / 'away')
+    os.rename(bag(16), work / 'aside')
+    bag(16).symlink_to(work / 'aside')
     assert not passed_over(f'new {old}')
     bag(16).unlink()
-    os.rename(work / 'away', bag(16))
+    os.rename(work / 'aside', bag(16))
     run('adopt', register, old)
     assert passed_over() == f'{old}\n'
     (old / 'data/a').unlink()
