@@ -132,6 +132,26 @@ def night_added():
     shutil.rmtree(bag(21))
 
 
+def night_retired():
+    """A retired bag is no news where it lies; another bag at its path is new, and can be adopted."""
+    make(bag(21), '21')
+    run('adopt', register)
+    run('retire', register, bag(21), *who)
+    news()
+    assert run('adopt', register) == ['there is no bag to adopt']
+    for text in 'another', '21', 'another':
+        remake(21, text)
+        news(*([f'new {bag(21)}'] if text == 'another' else []))
+    assert run('adopt', register) == ['1 of 1 bags were adopted']
+    assert run('audit', register)[0].startswith('no news: 21 bags')
+    change(21, 'x')
+    news(damaged(21, 'another', 'x'))
+    run('retire', register, bag(21), *who)
+    news()
+    shutil.rmtree(bag(21))
+    news()
+
+
 def night_damaged():
     change(3, 'x')
     news(damaged(3, '3', 'x'))

@@ -12,6 +12,7 @@ from typing import Dict, Iterator, List, Optional, Sequence, Tuple
 from . import rounds
 from .beside import bag_beside, say_passed
 from .checks import Checks
+from .checks import found_of as look_at
 from .files import text_of
 from .go_round import rows_left
 from .messages import Refused, explained, now, printable, say
@@ -23,7 +24,7 @@ from .received import look
 from .register import Register, Row, alone, path_of
 from .rounds import Round
 from .rounds import Row as Result
-from .seal import is_tar
+from .seal import is_tar, seal_of
 from .usage import COUNT, DAYS, JOBS, read, share_of
 
 FULL = Asked()
@@ -167,6 +168,21 @@ def bags_in(stores: List[str]) -> Iterator[bytes]:
     say_passed(left)
 
 
+def strangers(register: Register) -> List[bytes]:
+    """The bags in the stores of a register that it doesn't keep. One that was
+    retired isn't among them, as long as it has its seal."""
+    bags = {bag["path"]: bag for bag in register.rows("bags")}
+
+    def is_strange(path: bytes) -> bool:
+        bag = bags.get(text_of(path))
+        if bag is None or bag["is_kept"]:
+            return bag is None
+        seal: str = bag["seal"]
+        return look_at(path, seal_of) != seal
+
+    return list(filter(is_strange, bags_in(register.setting("stores"))))
+
+
 def take_in(
     register: Register,
     row: Optional[Row],
@@ -177,7 +193,7 @@ def take_in(
     which bags are overdue. A bag that was to be read and has no result isn't
     passed over, unless it was too late for it."""
     results: List[Tuple[bytes, Result]] = []
-    there = list(bags_in(register.setting("stores")))
+    there = strangers(register)
     if row is not None:
         a_round = rounds.load(folder_of(register, row["name"]))
         results = list(zip(a_round.directories, a_round.rows()))

@@ -11,7 +11,7 @@ from os.path import join
 from typing import Any, Callable, Dict, List, Optional, Sequence
 
 from . import rounds
-from .audit import FULL, bags_in, check, open_round, tell
+from .audit import FULL, check, open_round, strangers, tell
 from .files import absolute, text_of
 from .lines import encoded
 from .messages import Refused, now, printable
@@ -76,8 +76,7 @@ def adopt(register: Register, asked: Namespace, paths: List[bytes]) -> int:
     for path in paths:
         if ours.get(text_of(path), {"is_kept": 0})["is_kept"]:
             raise Refused(f"{encoded(path)} is in the register already")
-    there = bags_in(register.setting("stores"))
-    new = paths or [path for path in there if text_of(path) not in ours]
+    new = paths or strangers(register)
     if not new:
         print("there is no bag to adopt")
         return 0

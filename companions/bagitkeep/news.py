@@ -125,8 +125,8 @@ def is_past(time: Optional[str], days: float) -> bool:
 
 
 def welcome(register: Register, there: List[bytes]) -> None:
-    """Finds the bags of these that the register never had."""
-    ours = {bag["path"] for bag in register.rows("bags")}
+    """Finds the bags of these that the register doesn't keep."""
+    ours = {bag["path"] for bag in register.rows("bags", "is_kept")}
     of_no_bag(register, "new", {text_of(path) for path in there} - ours)
 
 

@@ -13,6 +13,7 @@ from bagitkeep.messages import Refused
 from bagitkeep.premis import premis_of
 from bagitkeep.rounds import Record
 from bagitkeep.rounds import Row as Result
+from bagitkeep.seal import seal_of
 
 SEAL = "0" * 128
 OTHER = "1" * 128
@@ -130,6 +131,45 @@ class OfRegister(unittest.TestCase):
         self.assertEqual(["missing"], found)
         kinds = [row["kind"] for row in opened.rows("events")]
         self.assertEqual(["init", "found", "found", "gone"], kinds)
+
+    def test_another_bag_at_the_path_of_a_retired_one(self) -> None:
+        store = os.path.join(os.path.dirname(self.folder), b"store")
+        path, opened = os.path.join(store, b"bag"), self.open()
+        os.makedirs(path)
+        declared = os.path.join(path, b"bagit.txt")
+        values = {"files": 0, "bytes": 0, "read": None}
+
+        def put(text: str) -> str:
+            with open(declared, "w") as file:
+                file.write(text)
+            return seal_of(path)
+
+        with opened.changing():
+            setting = opened.rows("settings", "name = 'stores'")[0]
+            text = json.dumps([os.fsdecode(store)])
+            opened.alter("settings", setting, value=text)
+            number = register.take(
+                opened, os.fsdecode(path), seal=put("a"), **values
+            )
+        self.assertEqual([], audit.strangers(opened))
+        with opened.changing():
+            opened.alter("bags", opened.bag_at(path), is_kept=0)
+        for text, wanted in (("a", []), ("b", [path]), ("a", [])):
+            put(text)
+            self.assertEqual(wanted, audit.strangers(opened))
+            with opened.changing():
+                news.welcome(opened, audit.strangers(opened))
+            self.assertEqual(len(wanted), len(opened.rows("findings")))
+        os.unlink(declared)
+        os.symlink("/none", declared)
+        self.assertEqual([path], audit.strangers(opened))
+        with opened.changing():
+            news.welcome(opened, [path])
+            again = register.take(
+                opened, os.fsdecode(path), seal=OTHER, **values
+            )
+        self.assertEqual(number, again)
+        self.assertEqual([], opened.rows("findings"))
 
     def test_a_bag_that_is_missing_takes_no_share(self) -> None:
         opened = self.open()
