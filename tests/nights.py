@@ -4,6 +4,7 @@ usage: nights.py ROOT FOLDER
 
 FOLDER is an empty one. BAGIT and BAGIT_RENEW name the programs. Each command is a process, forked from this one.
 """
+import contextlib
 import hashlib
 import io
 import json
@@ -12,6 +13,7 @@ import random
 import resource
 import shutil
 import signal
+import sqlite3
 import subprocess
 import sys
 import tempfile
@@ -516,6 +518,22 @@ def night_of_bits():
     shutil.copy(register / 'register.copy', path)
     assert run('status', register)[0] == said[0]
     path.write_bytes(whole)
+
+
+def night_of_an_altered_event():
+    """An event that was altered ends the audit by name, and the copy of the night before stays, and is the register then."""
+    path, copy = register / 'register.sqlite', register / 'register.copy'
+    before = copy.read_bytes()
+    with contextlib.closing(sqlite3.connect(path)) as base, base:
+        changed = base.execute("UPDATE events SET data = replace(data, 'Ada', 'Adb') WHERE id = (SELECT min(id) FROM events WHERE kind = 'known')")
+        assert changed.rowcount == 1
+    for _ in range(2):
+        status, out, said = end(begin('audit', register))
+        assert (status, out) == (3, '') and ' of events): put register.copy in its place, and audit again' in said, (status, out, said)
+        assert copy.read_bytes() == before
+    shutil.copy(copy, path)
+    news()
+    run('dump', register)
 
 
 def main():

@@ -67,8 +67,9 @@ def unplain(value: Any) -> Any:
 
 
 def digest_of(table: str, values: List[Any]) -> str:
-    """The digest of a row, whose first value is its number."""
-    text = json.dumps([table, *values])
+    """The digest of a row, whose first value is its number. A value that is
+    none that JSON has was never put there, and has another digest."""
+    text = json.dumps([table, *values], default=repr)
     return hashlib.sha256(text.encode()).hexdigest()
 
 
@@ -181,8 +182,15 @@ class Register:
         found = self.rows("settings", "name = ?", name)
         return json.loads(found[0]["value"]) if found else None
 
+    def verify(self) -> None:
+        """Reads all rows, each of which has to have its digest."""
+        for table in COLUMNS:
+            self.rows(table)
+
     def copy(self) -> None:
-        """Puts a copy beside the register, whole and durable."""
+        """Puts a copy beside the register, whole and durable, unless a row of
+        the register was altered: then the copy before stays."""
+        self.verify()
         draft = join(self.folder, b".draft-" + os.urandom(8).hex().encode())
         try:
             with closing(connect(draft)) as other, self.reading():

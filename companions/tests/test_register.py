@@ -9,6 +9,7 @@ from contextlib import closing
 from typing import Any, Dict, Optional
 
 from bagitkeep import audit, keeping, news, register
+from bagitkeep.files import read_bytes
 from bagitkeep.messages import Refused
 from bagitkeep.premis import premis_of
 from bagitkeep.rounds import Record
@@ -119,6 +120,35 @@ class OfRegister(unittest.TestCase):
         opened.copy()
         names = sorted(os.listdir(self.folder))
         self.assertEqual([b"register.copy", b"register.sqlite"], names)
+
+    def test_a_register_that_was_altered_replaces_no_copy(self) -> None:
+        copy = self.folder + b"/register.copy"
+        with closing(self.open()) as it:
+            it.copy()
+        before = read_bytes(copy)
+        with closing(self.open()) as it, it.changing():
+            for table in register.COLUMNS:
+                it.add(table, **dict.fromkeys(register.COLUMNS[table], "1"))
+        path = os.fsdecode(self.folder + b"/register.sqlite")
+        whole = read_bytes(path)
+        for table, columns in register.COLUMNS.items():
+            for value in "2", b"\xff":
+                with open(path, "wb") as file:
+                    file.write(whole)
+                with closing(sqlite3.connect(path)) as base, base:
+                    last = f"(SELECT max(id) FROM {table})"
+                    query = f"UPDATE {table} SET {columns[0]} = ?"
+                    base.execute(f"{query} WHERE id = {last}", [value])
+                with self.subTest(table), closing(self.open()) as it:
+                    with self.assertRaises(Refused) as refused:
+                        it.copy()
+                    self.assertEqual(3, refused.exception.status)
+                    self.assertIn(f"of {table})", str(refused.exception))
+                self.assertEqual(before, read_bytes(copy))
+        with open(path, "wb") as file:
+            file.write(whole)
+        self.open().copy()
+        self.assertNotEqual(before, read_bytes(copy))
 
     def test_findings_come_and_go(self) -> None:
         opened = self.open()
