@@ -29,8 +29,8 @@ who = ['--by', 'Ada', '--why', 'a test']
 seen = 0
 
 
-def begin(*words, env=None, blocks=None):
-    """Begins a command, which may write no file of more than so many blocks of 512 bytes."""
+def begin(*words, env=None, blocks=None, is_killed=True):
+    """Begins a command, which may write no file of more than so many blocks of 512 bytes. It is killed then, or is told so."""
     out, said = tempfile.TemporaryFile(), tempfile.TemporaryFile()
     number = os.fork()
     if number:
@@ -40,7 +40,7 @@ def begin(*words, env=None, blocks=None):
         os.dup2(said.fileno(), 2)
         os.environ.update(env or {})
         if blocks is not None:
-            signal.signal(signal.SIGXFSZ, signal.SIG_DFL)
+            signal.signal(signal.SIGXFSZ, signal.SIG_DFL if is_killed else signal.SIG_IGN)
             resource.setrlimit(resource.RLIMIT_FSIZE, (blocks * 512, blocks * 512))
         sys.argv = ['bagit-keep', *map(str, words)]
         sys.stdout = io.TextIOWrapper(io.FileIO(1, 'w', closefd=False), encoding='utf-8')
@@ -430,6 +430,21 @@ def night_disk_full():
         assert status == 0 or 'no news' not in out, (blocks, out)
     change(13, 'x')
     assert damaged(13, '13', 'x') in run('audit', register, wanted=1)
+    change(13, '13')
+    news()
+
+
+def night_without_room_for_a_note():
+    """Where nothing can be written, a command says so, and that no copy is to be put in the place of the register."""
+    change(13, 'x')
+    news(damaged(13, '13', 'x'))
+    for words in ('known', register, bag(13), '--all', *who), ('retire', register, bag(13), *who), ('audit', register):
+        for blocks in 0, 1, 8:
+            status, out, said = end(begin(*words, blocks=blocks, is_killed=False))
+            assert status == 3 and 'register.copy' not in said and 'altered' not in said, (words, blocks, status, out, said)
+            assert words[0] == 'audit' or not blocks or f"{register}/register.sqlite can't be read or written (" in said, (words, blocks, said)
+    known(13)
+    news()
     change(13, '13')
     news()
 

@@ -36,6 +36,13 @@ COLUMNS = {
 }
 """The columns of each table, beside `id` and `digest`."""
 
+DAMAGE = (
+    "malformed", "not a database", "unsupported file format", "no such",
+    "decode",
+)
+"""What is in a message of SQLite if the database isn't what was written; all
+others are of a disk that is full, or of a file that can't be used."""
+
 UNIQUE = {
     "settings": "name",
     "bags": "path",
@@ -109,10 +116,18 @@ class Register:
         try:
             yield
         except sqlite3.Error as error:
-            if "locked" in str(error):
-                text = f"{encoded(self.path)} is in use by another process"
+            where, text = encoded(self.path), str(error)
+            if "locked" in text:
+                text = f"{where} is in use by another process"
                 raise Refused(text, 3) from error
-            raise self.altered(str(error)) from error
+            if any(it in text for it in DAMAGE):
+                raise self.altered(text) from error
+            if "is full" in text:
+                why = "make room, and give the command again"
+            else:
+                why = "see why, and give the command again"
+            text = f"{where} can't be read or written ({text}): {why}"
+            raise Refused(text, 3) from error
 
     @contextmanager
     def changing(self) -> Iterator[None]:
@@ -122,7 +137,8 @@ class Register:
             try:
                 yield
             except BaseException:
-                self._base.execute("ROLLBACK")
+                if self._base.in_transaction:
+                    self._base.execute("ROLLBACK")
                 raise
             self._base.execute("COMMIT")
 
@@ -193,7 +209,7 @@ class Register:
         self.verify()
         draft = join(self.folder, b".draft-" + os.urandom(8).hex().encode())
         try:
-            with closing(connect(draft)) as other, self.reading():
+            with self.reading(), closing(connect(draft)) as other:
                 self._base.backup(other)
             with open(draft, "rb") as file:
                 os.fsync(file)

@@ -86,11 +86,54 @@ class OfRegister(unittest.TestCase):
             raise ZeroDivisionError
         self.assertEqual(1, len(opened.rows("events")))
 
+    def test_a_disk_that_is_full_is_no_damage(self) -> None:
+        opened = self.open()
+        opened._base.execute("PRAGMA max_page_count = 1")
+        with self.assertRaises(Refused) as refused, opened.changing():
+            for _ in range(100):
+                opened.note("a", None, text="b" * 1000)
+        self.assertEqual(3, refused.exception.status)
+        text = str(refused.exception)
+        self.assertIn("(database or disk is full): make room, and", text)
+        self.assertNotIn("register.copy", text)
+        self.assertEqual(1, len(opened.rows("events")))
+
+    def test_what_the_database_says(self) -> None:
+        opened = self.open()
+        for text, is_damage in (
+            ("database disk image is malformed", True),
+            ("malformed database schema (bags)", True),
+            ("file is not a database", True),
+            ("no such column: kind", True),
+            ("Could not decode to UTF-8 column 'data'", True),
+            ("database or disk is full", False),
+            ("disk I/O error", False),
+            ("cannot rollback - no transaction is active", False),
+            ("attempt to write a readonly database", False),
+            ("unable to open database file", False),
+            ("database is locked", False),
+        ):
+            with self.assertRaises(Refused) as refused, opened.reading():
+                raise sqlite3.OperationalError(text)
+            with self.subTest(text):
+                self.assertEqual(3, refused.exception.status)
+                says = str(refused.exception)
+                self.assertEqual(is_damage, "register.copy" in says)
+                self.assertEqual(is_damage, "was altered" in says)
+
+    def test_a_change_that_the_database_has_ended_is_told(self) -> None:
+        opened = self.open()
+        with self.assertRaises(Refused) as refused, opened.changing():
+            opened._base.execute("ROLLBACK")
+            raise sqlite3.OperationalError("database or disk is full")
+        self.assertIn("disk is full", str(refused.exception))
+
     def test_another_file_is_no_register(self) -> None:
         with open(self.folder + b"/register.sqlite", "wb") as file:
             file.write(b"no database, but long enough to be looked at" * 100)
-        with self.assertRaises(Refused):
+        with self.assertRaises(Refused) as refused:
             register.Register(self.folder)
+        self.assertIn("register.copy", str(refused.exception))
 
     def test_no_row_takes_the_place_of_another(self) -> None:
         opened = self.open()
