@@ -503,6 +503,22 @@ def night_killed():
     news()
 
 
+def night_of_a_page():
+    """The pages say what `status` says, also of an audit that was cut off; and the audit after says so once."""
+    kills = work / 'kills'
+    kills.write_text('#!/bin/sh\nkill -9 $PPID\n')
+    kills.chmod(0o755)
+    assert end(begin('audit', register, '--jobs', '1', env={'BAGIT': str(kills)}))[0] == -signal.SIGKILL
+    said = run('status', register, wanted=1)
+    assert said[0] == 'news of 0 bags: 1 cut off', said
+    run('page', register, work / 'pages')
+    assert f'<h1>N{said[0][1:]}</h1>' in (work / 'pages/index.html').read_text()
+    assert run('audit', register, wanted=1)[0] == said[0]
+    news()
+    run('page', register, work / 'pages')
+    assert '<h1>No news: 20 bags' in (work / 'pages/index.html').read_text()
+
+
 def night_of_two():
     slow = work / 'slow'
     slow.write_text(f'#!/bin/sh\n: >"{work}/begun"\nwhile [ ! -e "{work}/refused" ]; do sleep 0.1; done\nexec "{os.environ["BAGIT"]}" "$@"\n')

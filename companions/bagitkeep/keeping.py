@@ -4,7 +4,7 @@ import json
 import os
 import shutil
 from argparse import ArgumentTypeError, Namespace
-from contextlib import closing, nullcontext
+from contextlib import closing, nullcontext, suppress
 from dataclasses import dataclass
 from datetime import datetime
 from os.path import join
@@ -100,12 +100,17 @@ def status(register: Register, asked: Namespace, paths: List[bytes]) -> int:
 
 
 def unended(register: Register) -> Optional[Row]:
-    """The audit that was begun and not ended, unless one is at work."""
-    try:
-        with alone(register.folder):
-            return open_round(register)
-    except Refused:
+    """The audit that was begun and not ended, unless one is at work, which
+    only who may write in the register can tell."""
+    if open_round(register) is None:
         return None
+    with suppress(PermissionError):
+        try:
+            with alone(register.folder):
+                return open_round(register)
+        except Refused:
+            return None
+    return open_round(register)
 
 
 def history(register: Register, asked: Namespace, paths: List[bytes]) -> int:
