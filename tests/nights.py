@@ -503,6 +503,30 @@ def night_killed():
     news()
 
 
+def night_killed_after_its_checks():
+    """An audit that was killed when all bags were checked, and before it had noted this, is told, and all bags are read again."""
+    path, before = register / 'register.sqlite', set(os.listdir(register / 'rounds'))
+    killed = begin('audit', register, '--jobs', '1')
+    new = set()
+    while not new or not (register / 'rounds' / new.pop() / 'list').exists():
+        new = set(os.listdir(register / 'rounds')) - before
+    (name,) = set(os.listdir(register / 'rounds')) - before
+    with contextlib.closing(sqlite3.connect(path, timeout=60, isolation_level=None)) as base:
+        base.execute('BEGIN EXCLUSIVE')
+        reports = register / 'rounds' / name / 'reports'
+        while not reports.exists() or len(list(reports.iterdir())) < 20:
+            time.sleep(0.01)
+        os.kill(killed[0], signal.SIGKILL)
+        assert end(killed)[0] == -signal.SIGKILL
+    assert run('status', register, wanted=1)[0] == 'news of 0 bags: 1 cut off'
+    change(13, 'x')
+    said = run('audit', register, wanted=1)
+    assert said[0] == 'news of 1 bag: 1 with faults, 1 cut off', said
+    assert said[1].startswith('cut-off - the audit of ') and said[2] == damaged(13, '13', 'x'), said
+    change(13, '13')
+    news()
+
+
 def night_of_a_page():
     """The pages say what `status` says, also of an audit that was cut off; and the audit after says so once."""
     kills = work / 'kills'
