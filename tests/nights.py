@@ -4,6 +4,7 @@ usage: nights.py ROOT FOLDER
 
 FOLDER is an empty one. BAGIT and BAGIT_RENEW name the programs. Each command is a process, forked from this one.
 """
+import contextlib
 import hashlib
 import io
 import json
@@ -12,6 +13,7 @@ import random
 import resource
 import shutil
 import signal
+import sqlite3
 import subprocess
 import sys
 import tempfile
@@ -27,8 +29,8 @@ who = ['--by', 'Ada', '--why', 'a test']
 seen = 0
 
 
-def begin(*words, env=None, blocks=None):
-    """Begins a command, which may write no file of more than so many blocks of 512 bytes."""
+def begin(*words, env=None, blocks=None, is_killed=True):
+    """Begins a command, which may write no file of more than so many blocks of 512 bytes. It is killed then, or is told so."""
     out, said = tempfile.TemporaryFile(), tempfile.TemporaryFile()
     number = os.fork()
     if number:
@@ -38,7 +40,7 @@ def begin(*words, env=None, blocks=None):
         os.dup2(said.fileno(), 2)
         os.environ.update(env or {})
         if blocks is not None:
-            signal.signal(signal.SIGXFSZ, signal.SIG_DFL)
+            signal.signal(signal.SIGXFSZ, signal.SIG_DFL if is_killed else signal.SIG_IGN)
             resource.setrlimit(resource.RLIMIT_FSIZE, (blocks * 512, blocks * 512))
         sys.argv = ['bagit-keep', *map(str, words)]
         sys.stdout = io.TextIOWrapper(io.FileIO(1, 'w', closefd=False), encoding='utf-8')
@@ -130,6 +132,26 @@ def night_added():
     run('adopt', register, bag(21))
     run('retire', register, bag(21), *who)
     shutil.rmtree(bag(21))
+
+
+def night_retired():
+    """A retired bag is no news where it lies; another bag at its path is new, and can be adopted."""
+    make(bag(21), '21')
+    run('adopt', register)
+    run('retire', register, bag(21), *who)
+    news()
+    assert run('adopt', register) == ['there is no bag to adopt']
+    for text in 'another', '21', 'another':
+        remake(21, text)
+        news(*([f'new {bag(21)}'] if text == 'another' else []))
+    assert run('adopt', register) == ['1 of 1 bags were adopted']
+    assert run('audit', register)[0].startswith('no news: 21 bags')
+    change(21, 'x')
+    news(damaged(21, 'another', 'x'))
+    run('retire', register, bag(21), *who)
+    news()
+    shutil.rmtree(bag(21))
+    news()
 
 
 def night_damaged():
@@ -412,6 +434,21 @@ def night_disk_full():
     news()
 
 
+def night_without_room_for_a_note():
+    """Where nothing can be written, a command says so, and that no copy is to be put in the place of the register."""
+    change(13, 'x')
+    news(damaged(13, '13', 'x'))
+    for words in ('known', register, bag(13), '--all', *who), ('retire', register, bag(13), *who), ('audit', register):
+        for blocks in 0, 1, 8:
+            status, out, said = end(begin(*words, blocks=blocks, is_killed=False))
+            assert status == 3 and 'register.copy' not in said and 'altered' not in said, (words, blocks, status, out, said)
+            assert words[0] == 'audit' or not blocks or f"{register}/register.sqlite can't be read or written (" in said, (words, blocks, said)
+    known(13)
+    news()
+    change(13, '13')
+    news()
+
+
 def night_of_tasks():
     change(11, 'x')
     tasks = [begin('audit', register, '--task', f'{it}/8') for it in range(1, 9)]
@@ -466,6 +503,46 @@ def night_killed():
     news()
 
 
+def night_killed_after_its_checks():
+    """An audit that was killed when all bags were checked, and before it had noted this, is told, and all bags are read again."""
+    path, before = register / 'register.sqlite', set(os.listdir(register / 'rounds'))
+    killed = begin('audit', register, '--jobs', '1')
+    new = set()
+    while not new or not (register / 'rounds' / new.pop() / 'list').exists():
+        new = set(os.listdir(register / 'rounds')) - before
+    (name,) = set(os.listdir(register / 'rounds')) - before
+    with contextlib.closing(sqlite3.connect(path, timeout=60, isolation_level=None)) as base:
+        base.execute('BEGIN EXCLUSIVE')
+        reports = register / 'rounds' / name / 'reports'
+        while not reports.exists() or len(list(reports.iterdir())) < 20:
+            time.sleep(0.01)
+        os.kill(killed[0], signal.SIGKILL)
+        assert end(killed)[0] == -signal.SIGKILL
+    assert run('status', register, wanted=1)[0] == 'news of 0 bags: 1 cut off'
+    change(13, 'x')
+    said = run('audit', register, wanted=1)
+    assert said[0] == 'news of 1 bag: 1 with faults, 1 cut off', said
+    assert said[1].startswith('cut-off - the audit of ') and said[2] == damaged(13, '13', 'x'), said
+    change(13, '13')
+    news()
+
+
+def night_of_a_page():
+    """The pages say what `status` says, also of an audit that was cut off; and the audit after says so once."""
+    kills = work / 'kills'
+    kills.write_text('#!/bin/sh\nkill -9 $PPID\n')
+    kills.chmod(0o755)
+    assert end(begin('audit', register, '--jobs', '1', env={'BAGIT': str(kills)}))[0] == -signal.SIGKILL
+    said = run('status', register, wanted=1)
+    assert said[0] == 'news of 0 bags: 1 cut off', said
+    run('page', register, work / 'pages')
+    assert f'<h1>N{said[0][1:]}</h1>' in (work / 'pages/index.html').read_text()
+    assert run('audit', register, wanted=1)[0] == said[0]
+    news()
+    run('page', register, work / 'pages')
+    assert '<h1>No news: 20 bags' in (work / 'pages/index.html').read_text()
+
+
 def night_of_two():
     slow = work / 'slow'
     slow.write_text(f'#!/bin/sh\n: >"{work}/begun"\nwhile [ ! -e "{work}/refused" ]; do sleep 0.1; done\nexec "{os.environ["BAGIT"]}" "$@"\n')
@@ -496,6 +573,22 @@ def night_of_bits():
     shutil.copy(register / 'register.copy', path)
     assert run('status', register)[0] == said[0]
     path.write_bytes(whole)
+
+
+def night_of_an_altered_event():
+    """An event that was altered ends the audit by name, and the copy of the night before stays, and is the register then."""
+    path, copy = register / 'register.sqlite', register / 'register.copy'
+    before = copy.read_bytes()
+    with contextlib.closing(sqlite3.connect(path)) as base, base:
+        changed = base.execute("UPDATE events SET data = replace(data, 'Ada', 'Adb') WHERE id = (SELECT min(id) FROM events WHERE kind = 'known')")
+        assert changed.rowcount == 1
+    for _ in range(2):
+        status, out, said = end(begin('audit', register))
+        assert (status, out) == (3, '') and ' of events): put register.copy in its place, and audit again' in said, (status, out, said)
+        assert copy.read_bytes() == before
+    shutil.copy(copy, path)
+    news()
+    run('dump', register)
 
 
 def main():

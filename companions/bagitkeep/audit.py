@@ -12,6 +12,7 @@ from typing import Dict, Iterator, List, Optional, Sequence, Tuple
 from . import rounds
 from .beside import bag_beside, say_passed
 from .checks import Checks
+from .checks import found_of as look_at
 from .files import text_of
 from .go_round import rows_left
 from .messages import Refused, explained, now, printable, say
@@ -23,7 +24,7 @@ from .received import look
 from .register import Register, Row, alone, path_of
 from .rounds import Round
 from .rounds import Row as Result
-from .seal import is_tar
+from .seal import is_tar, seal_of
 from .usage import COUNT, DAYS, JOBS, read, share_of
 
 FULL = Asked()
@@ -98,9 +99,9 @@ def open_round(register: Register) -> Optional[Row]:
     return found[0] if found else None
 
 
-def begin_round(register: Register, bags: List[Row]) -> Row:
+def begin_round(register: Register, bags: List[Row], by_task: bool) -> Row:
     """Begins a round over these bags, or takes the one that another process
-    has just begun."""
+    has just begun. That of tasks has results at once, which are none yet."""
     with register.changing():
         there = open_round(register)
         if there is not None:
@@ -113,9 +114,8 @@ def begin_round(register: Register, bags: List[Row]) -> Row:
         os.makedirs(os.path.dirname(folder), exist_ok=True)
         shutil.rmtree(folder, ignore_errors=True)
         rounds.begin(folder, [path_of(it["path"]) for it in bags], FULL, None)
-        register.add(
-            "rounds", name=name, begun=now(), ended=None, results=None
-        )
+        values = {"ended": None, "results": "{}" if by_task else None}
+        register.add("rounds", name=name, begun=now(), **values)
         found = open_round(register)
         assert found is not None
         return found
@@ -167,6 +167,21 @@ def bags_in(stores: List[str]) -> Iterator[bytes]:
     say_passed(left)
 
 
+def strangers(register: Register) -> List[bytes]:
+    """The bags in the stores of a register that it doesn't keep. One that was
+    retired isn't among them, as long as it has its seal."""
+    bags = {bag["path"]: bag for bag in register.rows("bags")}
+
+    def is_strange(path: bytes) -> bool:
+        bag = bags.get(text_of(path))
+        if bag is None or bag["is_kept"]:
+            return bag is None
+        seal: str = bag["seal"]
+        return look_at(path, seal_of) != seal
+
+    return list(filter(is_strange, bags_in(register.setting("stores"))))
+
+
 def take_in(
     register: Register,
     row: Optional[Row],
@@ -177,7 +192,7 @@ def take_in(
     which bags are overdue. A bag that was to be read and has no result isn't
     passed over, unless it was too late for it."""
     results: List[Tuple[bytes, Result]] = []
-    there = list(bags_in(register.setting("stores")))
+    there = strangers(register)
     if row is not None:
         a_round = rounds.load(folder_of(register, row["name"]))
         results = list(zip(a_round.directories, a_round.rows()))
@@ -223,32 +238,45 @@ def prune(register: Register) -> None:
                         os.unlink(path)
 
 
-def was_cut_off(a_round: Round, left: List[int]) -> bool:
-    """Whether a round that was begun before has bags that nobody checked."""
-    return any(a_round.row(number).record is None for number in left)
+def is_checked(register: Register, row: Row) -> bool:
+    """Whether somebody has checked each bag of a round, or tried to."""
+    a_round = rounds.load(folder_of(register, row["name"]))
+    left = left_of(a_round, (1, 1))
+    return all(a_round.row(number).record is not None for number in left)
+
+
+def cut_off_of(register: Register, there: Optional[Row]) -> Optional[Row]:
+    """The round that was begun before, if it was cut off. Tasks leave theirs
+    to another audit, with a check of each bag."""
+    if there is None:
+        return None
+    is_of_tasks = there["results"] is not None
+    return None if is_of_tasks and is_checked(register, there) else there
 
 
 def audit(register: Register, asked: argparse.Namespace) -> int:
     """One audit, or one task of it, and what is new."""
-    there, is_cut_off = open_round(register), False
+    there, by_task = open_round(register), asked.task is not None
+    cut_off = None if by_task else cut_off_of(register, there)
     late: List[bytes] = []
-    is_new = there is None
-    if there is None:
+    if there is None or cut_off is not None and is_checked(register, there):
+        if there is not None:
+            take_in(register, there, True, [])
         bags = due(bags_there(register), asked)
-        there = begin_round(register, bags) if bags else None
+        there = begin_round(register, bags, by_task) if bags else None
     if there is not None:
         a_round = rounds.load(folder_of(register, there["name"]))
         left = left_of(a_round, asked.task or (1, 1))
-        is_cut_off = not is_new and was_cut_off(a_round, left)
         if left:
             late = check(a_round, left, asked)
-        if asked.task is not None:
+        if by_task:
             print(f"{len(left)} bags were checked for {there['name']}")
             return 0
-    take_in(register, there, is_cut_off, late)
+    is_resumed = cut_off is not None and cut_off == there
+    take_in(register, there, is_resumed, late)
     prune(register)
     register.copy()
-    return tell(register, there if is_cut_off else None)
+    return tell(register, cut_off)
 
 
 def tell(register: Register, cut_off: Optional[Row] = None) -> int:

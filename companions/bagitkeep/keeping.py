@@ -4,14 +4,14 @@ import json
 import os
 import shutil
 from argparse import ArgumentTypeError, Namespace
-from contextlib import closing, nullcontext
+from contextlib import closing, nullcontext, suppress
 from dataclasses import dataclass
 from datetime import datetime
 from os.path import join
 from typing import Any, Callable, Dict, List, Optional, Sequence
 
 from . import rounds
-from .audit import FULL, bags_in, check, open_round, tell
+from .audit import FULL, check, open_round, strangers, tell
 from .files import absolute, text_of
 from .lines import encoded
 from .messages import Refused, now, printable
@@ -76,8 +76,7 @@ def adopt(register: Register, asked: Namespace, paths: List[bytes]) -> int:
     for path in paths:
         if ours.get(text_of(path), {"is_kept": 0})["is_kept"]:
             raise Refused(f"{encoded(path)} is in the register already")
-    there = bags_in(register.setting("stores"))
-    new = paths or [path for path in there if text_of(path) not in ours]
+    new = paths or strangers(register)
     if not new:
         print("there is no bag to adopt")
         return 0
@@ -101,12 +100,17 @@ def status(register: Register, asked: Namespace, paths: List[bytes]) -> int:
 
 
 def unended(register: Register) -> Optional[Row]:
-    """The audit that was begun and not ended, unless one is at work."""
-    try:
-        with alone(register.folder):
-            return open_round(register)
-    except Refused:
+    """The audit that was begun and not ended, unless one is at work, which
+    only who may write in the register can tell."""
+    if open_round(register) is None:
         return None
+    with suppress(PermissionError):
+        try:
+            with alone(register.folder):
+                return open_round(register)
+        except Refused:
+            return None
+    return open_round(register)
 
 
 def history(register: Register, asked: Namespace, paths: List[bytes]) -> int:

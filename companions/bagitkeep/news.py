@@ -125,8 +125,8 @@ def is_past(time: Optional[str], days: float) -> bool:
 
 
 def welcome(register: Register, there: List[bytes]) -> None:
-    """Finds the bags of these that the register never had."""
-    ours = {bag["path"] for bag in register.rows("bags")}
+    """Finds the bags of these that the register doesn't keep."""
+    ours = {bag["path"] for bag in register.rows("bags", "is_kept")}
     of_no_bag(register, "new", {text_of(path) for path in there} - ours)
 
 
@@ -141,18 +141,40 @@ def of_no_bag(register: Register, kind: str, paths: Set[str]) -> None:
         find(register, None, kind, text)
 
 
+def overdue_in(register: Register) -> List[Row]:
+    """The bags that are overdue by now."""
+    days = register.setting("every")
+    kept = register.rows("bags", "is_kept")
+    return [bag for bag in kept if is_past(bag["read"], days)]
+
+
+def text_of_overdue(bag: Row) -> str:
+    return f"not read whole since {bag['read']}"
+
+
 def remind(register: Register) -> None:
     """Finds the bags that are overdue, and those that aren't any more."""
-    days = register.setting("every")
     found = register.rows("findings", "kind = 'overdue'")
-    late = {row["bag"]: row for row in found}
-    for bag in register.rows("bags", "is_kept"):
-        is_late = is_past(bag["read"], days)
-        if is_late and bag["id"] not in late:
-            text = f"not read whole since {bag['read']}"
-            find(register, bag, "overdue", text)
-        if not is_late and bag["id"] in late:
-            register.remove("findings", late[bag["id"]])
+    gone = {row["bag"]: row for row in found}
+    for bag in overdue_in(register):
+        if gone.pop(bag["id"], None) is None:
+            find(register, bag, "overdue", text_of_overdue(bag))
+    for row in gone.values():
+        register.remove("findings", row)
+
+
+def findings_of(register: Register) -> List[Row]:
+    """What is found by now: as the register has it once it was reminded, for
+    whoever mustn't write there."""
+    late = {bag["id"]: bag for bag in overdue_in(register)}
+    found = []
+    for row in register.rows("findings"):
+        if row["kind"] != "overdue" or late.pop(row["bag"], None):
+            found.append(row)
+    values = {"kind": "overdue", "since": now(), "known": None}
+    for number, bag in late.items():
+        found.append({**values, "bag": number, "text": text_of_overdue(bag)})
+    return found
 
 
 def is_news(row: Row, today: str) -> bool:
@@ -216,7 +238,7 @@ class State:
 def state_of(register: Register, cut_off: Optional[Row] = None) -> State:
     """The news of a register, and of a round of it that was cut off."""
     bags = {bag["id"]: bag for bag in register.rows("bags")}
-    found = register.rows("findings")
+    found = findings_of(register)
     today = now()[:10]
     news = [row for row in found if is_news(row, today)]
     known = len(found) - len(news)

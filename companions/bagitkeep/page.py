@@ -13,9 +13,10 @@ from typing import Tuple
 
 from . import __version__, rounds
 from .files import absolute, read_bytes, sync_folder
+from .keeping import unended
 from .lines import FAULTS, TEXTS, encoded, faults_in, report_of
 from .messages import Refused, now, printable
-from .news import MOST_FAULTS, TO_DO, State, state_of
+from .news import MOST_FAULTS, TO_DO, State, findings_of, state_of
 from .receipts import page_of
 from .received import noted_in
 from .register import Register, Row, path_of
@@ -162,8 +163,9 @@ def grouped(rows: Iterable[Row]) -> Dict[Optional[int], List[Row]]:
 
 def site_of_register(register: Register) -> Site:
     """A register's news, bags and year."""
-    state, events = state_of(register), register.rows("events")
-    of_bag, found = grouped(events), grouped(register.rows("findings"))
+    state = state_of(register, unended(register))
+    events = register.rows("events")
+    of_bag, found = grouped(events), grouped(findings_of(register))
     kept = [bag for bag in state.bags.values() if bag["is_kept"]]
     kept.sort(key=lambda bag: str(bag["path"]))
     views = {

@@ -36,6 +36,13 @@ COLUMNS = {
 }
 """The columns of each table, beside `id` and `digest`."""
 
+DAMAGE = (
+    "malformed", "not a database", "unsupported file format", "no such",
+    "decode",
+)
+"""What is in a message of SQLite if the database isn't what was written; all
+others are of a disk that is full, or of a file that can't be used."""
+
 UNIQUE = {
     "settings": "name",
     "bags": "path",
@@ -67,8 +74,9 @@ def unplain(value: Any) -> Any:
 
 
 def digest_of(table: str, values: List[Any]) -> str:
-    """The digest of a row, whose first value is its number."""
-    text = json.dumps([table, *values])
+    """The digest of a row, whose first value is its number. A value that is
+    none that JSON has was never put there, and has another digest."""
+    text = json.dumps([table, *values], default=repr)
     return hashlib.sha256(text.encode()).hexdigest()
 
 
@@ -108,10 +116,18 @@ class Register:
         try:
             yield
         except sqlite3.Error as error:
-            if "locked" in str(error):
-                text = f"{encoded(self.path)} is in use by another process"
+            where, text = encoded(self.path), str(error)
+            if "locked" in text:
+                text = f"{where} is in use by another process"
                 raise Refused(text, 3) from error
-            raise self.altered(str(error)) from error
+            if any(it in text for it in DAMAGE):
+                raise self.altered(text) from error
+            if "is full" in text:
+                why = "make room, and give the command again"
+            else:
+                why = "see why, and give the command again"
+            text = f"{where} can't be read or written ({text}): {why}"
+            raise Refused(text, 3) from error
 
     @contextmanager
     def changing(self) -> Iterator[None]:
@@ -121,7 +137,8 @@ class Register:
             try:
                 yield
             except BaseException:
-                self._base.execute("ROLLBACK")
+                if self._base.in_transaction:
+                    self._base.execute("ROLLBACK")
                 raise
             self._base.execute("COMMIT")
 
@@ -181,11 +198,18 @@ class Register:
         found = self.rows("settings", "name = ?", name)
         return json.loads(found[0]["value"]) if found else None
 
+    def verify(self) -> None:
+        """Reads all rows, each of which has to have its digest."""
+        for table in COLUMNS:
+            self.rows(table)
+
     def copy(self) -> None:
-        """Puts a copy beside the register, whole and durable."""
+        """Puts a copy beside the register, whole and durable, unless a row of
+        the register was altered: then the copy before stays."""
+        self.verify()
         draft = join(self.folder, b".draft-" + os.urandom(8).hex().encode())
         try:
-            with closing(connect(draft)) as other, self.reading():
+            with self.reading(), closing(connect(draft)) as other:
                 self._base.backup(other)
             with open(draft, "rb") as file:
                 os.fsync(file)

@@ -1,14 +1,17 @@
 """What pages show, and that no name on them acts."""
+import io
 import os
 import tempfile
 import unittest
+from argparse import Namespace
+from contextlib import redirect_stdout
 from importlib.util import find_spec
 from pathlib import Path
 from unittest import mock
 
-from bagitkeep import page
+from bagitkeep import keeping, page, register
 from bagitkeep.lines import FAULTS
-from bagitkeep.messages import Refused
+from bagitkeep.messages import Refused, now
 from bagitkeep.program import Asked
 from bagitkeep.rounds import Record, Row
 
@@ -70,6 +73,56 @@ class Views(unittest.TestCase):
         ages = {it["days"]: it["bags"] for it in page.ages_of(bags)}
         self.assertEqual(1, ages["0 to 6"])
         self.assertEqual(2, ages[page.LAST_AGE])
+
+
+class OfRegister(unittest.TestCase):
+    """What the pages of a register say."""
+
+    def test_the_news_are_those_of_status(self) -> None:
+        room = tempfile.TemporaryDirectory()
+        self.addCleanup(room.cleanup)
+        folder = os.fsencode(room.name) + b"/register"
+        register.make(folder, {"stores": ["/s"], "every": 90})
+        opened = register.Register(folder)
+        self.addCleanup(opened.close)
+        with opened.changing():
+            for path, read in ("/a", "2000-01-01T00:00:00Z"), ("/b", now()):
+                values = {"seal": "0", "files": 1, "bytes": 2, "read": read}
+                register.take(opened, path, **values)
+        self.says(opened, "news of 1 bag: 1 overdue", 1)
+        with opened.changing():
+            values = {"ended": None, "results": None}
+            opened.add("rounds", name="000001", begun=now(), **values)
+        self.says(opened, "news of 1 bag: 1 overdue, 1 cut off", 2)
+        for error, line, news in (
+            (Refused("x"), "news of 1 bag: 1 overdue", 1),
+            (PermissionError(), "news of 1 bag: 1 overdue, 1 cut off", 2),
+        ):
+            with mock.patch.object(keeping, "alone", side_effect=error):
+                self.says(opened, line, news)
+        with opened.changing():
+            bag = opened.bag_at(b"/a")
+            opened.alter("bags", bag, read=now())
+        self.says(opened, "news of 0 bags: 1 cut off", 1)
+
+    def says(self, opened: register.Register, line: str, news: int) -> None:
+        """The pages do, also before the register is reminded, and they change
+        nothing there."""
+        before = [opened.rows(it) for it in register.COLUMNS]
+        for _ in range(2):
+            site = page.site_of_register(opened)
+            self.assertEqual(line, site.first_line)
+            self.assertEqual(news, len(site.news))
+            is_overdue = "overdue" in line
+            self.assertEqual(not is_overdue, site.bags[0].is_certified)
+            self.assertTrue(site.bags[1].is_certified)
+            after = [opened.rows(it) for it in register.COLUMNS]
+            self.assertEqual(before, after)
+            out = io.StringIO()
+            with redirect_stdout(out):
+                keeping.status(opened, Namespace(), [])
+            self.assertEqual(line, out.getvalue().splitlines()[0])
+            before = [opened.rows(it) for it in register.COLUMNS]
 
 
 @unittest.skipUnless(find_spec("jinja2"), "there is no Jinja2")

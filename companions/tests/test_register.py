@@ -9,10 +9,12 @@ from contextlib import closing
 from typing import Any, Dict, Optional
 
 from bagitkeep import audit, keeping, news, register
+from bagitkeep.files import read_bytes
 from bagitkeep.messages import Refused
 from bagitkeep.premis import premis_of
 from bagitkeep.rounds import Record
 from bagitkeep.rounds import Row as Result
+from bagitkeep.seal import seal_of
 
 SEAL = "0" * 128
 OTHER = "1" * 128
@@ -84,11 +86,54 @@ class OfRegister(unittest.TestCase):
             raise ZeroDivisionError
         self.assertEqual(1, len(opened.rows("events")))
 
+    def test_a_disk_that_is_full_is_no_damage(self) -> None:
+        opened = self.open()
+        opened._base.execute("PRAGMA max_page_count = 1")
+        with self.assertRaises(Refused) as refused, opened.changing():
+            for _ in range(100):
+                opened.note("a", None, text="b" * 1000)
+        self.assertEqual(3, refused.exception.status)
+        text = str(refused.exception)
+        self.assertIn("(database or disk is full): make room, and", text)
+        self.assertNotIn("register.copy", text)
+        self.assertEqual(1, len(opened.rows("events")))
+
+    def test_what_the_database_says(self) -> None:
+        opened = self.open()
+        for text, is_damage in (
+            ("database disk image is malformed", True),
+            ("malformed database schema (bags)", True),
+            ("file is not a database", True),
+            ("no such column: kind", True),
+            ("Could not decode to UTF-8 column 'data'", True),
+            ("database or disk is full", False),
+            ("disk I/O error", False),
+            ("cannot rollback - no transaction is active", False),
+            ("attempt to write a readonly database", False),
+            ("unable to open database file", False),
+            ("database is locked", False),
+        ):
+            with self.assertRaises(Refused) as refused, opened.reading():
+                raise sqlite3.OperationalError(text)
+            with self.subTest(text):
+                self.assertEqual(3, refused.exception.status)
+                says = str(refused.exception)
+                self.assertEqual(is_damage, "register.copy" in says)
+                self.assertEqual(is_damage, "was altered" in says)
+
+    def test_a_change_that_the_database_has_ended_is_told(self) -> None:
+        opened = self.open()
+        with self.assertRaises(Refused) as refused, opened.changing():
+            opened._base.execute("ROLLBACK")
+            raise sqlite3.OperationalError("database or disk is full")
+        self.assertIn("disk is full", str(refused.exception))
+
     def test_another_file_is_no_register(self) -> None:
         with open(self.folder + b"/register.sqlite", "wb") as file:
             file.write(b"no database, but long enough to be looked at" * 100)
-        with self.assertRaises(Refused):
+        with self.assertRaises(Refused) as refused:
             register.Register(self.folder)
+        self.assertIn("register.copy", str(refused.exception))
 
     def test_no_row_takes_the_place_of_another(self) -> None:
         opened = self.open()
@@ -119,6 +164,35 @@ class OfRegister(unittest.TestCase):
         names = sorted(os.listdir(self.folder))
         self.assertEqual([b"register.copy", b"register.sqlite"], names)
 
+    def test_a_register_that_was_altered_replaces_no_copy(self) -> None:
+        copy = self.folder + b"/register.copy"
+        with closing(self.open()) as it:
+            it.copy()
+        before = read_bytes(copy)
+        with closing(self.open()) as it, it.changing():
+            for table in register.COLUMNS:
+                it.add(table, **dict.fromkeys(register.COLUMNS[table], "1"))
+        path = os.fsdecode(self.folder + b"/register.sqlite")
+        whole = read_bytes(path)
+        for table, columns in register.COLUMNS.items():
+            for value in "2", b"\xff":
+                with open(path, "wb") as file:
+                    file.write(whole)
+                with closing(sqlite3.connect(path)) as base, base:
+                    last = f"(SELECT max(id) FROM {table})"
+                    query = f"UPDATE {table} SET {columns[0]} = ?"
+                    base.execute(f"{query} WHERE id = {last}", [value])
+                with self.subTest(table), closing(self.open()) as it:
+                    with self.assertRaises(Refused) as refused:
+                        it.copy()
+                    self.assertEqual(3, refused.exception.status)
+                    self.assertIn(f"of {table})", str(refused.exception))
+                self.assertEqual(before, read_bytes(copy))
+        with open(path, "wb") as file:
+            file.write(whole)
+        self.open().copy()
+        self.assertNotEqual(before, read_bytes(copy))
+
     def test_findings_come_and_go(self) -> None:
         opened = self.open()
         with opened.changing():
@@ -130,6 +204,45 @@ class OfRegister(unittest.TestCase):
         self.assertEqual(["missing"], found)
         kinds = [row["kind"] for row in opened.rows("events")]
         self.assertEqual(["init", "found", "found", "gone"], kinds)
+
+    def test_another_bag_at_the_path_of_a_retired_one(self) -> None:
+        store = os.path.join(os.path.dirname(self.folder), b"store")
+        path, opened = os.path.join(store, b"bag"), self.open()
+        os.makedirs(path)
+        declared = os.path.join(path, b"bagit.txt")
+        values = {"files": 0, "bytes": 0, "read": None}
+
+        def put(text: str) -> str:
+            with open(declared, "w") as file:
+                file.write(text)
+            return seal_of(path)
+
+        with opened.changing():
+            setting = opened.rows("settings", "name = 'stores'")[0]
+            text = json.dumps([os.fsdecode(store)])
+            opened.alter("settings", setting, value=text)
+            number = register.take(
+                opened, os.fsdecode(path), seal=put("a"), **values
+            )
+        self.assertEqual([], audit.strangers(opened))
+        with opened.changing():
+            opened.alter("bags", opened.bag_at(path), is_kept=0)
+        for text, wanted in (("a", []), ("b", [path]), ("a", [])):
+            put(text)
+            self.assertEqual(wanted, audit.strangers(opened))
+            with opened.changing():
+                news.welcome(opened, audit.strangers(opened))
+            self.assertEqual(len(wanted), len(opened.rows("findings")))
+        os.unlink(declared)
+        os.symlink("/none", declared)
+        self.assertEqual([path], audit.strangers(opened))
+        with opened.changing():
+            news.welcome(opened, [path])
+            again = register.take(
+                opened, os.fsdecode(path), seal=OTHER, **values
+            )
+        self.assertEqual(number, again)
+        self.assertEqual([], opened.rows("findings"))
 
     def test_a_bag_that_is_missing_takes_no_share(self) -> None:
         opened = self.open()
