@@ -43,12 +43,13 @@ class Case(NamedTuple):
         return renew.renewed(self.top, self.options)
 
 
-def make_bag(top, version, algorithms, tag_algorithms, payload=PAYLOAD):
-    """A valid bag; what isn't said of it is the same for all."""
+def make_bag(top, version, algorithms, tag_algorithms, payload=PAYLOAD, part=()):
+    """A valid bag; some manifests list a part of the payload, and what isn't said of it is the same for all."""
     files = {b"metadata/dc.xml": b"<dc/>", b"bag-info.txt": b"Contact-Name: Ann\nBag-Size: 1 KB\n on\n two lines\n"}
     files[b"bagit.txt"] = f"BagIt-Version: {version}\nTag-File-Character-Encoding: UTF-8\n".encode()
     for algorithm in algorithms:
-        files[renew.manifest_path(algorithm)] = renew.manifest_of(algorithm, payload, version)
+        listed = dict([*payload.items()][:2]) if algorithm in part else payload
+        files[renew.manifest_path(algorithm)] = renew.manifest_of(algorithm, listed, version)
     tags = {renew.tag_manifest_path(name): renew.manifest_of(name, files, version) for name in tag_algorithms}
     renew.write({**payload, **files, **tags}, top)
     os.chmod(f"{top}/{INFO.decode()}", 0o600)
@@ -59,6 +60,7 @@ def cases():
     make_bag("old", "0.97", ["md5"], ["md5"])
     make_bag("two", "1.0", ["md5", "sha256"], ["md5", "sha1"])
     make_bag("plain", "0.97", ["md5"], ["md5"], PLAIN)
+    make_bag("parts", "0.97", ["md5", "sha1"], ["md5"], part=["md5"])
     (Path("old") / renew.FETCH.decode()).write_bytes(FETCHED)
     (Path("two") / BEGUN.decode()).write_bytes(b"begun")
     element = (("Contact-Name", "Bob"), ("External-Identifier", "A 2026/17"))
@@ -68,6 +70,7 @@ def cases():
     yield Case("the same unchecked", "two", without_md5._replace(unchecked=True), False)
     to_1_0 = Options(add=("sha256",), drop=("md5",), set=element, to_1_0=True)
     yield Case("0.97 with MD5 to 1.0 with SHA-256", "plain", to_1_0, True)
+    yield Case("0.97 without MD5, which lists a part", "parts", Options(drop=("md5",), unset=("bag-size",)), True)
 
 
 # ---- calls
