@@ -33,9 +33,9 @@ says() { # OUTPUT ERRORS COMMAND..
 
 # The same for a folder that can't be listed, of a check, a making and a renewal.
 unlisted() { # FOLDER PATH WHY
-    says "$1 unread - device, faults: 0" "bagit: $2: $3" ./bagit --validate "$1"
-    says "$1 not made: read - device" "bagit: $2: $3" ./bagit "$1"
-    says "$1 not renewed: read - device" "bagit-renew: $2: $3" ./bagit-renew --set Contact-Name=Ann "$1"
+    says "${1:--} unread - device, faults: 0" "bagit: $2: $3" ./bagit --validate "$1"
+    says "${1:--} not made: read - device" "bagit: $2: $3" ./bagit "$1"
+    says "${1:--} not renewed: read - device" "bagit-renew: $2: $3" ./bagit-renew --set Contact-Name=Ann "$1"
 }
 
 # A folder of two files, and a bag of them; nobody writes their files but to make a bag.
@@ -50,6 +50,7 @@ new_folders() {
 }
 
 unlisted absent absent 'not there'
+unlisted '' - 'not there'
 echo a >file
 unlisted file file 'not a folder'
 unlisted file/below file/below 'not a folder'

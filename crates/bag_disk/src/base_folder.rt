@@ -1,11 +1,11 @@
 //! The system's calls below a base folder.
-ghost use Rattle.std.specs.Prelude.{◌≡◌, ◌++◌, ◌∷◌, [], IfOk, IsErrOf, Ok, OnErr, OnOk};
+ghost use Rattle.std.specs.Prelude.{◌≡◌, ◌++◌, ◌∷◌, [], IfOk, IsErrAnd, Ok, OnErr, OnOk};
 ghost use Rattle.std.specs.Fs.{IsDir, IsFile, file_type, metadata_len};
 ghost use Rattle.bag_disk.specs.Location.{location_below};
 ghost use Rattle.bag_disk.specs.declared.disk.DiskFault.TheVariants.{NotFound};
 ghost use Rattle.bag_disk.specs.declared.disk.Entry.TheVariants.{File, Folder, Other};
 
-use crate::disk::{DiskFault, Entry};
+use crate::disk::Entry;
 use crate::location::{is_location, location_below};
 use crate::ownership::{Access, PRIVATE, RemovedFiles, give_owner, take_after};
 use crate::system_fault::{SystemFault, answer_at};
@@ -276,12 +276,13 @@ impl BaseFolder {
     }
 
     /// Where a path stands. Below an empty base folder nothing does.
-    fn location(&self, path: &str) -> Result<Text, DiskFault>
-        ensures nowhere { self.now.path ≡ [] → IsErrOf result NotFound }
+    fn location(&self, path: &str) -> Result<Text, SystemFault>
+        ensures nowhere { self.now.path ≡ []
+            → IsErrAnd result (λ refused. refused.fault ≡ NotFound) }
         ensures location { IfOk result (λ text. text ≡ location_below self.now.path path.now) }
     {
         if self.path.is_empty() {
-            return Err(DiskFault::NotFound);
+            return Err(SystemFault::nowhere(self.alloc));
         }
         Ok(location_below(self.alloc, self.path.as_str(), path)?)
     }

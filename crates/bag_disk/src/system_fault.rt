@@ -1,6 +1,6 @@
 //! Which fault of a disk an error of the system is.
 ghost use Rattle.std.specs.Prelude.{◌≡◌, IfOk, Ok};
-ghost use Rattle.bag_disk.specs.declared.disk.DiskFault.TheVariants.{Memory};
+ghost use Rattle.bag_disk.specs.declared.disk.DiskFault.TheVariants.{Memory, NotFound};
 
 use crate::disk::DiskFault;
 use crate::trouble::Trouble;
@@ -26,6 +26,18 @@ impl SystemFault {
             Err(AllocError) => None,
         };
         SystemFault { fault, trouble }
+    }
+
+    /// That nothing is there, as no name leads there. The system isn't asked.
+    pub(crate) fn nowhere(alloc: Global) -> SystemFault
+        ensures { result.fault ≡ NotFound }
+    {
+        let location = Text::empty(alloc);
+        let error = io::Error::from(ErrorKind::NotFound);
+        SystemFault {
+            fault: DiskFault::NotFound,
+            trouble: Some(Trouble::new(location, error)),
+        }
     }
 }
 
