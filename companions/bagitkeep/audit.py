@@ -16,8 +16,8 @@ from .checks import found_of as look_at
 from .files import text_of
 from .go_round import rows_left
 from .messages import Refused, explained, now, printable, say
-from .news import found_of, is_past, miss, remind, settle, state_of
-from .news import welcome
+from .news import State, found_of, is_past, lapse, miss, note_told, remind
+from .news import settle, state_of, welcome
 from .program import Asked
 from .progress import bytes_of
 from .received import look
@@ -216,6 +216,7 @@ def take_in(
         welcome(register, there)
         look(register)
         remind(register)
+        lapse(register)
 
 
 def take_result(register: Register, bag: Row, result: Result) -> None:
@@ -276,14 +277,15 @@ def audit(register: Register, asked: argparse.Namespace) -> int:
     take_in(register, there, is_resumed, late)
     prune(register)
     register.copy()
-    return tell(register, cut_off)
+    status = tell(state_of(register, cut_off, True))
+    note_told(register)
+    return status
 
 
-def tell(register: Register, cut_off: Optional[Row] = None) -> int:
+def tell(state: State) -> int:
     """Writes the news; the status says whether there are any."""
-    state = state_of(register, cut_off)
     for line in state.lines():
-        print(printable(line))
+        print(printable(line), flush=True)
     return 1 if state.news else 0
 
 

@@ -17,6 +17,7 @@ from .keeping import unended
 from .lines import FAULTS, TEXTS, encoded, faults_in, report_of
 from .messages import Refused, now, printable
 from .news import MOST_FAULTS, TO_DO, State, findings_of, state_of
+from .news import until_of
 from .receipts import page_of
 from .received import noted_in
 from .register import Register, Row, path_of
@@ -244,7 +245,7 @@ def news_of(state: State, views: Dict[int, BagView], row: Row) -> View:
         "what": row["kind"],
         "bag": state.name_of(row),
         "page": view.page if view is not None else "",
-        "says": said_of(row),
+        "says": (said_of(row) + until_of(row)).strip(),
         "todo": TO_DO[row["kind"]],
         "since": row.get("since", "")[:10],
     }
@@ -347,7 +348,7 @@ def run(words: Sequence[str]) -> int:
     """Does what the command is asked for, and says its status."""
     source, folder = map(absolute, read("page", words, 2, 2).operands)
     if os.path.isfile(join(source, b"register.sqlite")):
-        with closing(Register(source)) as register:
+        with closing(Register(source, True)) as register:
             site = site_of_register(register)
     elif os.path.isdir(source):
         site = site_of_round(source)

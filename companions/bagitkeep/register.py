@@ -84,13 +84,14 @@ class Register:
     """An open register. What is changed in a `with self.changing()` is
     changed as a whole, or not at all."""
 
-    def __init__(self, folder: bytes) -> None:
+    def __init__(self, folder: bytes, is_only_read: bool = False) -> None:
         self.folder = folder
         self.path = join(folder, b"register.sqlite")
         if not os.path.isfile(self.path):
             raise Refused(f"{encoded(folder)} is no register")
         with self.reading():
             self._base = connect(self.path)
+            self._base.execute(f"PRAGMA query_only = {int(is_only_read)}")
             found = self._base.execute("PRAGMA integrity_check").fetchone()
             kind = self._base.execute("PRAGMA application_id").fetchone()
             form = self._base.execute("PRAGMA user_version").fetchone()
@@ -198,6 +199,13 @@ class Register:
         found = self.rows("settings", "name = ?", name)
         return json.loads(found[0]["value"]) if found else None
 
+    def set(self, name: str, value: Any) -> None:
+        """Has a setting have this value."""
+        values = {"name": name, "value": json.dumps(value)}
+        for row in self.rows("settings", "name = ?", name):
+            return self.alter("settings", row, **values)
+        self.add("settings", **values)
+
     def verify(self) -> None:
         """Reads all rows, each of which has to have its digest."""
         for table in COLUMNS:
@@ -225,6 +233,7 @@ def take(register: Register, path: str, **values: Any) -> int:
     number."""
     for row in register.rows("findings", "kind = 'new' AND text = ?", path):
         register.remove("findings", row)
+        register.note("gone", None, of="new", text=path)
     row_now = {**values, "path": path, "is_kept": 1, "adopted": now()}
     ours = register.rows("bags", "path = ?", path)
     if ours:

@@ -327,10 +327,15 @@ class OfNews(unittest.TestCase):
             "news of 2 bags: 1 with faults, 1 altered", state.first_line()
         )
         self.assertEqual("altered /2 " + OTHER, state.lines()[3])
-        for since, wanted in (("1", False), ("2", False), ("3", True)):
-            of = [{**it, "since": "2"} for it in found]
-            line = news.State(of, 0, bags, since).first_line()
-            self.assertEqual(wanted, line.startswith("still news of 2"))
+        for is_new in True, False:
+            found[0].update(is_new=is_new, until="2026-01-01")
+            of = [found[0], *({**it, "is_new": False} for it in found[1:])]
+            lines = news.State(of, 0, bags).lines()
+            still = "" if is_new else "still "
+            self.assertTrue(lines[0].startswith(f"{still}news of 2 bags: "))
+            fault = "fault /1 x (known until 2026-01-01)"
+            self.assertEqual(still + fault, lines[1])
+            self.assertEqual("still fault /1 y", lines[2])
         self.assertEqual(
             ["no news: 2 bags, each read whole since 2026-01-01T00:00:00Z"],
             news.State([], 0, bags).lines(),
