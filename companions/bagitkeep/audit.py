@@ -229,14 +229,8 @@ def take_result(register: Register, bag: Row, result: Result) -> None:
 def prune(register: Register) -> None:
     """Of rounds but the last, removes the reports of bags without faults."""
     for row in register.rows("rounds", "ended IS NOT NULL")[:-1]:
-        folder = folder_of(register, row["name"])
         with suppress(Refused, OSError):
-            a_round = rounds.load(folder)
-            for number in range(1, len(a_round.directories) + 1):
-                path = a_round.report_path(number)
-                with suppress(FileNotFoundError):
-                    if a_round.row(number).status == 0:
-                        os.unlink(path)
+            rounds.prune(folder_of(register, row["name"]))
 
 
 def is_checked(register: Register, row: Row) -> bool:

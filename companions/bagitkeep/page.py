@@ -256,14 +256,16 @@ def site_of_round(folder: bytes) -> Site:
     bags, a_round = [], rounds.load(folder)
     for row in a_round.rows():
         view = BagView(encoded(row.bag), row.result)
-        view.findings = [row.result] if row.status else []
+        is_bad = row.status and not row.is_pruned
+        view.findings = [row.result] if is_bad else []
         if row.report is not None and (row.faults or 0) <= MOST_FAULTS:
             report = read_bytes(row.report).decode("ascii")
             view.faults = by_folder(report.splitlines())
         if row.record is not None:
             view.files, view.bytes = row.record.files, row.record.size
             view.seal = row.record.seal
-            is_whole = a_round.asked.depth == "full" and row.status != 3
+            is_read = row.status != 3 or row.is_pruned
+            is_whole = a_round.asked.depth == "full" and is_read
             view.read = row.record.ended if is_whole else None
             view.is_certified = is_whole and row.status == 0
         bags.append(view)
