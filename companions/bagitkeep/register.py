@@ -116,6 +116,8 @@ class Register:
         """Has what goes wrong with the database be said by its name."""
         try:
             yield
+        except UnicodeDecodeError as error:  # of a message of SQLite
+            raise self.altered("malformed database schema") from error
         except sqlite3.Error as error:
             where, text = encoded(self.path), str(error)
             if "locked" in text:

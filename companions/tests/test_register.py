@@ -135,6 +135,19 @@ class OfRegister(unittest.TestCase):
             register.Register(self.folder)
         self.assertIn("register.copy", str(refused.exception))
 
+    def test_a_bit_that_changes_in_a_name(self) -> None:
+        whole = read_bytes(self.folder + b"/register.sqlite")
+        place = whole.index(b"CREATE TABLE bags")
+        for name in b"KEY", b"digest", b"path)":
+            changed = bytearray(whole)
+            changed[whole.index(name, place)] ^= 128
+            with open(self.folder + b"/register.sqlite", "wb") as file:
+                file.write(changed)
+            with self.assertRaises(Refused) as refused:
+                register.Register(self.folder).rows("bags")
+            self.assertEqual(3, refused.exception.status)
+            self.assertIn("register.copy", str(refused.exception))
+
     def test_no_row_takes_the_place_of_another(self) -> None:
         opened = self.open()
         row = dict.fromkeys(register.COLUMNS["bags"])
