@@ -95,8 +95,8 @@ class Timed(Checks):
 
 def open_round(register: Register) -> Optional[Row]:
     """The round that isn't taken in yet."""
-    found = register.rows("rounds", "ended IS NULL")
-    return found[0] if found else None
+    rows = register.rows("rounds")
+    return next((row for row in rows if row["ended"] is None), None)
 
 
 def begin_round(register: Register, bags: List[Row], by_task: bool) -> Row:

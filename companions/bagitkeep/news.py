@@ -301,10 +301,10 @@ def first_told(register: Register, is_audit: bool) -> Dict[What, Any]:
     when it was known before."""
     before = told_in(register)[int(is_audit)]
     first = {}
-    where = "id > ? AND kind IN ('found', 'lapsed')"
-    for row in register.rows("events", where, before):
-        data = json.loads(row["data"])
-        first[row["bag"], data["of"], data["text"]] = data.get("until")
+    for row in register.rows("events", "id > ?", before):
+        if row["kind"] in ("found", "lapsed"):
+            data = json.loads(row["data"])
+            first[row["bag"], data["of"], data["text"]] = data.get("until")
     return first
 
 

@@ -1,6 +1,7 @@
 """What audits tell on their nights, and what `status` tells between them."""
 import io
 import os
+import sqlite3
 import tempfile
 import unittest
 from argparse import Namespace
@@ -73,6 +74,16 @@ class OfNights(unittest.TestCase):
             self.audit()
         self.assertEqual("news of 1 bag: 1 missing", self.audit()[0])
         self.assertEqual("still news of 1 bag: 1 missing", self.audit()[0])
+
+    def test_an_altered_event_is_an_error(self) -> None:
+        self.take("/none", audit.now())
+        self.audit()
+        path = os.fsdecode(self.folder + b"/register.sqlite")
+        with closing(sqlite3.connect(path)) as base, base:
+            query = "UPDATE events SET kind = 'fount' WHERE kind = 'found'"
+            self.assertEqual(1, base.execute(query).rowcount)
+        with self.assertRaises(Refused):
+            self.said(keeping.status, Namespace(), [])
 
     def test_what_was_known_is_new_again(self) -> None:
         self.take("/none", audit.now())
