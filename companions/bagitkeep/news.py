@@ -227,7 +227,7 @@ class State:
     """How the bags of a register are, as far as people don't know it."""
 
     news: List[Row]
-    known: int
+    known: List[Row]
     bags: Dict[int, Row]
 
     def first_line(self) -> str:
@@ -250,7 +250,8 @@ class State:
         if kept:
             oldest = min(bag["read"] or "" for bag in kept)
             text += f", each read whole since {oldest}"
-        return f"{text}, {self.known} known findings" if self.known else text
+        count = len(self.known)
+        return f"{text}, {count} known findings" if count else text
 
     def lines(self) -> List[str]:
         """The first line, one for each of the news, and one about the rest."""
@@ -288,7 +289,7 @@ def state_of(
             is_old = "id" in row and until is None and what not in first
             until = until or first.get(what)
             news.append({**row, "is_new": not is_old, "until": until})
-    known = len(found) - len(news)
+    known = [row for row in found if not is_news(row, today)]
     news.sort(key=lambda row: not is_new(row))
     if cut_off is not None:
         text = f"the audit of {cut_off['begun']} was cut off"

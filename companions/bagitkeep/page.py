@@ -62,6 +62,7 @@ class Site:
     first_line: str
     bags: List[BagView]
     news: List[View] = field(default_factory=list)
+    known: List[View] = field(default_factory=list)
     ages: List[View] = field(default_factory=list)
     year: View = field(default_factory=dict)
     receipts: List[View] = field(default_factory=list)
@@ -185,6 +186,7 @@ def site_of_register(register: Register) -> Site:
             view.receipts.append(row)
     site = Site(state.first_line(), list(views.values()), receipts=receipts)
     site.news = [news_of(state, views, row) for row in state.news]
+    site.known = [known_of(state, views, row) for row in state.known]
     site.ages = ages_of(kept)
     if kept:
         ended = register.rows("rounds", "ended IS NOT NULL")
@@ -249,6 +251,13 @@ def news_of(state: State, views: Dict[int, BagView], row: Row) -> View:
         "todo": TO_DO[row["kind"]],
         "since": row.get("since", "")[:10],
     }
+
+
+def known_of(state: State, views: Dict[int, BagView], row: Row) -> View:
+    """A finding that people know of, with what they have noted of it."""
+    said = json.loads(row["known"])
+    texts = {it: printable(said.get(it, "")) for it in ("by", "why", "until")}
+    return {**news_of(state, views, row), **texts}
 
 
 def site_of_round(folder: bytes) -> Site:

@@ -335,7 +335,7 @@ class OfNews(unittest.TestCase):
         bags = {it: bag(it, "2026-01-01T00:00:00Z") for it in (1, 2)}
         for it in bags:
             bags[it]["path"] = f"/{it}"
-        state = news.State(found, 0, bags)
+        state = news.State(found, [], bags)
         self.assertEqual(
             "news of 2 bags: 1 with faults, 1 altered", state.first_line()
         )
@@ -343,7 +343,7 @@ class OfNews(unittest.TestCase):
         for is_new in True, False:
             found[0].update(is_new=is_new, until="2026-01-01")
             of = [found[0], *({**it, "is_new": False} for it in found[1:])]
-            lines = news.State(of, 0, bags).lines()
+            lines = news.State(of, [], bags).lines()
             still = "" if is_new else "still "
             self.assertTrue(lines[0].startswith(f"{still}news of 2 bags: "))
             fault = "fault /1 x (known until 2026-01-01)"
@@ -351,7 +351,7 @@ class OfNews(unittest.TestCase):
             self.assertEqual("still fault /1 y", lines[2])
         self.assertEqual(
             ["no news: 2 bags, each read whole since 2026-01-01T00:00:00Z"],
-            news.State([], 0, bags).lines(),
+            news.State([], [], bags).lines(),
         )
 
 
