@@ -95,10 +95,14 @@ class Register:
             found = self._base.execute("PRAGMA integrity_check").fetchone()
             kind = self._base.execute("PRAGMA application_id").fetchone()
             form = self._base.execute("PRAGMA user_version").fetchone()
+            query = "SELECT sql FROM sqlite_master WHERE sql IS NOT NULL"
+            tables = self._base.execute(query).fetchall()
         if kind[0] != APPLICATION or form[0] != FORMAT:
             raise Refused(f"{encoded(folder)} is of another program", 3)
         if found[0] != "ok":
             raise self.altered(str(found[0]))
+        if {it[0] for it in tables} != set(statements()):
+            raise self.altered("its tables are others")
 
     def altered(self, why: str) -> Refused:
         where = encoded(self.path)
@@ -255,6 +259,16 @@ def connect(path: bytes) -> sqlite3.Connection:
     return base
 
 
+def statements() -> List[str]:
+    """What makes the tables, as SQLite keeps it."""
+    made = []
+    for table, columns in COLUMNS.items():
+        unique = f", UNIQUE ({UNIQUE[table]})" if table in UNIQUE else ""
+        names = f"{', '.join(columns)}, digest{unique}"
+        made.append(f"CREATE TABLE {table} (id INTEGER PRIMARY KEY, {names})")
+    return [*made, "CREATE INDEX of_bag ON events (bag)"]
+
+
 def make(folder: bytes, settings: Row) -> None:
     """Makes a register in a folder of its own, whole or not at all."""
     os.makedirs(folder, exist_ok=True)
@@ -266,13 +280,8 @@ def make(folder: bytes, settings: Row) -> None:
     with closing(connect(path)) as base:
         base.execute(f"PRAGMA application_id = {APPLICATION}")
         base.execute(f"PRAGMA user_version = {FORMAT}")
-        for table, columns in COLUMNS.items():
-            unique = f", UNIQUE ({UNIQUE[table]})" if table in UNIQUE else ""
-            base.execute(
-                f"CREATE TABLE {table} (id INTEGER PRIMARY KEY,"
-                f" {', '.join(columns)}, digest{unique})"
-            )
-        base.execute("CREATE INDEX of_bag ON events (bag)")
+        for statement in statements():
+            base.execute(statement)
     with closing(Register(draft)) as register, register.changing():
         for name, value in settings.items():
             register.add("settings", name=name, value=json.dumps(value))

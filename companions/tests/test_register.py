@@ -138,7 +138,7 @@ class OfRegister(unittest.TestCase):
     def test_a_bit_that_changes_in_a_name(self) -> None:
         whole = read_bytes(self.folder + b"/register.sqlite")
         place = whole.index(b"CREATE TABLE bags")
-        for name in b"KEY", b"digest", b"path)":
+        for name in b"KEY", b"digest", b"path)", b"MARY":
             changed = bytearray(whole)
             changed[whole.index(name, place)] ^= 128
             with open(self.folder + b"/register.sqlite", "wb") as file:
