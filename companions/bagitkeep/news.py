@@ -129,7 +129,7 @@ def is_past(time: Optional[str], days: float) -> bool:
     where it is to come, as the clock was ahead."""
     if time is None:
         return True
-    then = datetime.strptime(time, "%Y-%m-%dT%H:%M:%SZ")
+    then = datetime.fromisoformat(time.rstrip("Z"))
     ago = datetime.now(timezone.utc) - then.replace(tzinfo=timezone.utc)
     return ago > timedelta(days=days) or ago < timedelta(hours=-1)
 
@@ -151,10 +151,10 @@ def of_no_bag(register: Register, kind: str, paths: Set[str]) -> None:
         find(register, None, kind, text)
 
 
-def overdue_in(register: Register) -> List[Row]:
-    """The bags that are overdue by now."""
+def overdue_of(register: Register, bags: Iterable[Row]) -> List[Row]:
+    """The bags of these that are overdue by now."""
     days = register.setting("every")
-    kept = register.rows("bags", "is_kept")
+    kept = (bag for bag in bags if bag["is_kept"])
     return [bag for bag in kept if is_past(bag["read"], days)]
 
 
@@ -166,7 +166,7 @@ def remind(register: Register) -> None:
     """Finds the bags that are overdue, and those that aren't any more."""
     found = register.rows("findings", "kind = 'overdue'")
     gone = {row["bag"]: row for row in found}
-    for bag in overdue_in(register):
+    for bag in overdue_of(register, register.rows("bags")):
         if gone.pop(bag["id"], None) is None:
             find(register, bag, "overdue", text_of_overdue(bag))
     for row in gone.values():
@@ -184,10 +184,10 @@ def lapse(register: Register) -> None:
             register.note("lapsed", row["bag"], **what, **said)
 
 
-def findings_of(register: Register) -> List[Row]:
+def findings_of(register: Register, bags: Iterable[Row]) -> List[Row]:
     """What is found by now: as the register has it once an audit has noted
-    which bags are overdue."""
-    late = {bag["id"]: bag for bag in overdue_in(register)}
+    which of its bags are overdue."""
+    late = {bag["id"]: bag for bag in overdue_of(register, bags)}
     found = []
     for row in register.rows("findings"):
         if row["kind"] != "overdue" or late.pop(row["bag"], None):
@@ -279,7 +279,7 @@ def state_of(
     this audit, or else the last one, is the first to tell, and then what an
     earlier one has told."""
     bags = {bag["id"]: bag for bag in register.rows("bags")}
-    found, today = findings_of(register), now()[:10]
+    found, today = findings_of(register, bags.values()), now()[:10]
     first = first_told(register, is_audit)
     news = []
     for row in found:

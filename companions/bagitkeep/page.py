@@ -16,8 +16,7 @@ from .files import absolute, read_bytes, sync_folder
 from .keeping import unended
 from .lines import FAULTS, TEXTS, encoded, faults_in, report_of
 from .messages import Refused, now, printable
-from .news import MOST_FAULTS, TO_DO, State, findings_of, state_of
-from .news import until_of
+from .news import MOST_FAULTS, TO_DO, State, state_of, until_of
 from .receipts import page_of
 from .received import noted_in
 from .register import Register, Row, path_of
@@ -92,7 +91,7 @@ def by_folder(lines: Iterable[str]) -> Faults:
 
 
 def day_of(time: str) -> datetime:
-    return datetime.strptime(time[:10], "%Y-%m-%d")
+    return datetime.fromisoformat(time[:10])
 
 
 def today() -> datetime:
@@ -167,7 +166,7 @@ def site_of_register(register: Register) -> Site:
     """A register's news, bags and year."""
     state = state_of(register, unended(register))
     events = register.rows("events")
-    of_bag, found = grouped(events), grouped(findings_of(register))
+    of_bag, found = grouped(events), grouped(state.news + state.known)
     kept = [bag for bag in state.bags.values() if bag["is_kept"]]
     kept.sort(key=lambda bag: str(bag["path"]))
     views = {

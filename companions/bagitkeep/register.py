@@ -50,6 +50,8 @@ UNIQUE = {
     "rounds": "name",
 }
 
+ENCODER = json.JSONEncoder(default=repr)
+
 Row = Dict[str, Any]
 
 
@@ -76,7 +78,7 @@ def unplain(value: Any) -> Any:
 def digest_of(table: str, values: List[Any]) -> str:
     """The digest of a row, whose first value is its number. A value that is
     none that JSON has was never put there, and has another digest."""
-    text = json.dumps([table, *values], default=repr)
+    text = ENCODER.encode([table, *values])
     return hashlib.sha256(text.encode()).hexdigest()
 
 
