@@ -14,6 +14,7 @@ from .beside import bag_beside, say_passed
 from .checks import Checks
 from .checks import found_of as look_at
 from .files import text_of
+from .fingerprint import fingerprint
 from .go_round import rows_left
 from .messages import Refused, explained, now, printable, say
 from .news import State, found_of, is_past, lapse, miss, note_told, remind
@@ -29,6 +30,9 @@ from .usage import COUNT, DAYS, JOBS, read, share_of
 
 FULL = Asked()
 LAST_ROUNDS = 40
+
+Seen = Dict[str, List[str]]
+"""The states of .tar files, by their paths, and their seals."""
 
 
 def in_order(bags: List[Row]) -> List[Row]:
@@ -167,19 +171,44 @@ def bags_in(stores: List[str]) -> Iterator[bytes]:
     say_passed(left)
 
 
-def strangers(register: Register) -> List[bytes]:
+def standing(path: bytes) -> Optional[str]:
+    """What the system says of a .tar, which alters if somebody writes to it
+    or replaces it; None where that isn't sure."""
+    found = look_at(path, fingerprint) if is_tar(path) else None
+    return None if found is None or found.is_coarse else found.digest
+
+
+def seal_at(path: bytes, before: Seen, seen: Seen) -> Optional[str]:
+    """The seal of a bag. That of a .tar is taken from `before` where it was
+    noted of this file in this state; and it is noted in `seen`."""
+    state, text = standing(path), text_of(path)
+    found = before.get(text)
+    if state is None or found is None or found[0] != state:
+        seal = look_at(path, seal_of)
+        if state is None or seal is None or standing(path) != state:
+            return seal
+        found = [state, seal]
+    seen[text] = found
+    return found[1]
+
+
+def strangers(register: Register) -> Tuple[List[bytes], Seen]:
     """The bags in the stores of a register that it doesn't keep. One that was
-    retired isn't among them, as long as it has its seal."""
+    retired isn't among them, as long as it has its seal: which bag this is,
+    and not how it is, so that no .tar of these is read whole each night."""
     bags = {bag["path"]: bag for bag in register.rows("bags")}
+    before: Seen = register.setting("seen") or {}
+    seen: Seen = {}
 
     def is_strange(path: bytes) -> bool:
         bag = bags.get(text_of(path))
         if bag is None or bag["is_kept"]:
             return bag is None
         seal: str = bag["seal"]
-        return look_at(path, seal_of) != seal
+        return seal_at(path, before, seen) != seal
 
-    return list(filter(is_strange, bags_in(register.setting("stores"))))
+    stores = register.setting("stores")
+    return list(filter(is_strange, bags_in(stores))), seen
 
 
 def take_in(
@@ -192,7 +221,7 @@ def take_in(
     which bags are overdue. A bag that was to be read and has no result isn't
     passed over, unless it was too late for it."""
     results: List[Tuple[bytes, Result]] = []
-    there = strangers(register)
+    there, seen = strangers(register)
     if row is not None:
         a_round = rounds.load(folder_of(register, row["name"]))
         results = list(zip(a_round.directories, a_round.rows()))
@@ -217,6 +246,7 @@ def take_in(
         look(register)
         remind(register)
         lapse(register)
+        register.set("seen", seen)
 
 
 def take_result(register: Register, bag: Row, result: Result) -> None:
@@ -278,8 +308,7 @@ def audit(register: Register, asked: argparse.Namespace) -> int:
 
 def tell(state: State) -> int:
     """Writes the news; the status says whether there are any."""
-    for line in state.lines():
-        print(printable(line), flush=True)
+    print(*map(printable, state.lines()), sep="\n", flush=True)
     return 1 if state.news else 0
 
 

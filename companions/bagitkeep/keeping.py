@@ -76,7 +76,7 @@ def adopt(register: Register, asked: Namespace, paths: List[bytes]) -> int:
     for path in paths:
         if ours.get(text_of(path), {"is_kept": 0})["is_kept"]:
             raise Refused(f"{encoded(path)} is in the register already")
-    new = paths or strangers(register)
+    new = paths or strangers(register)[0]
     if not new:
         print("there is no bag to adopt")
         return 0

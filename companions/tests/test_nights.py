@@ -11,6 +11,7 @@ from unittest import mock
 
 from bagitkeep import audit, keeping, news, register
 from bagitkeep.messages import Refused
+from bagitkeep.seal import seal_of
 
 
 class OfNights(unittest.TestCase):
@@ -125,6 +126,38 @@ class OfNights(unittest.TestCase):
         words = Namespace(by="Ada", why="x")
         self.said(keeping.retire, words, [b"/"])
         self.assertEqual(["found", "gone", "retired"], self.kinds())
+
+    def test_a_tar_that_was_retired_is_read_once(self) -> None:
+        store = os.path.dirname(self.folder)
+        path = os.path.join(store, b"bag.tar")
+
+        def put(text: bytes) -> str:
+            with open(path, "wb") as file:
+                file.write(text)
+            os.utime(path, ns=(1, 1))
+            return seal_of(path)
+
+        with self.opened.changing():
+            self.opened.set("stores", [os.fsdecode(store)])
+            values = {"files": 1, "bytes": 2, "read": audit.now()}
+            seal = put(b"one")
+            register.take(self.opened, os.fsdecode(path), seal=seal, **values)
+            bag = self.opened.bag_at(path)
+            self.opened.alter("bags", bag, is_kept=0)
+        new = f"new {os.fsdecode(path)}"
+        for text, line in ((b"", ""), (b"two", new), (b"one", "")):
+            if text:
+                put(text)
+            for count in 1, 0, 0:
+                with mock.patch.object(audit, "seal_of", wraps=seal_of) as it:
+                    said = self.audit()
+                self.assertEqual(count, it.call_count)
+                self.assertEqual(bool(line), said[1:2] != [])
+                if line:
+                    self.assertEqual(line, said[1].replace("still ", ""))
+        os.unlink(path)
+        self.audit()
+        self.assertEqual({}, self.opened.setting("seen"))
 
     def test_news_of_no_bag_go_too(self) -> None:
         for there in [b"/new"], []:

@@ -237,18 +237,18 @@ class OfRegister(unittest.TestCase):
             number = register.take(
                 opened, os.fsdecode(path), seal=put("a"), **values
             )
-        self.assertEqual([], audit.strangers(opened))
+        self.assertEqual([], audit.strangers(opened)[0])
         with opened.changing():
             opened.alter("bags", opened.bag_at(path), is_kept=0)
         for text, wanted in (("a", []), ("b", [path]), ("a", [])):
             put(text)
-            self.assertEqual(wanted, audit.strangers(opened))
+            self.assertEqual(wanted, audit.strangers(opened)[0])
             with opened.changing():
-                news.welcome(opened, audit.strangers(opened))
+                news.welcome(opened, audit.strangers(opened)[0])
             self.assertEqual(len(wanted), len(opened.rows("findings")))
         os.unlink(declared)
         os.symlink("/none", declared)
-        self.assertEqual([path], audit.strangers(opened))
+        self.assertEqual([path], audit.strangers(opened)[0])
         with opened.changing():
             news.welcome(opened, [path])
             again = register.take(
