@@ -178,7 +178,10 @@ class Round:
                     return Row(3, why or ALTERED, bag, count, record=last)
                 unread = self.judge(3, report, bag)
                 return Row(3, unread.result, bag, count, path, last)
-        return Row(3, last.why or "not ended", bag, record=last)
+        text = "not ended"
+        if self.name_of(number) not in self.tried:
+            text = f"checked at {last.ended}; its report is not there"
+        return Row(3, last.why or text, bag, record=last)
 
     def rows(self) -> List[Row]:
         """The rows of all bags, in their order."""

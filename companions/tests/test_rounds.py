@@ -135,10 +135,16 @@ class Rounds(unittest.TestCase):
             self.assertEqual(row.result, site.bags[0].how)
             self.assertEqual("y", site.bags[0].read)
             self.assertFalse(site.bags[0].is_certified)
+        (self.round / "pruned").unlink()
+        row = load(name).row(1)
+        says = "checked at y; its report is not there"
+        self.assertEqual((row.result, row.is_pruned), (says, False))
+        (self.round / "tries" / "000001-a.00.txt").write_bytes(b"")
+        self.assertEqual("not ended", load(name).row(1).result)
         killed = replace(a_record(VALID), why="killed")
-        row = replace(load(name), records={1: [killed]}).row(1)
+        row = replace(load(name), records={1: [killed]}, pruned={1}).row(1)
         self.assertEqual((row.status, row.is_pruned), (3, False))
-        row = replace(load(name), records={}).row(1)
+        row = replace(load(name), records={}, tried=set(), pruned={1}).row(1)
         self.assertEqual((row.result, row.is_pruned), ("not begun", False))
 
     def test_only_reports_without_faults_are_pruned(self) -> None:
