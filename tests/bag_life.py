@@ -736,11 +736,18 @@ class EachAlone(Life):
         self.assert_valid("d")
         self.assertIn("Contact-Name: Eve", Path("d/bag-info.txt").read_text())
         before = content_of("d")
-        for editor, status in ("true", 3), ("false", 3), ("rm", 3), ("/nowhere", 3), ("sed -i s/Payload-Oxum./Eve/", 1):
+        faulty = "sed -i s/Payload-Oxum./Eve/"
+        for editor, status in ("true", 3), ("false", 3), ("rm", 3), ("/nowhere", 3), (f'sh -c "{faulty} $0; exit 7"', 3), (faulty, 1):
             ended = self.ends(status, "edit", "d", "bag-info.txt", EDITOR=editor, VISUAL="")
             self.assertEqual((content_of("d"), self.left_beside()), (before, []))
-        kept = ended.said.split()[-1]
-        self.assertIn("Eve ", Path(kept).read_text())
+            self.assertNotIn(".new/", ended.said)
+            self.assertEqual(f"{self.folder}/d is as it was: " in ended.said, status == 1, ended.said)
+            kept = [it for it in ended.said.split() if ".kept." in it]
+            self.assertEqual(["Eve " in Path(it).read_text() for it in kept], [True] * (faulty in editor), ended.said)
+        self.assertTrue(ended.out.endswith("/d.new/bag has faults: 1\n"), ended.out)
+        Path("new").write_text("Contact-Name: Ann\n")
+        ended = self.ends(3, "edit", "d", "bag-info.txt/x", "--from", "new")
+        self.assertIn("/d/bag-info.txt: File exists", ended.said)
 
     def only_md5_tells(self, path, content=None, version="1.0"):
         """A bag in which a file has this content now, or is gone: its SHA-256 manifests were written again since, those of MD5 not."""

@@ -156,11 +156,19 @@ def night_retired():
 
 def night_damaged():
     change(3, 'x')
-    news(damaged(3, '3', 'x'))
-    time.sleep(1)
-    assert run('audit', register, wanted=1)[0] == 'still news of 1 bag: 1 with faults'
-    assert run('status', register, wanted=1)[0] == 'still news of 1 bag: 1 with faults'
+    line = damaged(3, '3', 'x')
+    news(line)
+    for command in 'audit', 'status':
+        assert run(command, register, wanted=1)[:2] == ['still news of 1 bag: 1 with faults', f'still {line}']
     known(3)
+    news()
+    # What was known until a day that is over is new again, once.
+    run('known', register, bag(3), '--all', *who, '--until', '2000-01-01')
+    for command in 'status', 'audit', 'status':
+        assert run(command, register, wanted=1)[:2] == ['news of 1 bag: 1 with faults', f'{line} (known until 2000-01-01)']
+    for command in 'audit', 'status':
+        assert run(command, register, wanted=1)[:2] == ['still news of 1 bag: 1 with faults', f'still {line}']
+    run('known', register, bag(3), *line.split()[2:], *who)
 
 
 def night_restored():
@@ -191,6 +199,12 @@ def night_removed_and_not_read():
     assert said[:2] == ['news of 1 bag: 1 missing', f'missing {bag(4)}'], said
     os.rename(work / 'away', bag(4))
     assert run('audit', register, '--bytes', '1')[0].startswith('no news: 20 bags')
+    os.rename(bag(4), work / 'away')
+    for still in '', 'still ', 'still ':
+        said = run('audit', register, '--days', '1', wanted=1)
+        assert said[:2] == [f'{still}news of 1 bag: 1 missing', f'{still}missing {bag(4)}'], said
+    os.rename(work / 'away', bag(4))
+    assert run('audit', register, '--days', '1')[0].startswith('no news: 20 bags')
 
 
 def night_renewed():
@@ -605,6 +619,8 @@ def main():
         news()
     text = '\n'.join(run('premis', register, bag(3)))
     assert '<premis:eventOutcome>fail</premis:eventOutcome>' in text
+    said = run('report', '--round', register / 'rounds/000001', wanted=3)
+    assert len(said) == 20 and all('"read whole at 2' in line and line.endswith('; its report was pruned"}') for line in said), said
     said = run('history', register, bag(5))
     assert any('accepted' in line for line in said), said
     print(f'{len(nights)} kinds of nights, {seen} commands ended as they should')

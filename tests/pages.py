@@ -134,6 +134,7 @@ def main():
     assert not page.of('section')
     page = views[spelled(str(plain))]
     assert page.of('section')[0].startswith('Certificate of a reading The bag') and '1 files and 1 bytes' in page.of('section')[0]
+    assert any(it.startswith('Last read whole at 2') for it in page.of('p')), page.of('p')
     receipt, = (register / 'receipts').glob('*.json')
     number = json.loads(receipt.read_text())['number']
     assert f'Receipt {number}: accepted with remarks' in views
@@ -142,6 +143,19 @@ def main():
 
     found = documents(register / 'rounds/000001', work / 'of-round')
     assert found['index.html'].of('h1') == ['1 of 3 bags have news'], found['index.html'].of('h1')
+    run('known', register, damaged, '--all', '--by', 'Ada', '--why', SCRIPT, '--until', '2099-01-31')
+    run('audit', register, wanted=1)
+    run('page', register, work / 'pages')
+    index = Document(work / 'pages/index.html')
+    assert index.of('h1') == ['Still news of 1 bag: 1 missing'] and 'Known findings' in index.of('h2'), index.of('h1')
+    cells = index.of('td')
+    place = cells.index('fault')
+    assert cells[place + 1] == spelled(str(damaged)) and cells[place + 3:place + 6] == ['Ada', SCRIPT, '2099-01-31'], cells
+    run('page', register / 'rounds/000001', work / 'of-round')
+    index = Document(work / 'of-round/index.html')
+    assert index.of('h1') == ['1 of 3 bags have news'], index.of('h1')
+    cells = Document(work / 'of-round/bags-1.html').of('td')
+    assert sum(it.endswith('; its report was pruned') for it in cells) == 2 and 'not ended' not in cells, cells
     report, = (register / 'rounds/000001/reports').glob('*damaged.txt')
     found = documents(report, work / 'of-report')
     assert found['index.html'].of('h1')[0].endswith('damaged has faults: 1')

@@ -804,15 +804,16 @@ new_mended() {
     [[ $(bagit --validate mended) == 'mended is valid' ]] || give_up "a bag with the tag file $note isn't valid"
 }
 mends() { # FILE CHANGE ANSWER: by the page's first command, whose editor makes the change; or by that which removes
-    local way number=1
+    local way number=1 checked=$work/mended.new/bag
     [[ $2 != remove ]] || number=3
+    [[ $3 != 'is valid' ]] || checked=$work/mended
     way=$(block docs/UPDATING.md 'Change a tag file' 1 | sed -n "${number}p; s/notes.txt/\"\$FILE\"/; s/DIR/mended/" | head -n 1)
     way=${way/DIR/mended} way=${way/bag-info.txt fetch.txt/\"\$FILE\"} way=${way/notes.txt/\"\$FILE\"}
     printf '#!/bin/bash\nfile=$1\n%s\n' "$2" >editor
     chmod +x editor
     cp -a mended untouched
     FILE=$1 EDITOR=$work/editor VISUAL='' bash <<<"$way" >printed 2>complaints || true
-    [[ $(tail -n 1 printed) == "$work/mended.new/bag $3" ]] ||
+    [[ $(tail -n 1 printed) == "$checked $3" ]] ||
         { cat printed complaints; give_up "docs/UPDATING.md: after '$2' of $1 the last check says something else"; }
     [[ $3 == 'is valid' ]] || diff -r untouched mended || give_up "docs/UPDATING.md: '$2' of $1 changes a bag with faults"
     rm -r untouched

@@ -14,10 +14,11 @@ from .beside import bag_beside, say_passed
 from .checks import Checks
 from .checks import found_of as look_at
 from .files import text_of
+from .fingerprint import fingerprint
 from .go_round import rows_left
 from .messages import Refused, explained, now, printable, say
-from .news import found_of, is_past, miss, remind, settle, state_of
-from .news import welcome
+from .news import State, found_of, is_past, lapse, miss, note_told, remind
+from .news import settle, state_of, welcome
 from .program import Asked
 from .progress import bytes_of
 from .received import look
@@ -29,6 +30,9 @@ from .usage import COUNT, DAYS, JOBS, read, share_of
 
 FULL = Asked()
 LAST_ROUNDS = 40
+
+Seen = Dict[str, List[str]]
+"""The states of .tar files, by their paths, and their seals."""
 
 
 def in_order(bags: List[Row]) -> List[Row]:
@@ -95,8 +99,8 @@ class Timed(Checks):
 
 def open_round(register: Register) -> Optional[Row]:
     """The round that isn't taken in yet."""
-    found = register.rows("rounds", "ended IS NULL")
-    return found[0] if found else None
+    rows = register.rows("rounds")
+    return next((row for row in rows if row["ended"] is None), None)
 
 
 def begin_round(register: Register, bags: List[Row], by_task: bool) -> Row:
@@ -167,19 +171,44 @@ def bags_in(stores: List[str]) -> Iterator[bytes]:
     say_passed(left)
 
 
-def strangers(register: Register) -> List[bytes]:
+def standing(path: bytes) -> Optional[str]:
+    """What the system says of a .tar, which alters if somebody writes to it
+    or replaces it; None where that isn't sure."""
+    found = look_at(path, fingerprint) if is_tar(path) else None
+    return None if found is None or found.is_coarse else found.digest
+
+
+def seal_at(path: bytes, before: Seen, seen: Seen) -> Optional[str]:
+    """The seal of a bag. That of a .tar is taken from `before` where it was
+    noted of this file in this state; and it is noted in `seen`."""
+    state, text = standing(path), text_of(path)
+    found = before.get(text)
+    if state is None or found is None or found[0] != state:
+        seal = look_at(path, seal_of)
+        if state is None or seal is None or standing(path) != state:
+            return seal
+        found = [state, seal]
+    seen[text] = found
+    return found[1]
+
+
+def strangers(register: Register) -> Tuple[List[bytes], Seen]:
     """The bags in the stores of a register that it doesn't keep. One that was
-    retired isn't among them, as long as it has its seal."""
+    retired isn't among them, as long as it has its seal: which bag this is,
+    and not how it is, so that no .tar of these is read whole each night."""
     bags = {bag["path"]: bag for bag in register.rows("bags")}
+    before: Seen = register.setting("seen") or {}
+    seen: Seen = {}
 
     def is_strange(path: bytes) -> bool:
         bag = bags.get(text_of(path))
         if bag is None or bag["is_kept"]:
             return bag is None
         seal: str = bag["seal"]
-        return look_at(path, seal_of) != seal
+        return seal_at(path, before, seen) != seal
 
-    return list(filter(is_strange, bags_in(register.setting("stores"))))
+    stores = register.setting("stores")
+    return list(filter(is_strange, bags_in(stores))), seen
 
 
 def take_in(
@@ -192,7 +221,7 @@ def take_in(
     which bags are overdue. A bag that was to be read and has no result isn't
     passed over, unless it was too late for it."""
     results: List[Tuple[bytes, Result]] = []
-    there = strangers(register)
+    there, seen = strangers(register)
     if row is not None:
         a_round = rounds.load(folder_of(register, row["name"]))
         results = list(zip(a_round.directories, a_round.rows()))
@@ -216,6 +245,8 @@ def take_in(
         welcome(register, there)
         look(register)
         remind(register)
+        lapse(register)
+        register.set("seen", seen)
 
 
 def take_result(register: Register, bag: Row, result: Result) -> None:
@@ -228,14 +259,8 @@ def take_result(register: Register, bag: Row, result: Result) -> None:
 def prune(register: Register) -> None:
     """Of rounds but the last, removes the reports of bags without faults."""
     for row in register.rows("rounds", "ended IS NOT NULL")[:-1]:
-        folder = folder_of(register, row["name"])
         with suppress(Refused, OSError):
-            a_round = rounds.load(folder)
-            for number in range(1, len(a_round.directories) + 1):
-                path = a_round.report_path(number)
-                with suppress(FileNotFoundError):
-                    if a_round.row(number).status == 0:
-                        os.unlink(path)
+            rounds.prune(folder_of(register, row["name"]))
 
 
 def is_checked(register: Register, row: Row) -> bool:
@@ -276,14 +301,14 @@ def audit(register: Register, asked: argparse.Namespace) -> int:
     take_in(register, there, is_resumed, late)
     prune(register)
     register.copy()
-    return tell(register, cut_off)
+    status = tell(state_of(register, cut_off, True))
+    note_told(register)
+    return status
 
 
-def tell(register: Register, cut_off: Optional[Row] = None) -> int:
+def tell(state: State) -> int:
     """Writes the news; the status says whether there are any."""
-    state = state_of(register, cut_off)
-    for line in state.lines():
-        print(printable(line))
+    print(*map(printable, state.lines()), sep="\n", flush=True)
     return 1 if state.news else 0
 
 

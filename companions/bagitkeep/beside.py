@@ -11,6 +11,7 @@ import secrets
 import shutil
 import sys
 from contextlib import suppress
+from dataclasses import replace
 from os.path import dirname, isdir, isfile, islink, join, lexists
 from typing import Any, Callable, Dict, List, Optional, Sequence
 
@@ -70,11 +71,11 @@ def say_passed(paths: List[bytes]) -> None:
 
 
 class Faulty(Exception):
-    """A bag hasn't passed a full check; the report of this."""
+    """The bag at a path hasn't passed a full check; the report of this."""
 
-    def __init__(self, report: BagReport) -> None:
+    def __init__(self, report: BagReport, bag: str) -> None:
         super().__init__(report.result)
-        self.report = report
+        self.report, self.bag = report, bag
 
 
 def checked(bag: str) -> BagReport:
@@ -82,7 +83,7 @@ def checked(bag: str) -> BagReport:
     as Faulty."""
     report = check(bag, Asked())
     if report.status != 0:
-        raise Faulty(report)
+        raise Faulty(report, bag)
     return report
 
 
@@ -170,10 +171,23 @@ class Beside:
             look(self.work)
             with alone(self.work, self.bag):
                 self.put(words)
+        except OSError as error:
+            raise self.named_in_bag(error) from error
         finally:
             if lexists(self.bag):
                 self.clear()
-        return report
+        name, closing = shown(self.work), report.result
+        if closing.startswith(f"{name} "):
+            closing = shown(self.bag) + closing[len(name):]
+        return replace(report, result=closing)
+
+    def named_in_bag(self, error: OSError) -> OSError:
+        """An error of a file of the new bag, which is removed, as one of that
+        file in the bag."""
+        path = error.filename
+        if isinstance(path, str) and path.startswith(join(self.work, "")):
+            path = join(self.bag, path[len(self.work) + 1:])
+        return OSError(error.errno, error.strerror, path)
 
     def put(self, words: Sequence[str]) -> None:
         """Gives the old bag and the new one their names."""
@@ -237,7 +251,13 @@ def replaced(
                 return show(check(bag, Asked()))
             return show(place.replace(words, build, look))
         except Faulty as faulty:
-            return show(faulty.report)
+            status = show(faulty.report)
+            if faulty.bag == place.work:
+                say(
+                    f"{shown(bag)} is as it was: the report is of the changed"
+                    " bag, which was removed"
+                )
+            return status
 
 
 def show(report: BagReport) -> int:

@@ -24,28 +24,31 @@ def content_at(path: str) -> Optional[bytes]:
     return content_of(path) if lexists(path) else None
 
 
-def by_editor(old: Optional[bytes], file: str) -> bytes:
-    """What an editor makes of a file, in one of its own."""
+def edit(bag: str, path: str, file: str, changes: Changes) -> None:
+    """Notes what an editor makes of a tag file, in a file of its own."""
     words = os.environ.get("VISUAL") or os.environ.get("EDITOR") or "vi"
+    old = content_at(join(bag, path))
     write_synced(file, old or b"")
     status = subprocess.call([*shlex.split(words), file])
+    new = content_at(file)
+    if new is not None and new != old and (new or status == 0):
+        changes[path] = new
     if status != 0:
         raise BagError(f"the editor ended with {status}")
-    return content_of(file)
+    if new is None:
+        raise BagError(f"the editor has removed its file of {encoded(path)}")
 
 
-def edited(bag: str, paths: Sequence[str], folder: str) -> Changes:
-    """What an editor makes of tag files, in a new folder."""
+def edit_all(
+    bag: str, paths: Sequence[str], folder: str, changes: Changes
+) -> None:
+    """Notes what an editor makes of tag files, in a new folder."""
     os.mkdir(folder)
-    changes: Changes = {}
     for number, path in enumerate(paths):
-        old = content_at(join(bag, path))
-        new = by_editor(old, join(folder, f"{number}-{basename(path)}"))
-        if new != old:
-            changes[path] = new
+        file = join(folder, f"{number}-{basename(path)}")
+        edit(bag, path, file, changes)
     if not changes:
         raise BagError("nothing was changed")
-    return changes
 
 
 def refuse_untold(bag: str, new: str) -> None:
@@ -69,14 +72,14 @@ def keep_text(bag: str, changes: Changes) -> None:
 
 def change(bag: str, paths: Sequence[str], given: Optional[Changes]) -> int:
     """Changes tag files, as is given or else by an editor."""
-    place, changes = Beside(bag, "edit"), given or {}
+    place, changes = Beside(bag, "edit"), dict(given or {})
     if given and not lexists(place.path):
         if all(content_at(join(bag, it)) == given[it] for it in given):
             return show(check(bag, Asked()))
 
     def make(work: str) -> None:
-        nonlocal changes
-        changes = given or edited(bag, paths, place.text)
+        if not given:
+            edit_all(bag, paths, place.text, changes)
         build(bag, work, changes)
 
     def look(work: str) -> None:

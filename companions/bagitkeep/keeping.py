@@ -15,7 +15,7 @@ from .audit import FULL, check, open_round, strangers, tell
 from .files import absolute, text_of
 from .lines import encoded
 from .messages import Refused, now, printable
-from .news import remind, settle
+from .news import LAPSED, forget, state_of
 from .premis import premis_of
 from .register import Register, Row, alone, make, take
 from .rounds import Round
@@ -76,7 +76,7 @@ def adopt(register: Register, asked: Namespace, paths: List[bytes]) -> int:
     for path in paths:
         if ours.get(text_of(path), {"is_kept": 0})["is_kept"]:
             raise Refused(f"{encoded(path)} is in the register already")
-    new = paths or strangers(register)
+    new = paths or strangers(register)[0]
     if not new:
         print("there is no bag to adopt")
         return 0
@@ -92,11 +92,9 @@ def adopt(register: Register, asked: Namespace, paths: List[bytes]) -> int:
 
 
 def status(register: Register, asked: Namespace, paths: List[bytes]) -> int:
-    """Writes the news, also which bags are overdue, and whether an audit
-    wasn't ended, without a look at any bag."""
-    with register.changing():
-        remind(register)
-    return tell(register, unended(register))
+    """Writes the news, also which bags are overdue by now, and whether an
+    audit wasn't ended, without a look at any bag."""
+    return tell(state_of(register, unended(register)))
 
 
 def unended(register: Register) -> Optional[Row]:
@@ -157,7 +155,7 @@ def known(register: Register, asked: Namespace, paths: List[bytes]) -> int:
         bag = {"id": None} if new else register.bag_at(paths[0])
         found = new or register.rows("findings", "bag = ?", bag["id"])
         if not asked.all and not new:
-            line = " ".join(asked.line)
+            line = LAPSED.sub("", " ".join(asked.line))
             found = [row for row in found if line in names_of(row)]
         if not found:
             raise Refused(f"nothing such was found of {encoded(paths[0])}")
@@ -191,7 +189,7 @@ def accept(
     look(values)
     with register.changing():
         bag = register.bag_at(path)
-        settle(register, bag, set())
+        forget(register, bag)
         register.alter("bags", bag, **values)
         register.note("accepted", bag["id"], **said, **values)
     print(f"{encoded(path)} is accepted, with the seal {values['seal']}")
@@ -202,9 +200,7 @@ def retire(register: Register, asked: Namespace, paths: List[bytes]) -> int:
     """Notes that a bag isn't kept any more."""
     said, bag = who_of(asked), register.bag_at(paths[0])
     with register.changing():
-        settle(register, bag, set())
-        for row in register.rows("findings", "bag = ?", bag["id"]):
-            register.remove("findings", row)
+        forget(register, bag)
         register.alter("bags", bag, is_kept=0)
         register.note("retired", bag["id"], **said)
     print(f"{encoded(paths[0])} is retired")
@@ -227,7 +223,7 @@ def moved(register: Register, asked: Namespace, paths: List[bytes]) -> int:
         raise Refused(f"{new} is another bag: its seal is another one", 3)
     with register.changing():
         bag = register.bag_at(paths[0])
-        settle(register, bag, set())
+        forget(register, bag)
         register.alter("bags", bag, path=text_of(paths[1]), **values)
         register.note(
             "moved", bag["id"], old=text_of(paths[0]), new=text_of(paths[1]),
@@ -251,12 +247,13 @@ Work = Callable[[Register, Namespace, List[bytes]], int]
 @dataclass(frozen=True)
 class Command:
     """A command over a register: what it does, how many bags it is given, and
-    whether it checks bags."""
+    whether it checks bags, or only reads the register."""
 
     name: str
     work: Work
     bags: int = 1
     checks: bool = False
+    reads: bool = False
 
     def __call__(self, words: Sequence[str]) -> int:
         asked = read(
@@ -267,7 +264,7 @@ class Command:
         asked.line = asked.operands[2:]
         folder, *paths = map(absolute, asked.operands[:1 + self.bags])
         lock = alone(folder, b"asked") if self.checks else nullcontext()
-        with lock, closing(Register(folder)) as register:
+        with lock, closing(Register(folder, self.reads)) as register:
             return self.work(register, asked, paths)
 
 
@@ -277,14 +274,14 @@ COMMANDS: Dict[str, Callable[[Sequence[str]], int]] = {
         it.name: it
         for it in (
             Command("adopt", adopt, MANY, True),
-            Command("status", status, 0),
+            Command("status", status, 0, reads=True),
             Command("known", known),
             Command("accept", accepted, 1, True),
             Command("retire", retire),
             Command("moved", moved, 2, True),
-            Command("history", history),
-            Command("dump", dump, 0),
-            Command("premis", premis),
+            Command("history", history, reads=True),
+            Command("dump", dump, 0, reads=True),
+            Command("premis", premis, reads=True),
         )
     },
 }

@@ -29,6 +29,8 @@ def now() -> str:
 
 def printable(text: str) -> str:
     """A text for people and terminals, which a name mustn't command."""
+    if text.isprintable():
+        return text
     return "".join(
         it if it.isprintable() else it.encode("unicode_escape").decode()
         for it in text.encode("utf-8", "backslashreplace").decode()

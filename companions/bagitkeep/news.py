@@ -1,10 +1,11 @@
 """What was found of bags, and what of it is news: what nobody has taken note
 of yet."""
 import json
+import re
 from collections import Counter
 from dataclasses import dataclass
 from datetime import datetime, timedelta, timezone
-from typing import Dict, Iterable, List, Optional, Set, Tuple
+from typing import Any, Dict, Iterable, List, Optional, Set, Tuple
 
 from .files import text_of
 from .lines import encoded, faults_in
@@ -13,6 +14,7 @@ from .register import Register, Row, path_of
 from .rounds import Row as Result
 
 MOST_FAULTS = 1000
+LAPSED = re.compile(r" ?\(known until [0-9-]+\)$")
 KINDS = {
     "fault": "with faults",
     "altered": "altered",
@@ -42,6 +44,9 @@ TO_DO = {
 
 Found = Set[Tuple[str, str]]
 """A kind, and a text that says what exactly."""
+
+What = Tuple[Optional[int], str, str]
+"""The same, after the bag."""
 
 
 def lines_of(
@@ -81,12 +86,11 @@ def find(register: Register, bag: Optional[Row], kind: str, text: str) -> None:
     number: Optional[int] = None if bag is None else bag["id"]
     values = {"bag": number, "kind": kind, "text": text}
     register.add("findings", **values, since=now(), known=None)
-    if bag is not None:
-        register.note("found", number, of=kind, text=text)
+    register.note("found", number, of=kind, text=text)
 
 
 def lose(register: Register, row: Row) -> None:
-    """Has it say that this isn't found of a bag any more."""
+    """Has it say that this isn't found any more."""
     register.remove("findings", row)
     register.note("gone", row["bag"], of=row["kind"], text=row["text"])
 
@@ -104,6 +108,12 @@ def settle(register: Register, bag: Row, found: Found) -> None:
         find(register, bag, kind, text)
 
 
+def forget(register: Register, bag: Row) -> None:
+    """Has it say that nothing is found of a bag any more."""
+    for row in register.rows("findings", "bag = ?", bag["id"]):
+        lose(register, row)
+
+
 def miss(register: Register, bag: Row, is_there: bool) -> None:
     """Notes whether a bag that wasn't to be read is there at all."""
     where = "bag = ? AND kind = 'missing'"
@@ -119,7 +129,7 @@ def is_past(time: Optional[str], days: float) -> bool:
     where it is to come, as the clock was ahead."""
     if time is None:
         return True
-    then = datetime.strptime(time, "%Y-%m-%dT%H:%M:%SZ")
+    then = datetime.fromisoformat(time.rstrip("Z"))
     ago = datetime.now(timezone.utc) - then.replace(tzinfo=timezone.utc)
     return ago > timedelta(days=days) or ago < timedelta(hours=-1)
 
@@ -135,16 +145,16 @@ def of_no_bag(register: Register, kind: str, paths: Set[str]) -> None:
     bag's."""
     for row in register.rows("findings", "kind = ?", kind):
         if row["text"] not in paths:
-            register.remove("findings", row)
+            lose(register, row)
         paths = paths - {row["text"]}
     for text in sorted(paths):
         find(register, None, kind, text)
 
 
-def overdue_in(register: Register) -> List[Row]:
-    """The bags that are overdue by now."""
+def overdue_of(register: Register, bags: Iterable[Row]) -> List[Row]:
+    """The bags of these that are overdue by now."""
     days = register.setting("every")
-    kept = register.rows("bags", "is_kept")
+    kept = (bag for bag in bags if bag["is_kept"])
     return [bag for bag in kept if is_past(bag["read"], days)]
 
 
@@ -156,17 +166,28 @@ def remind(register: Register) -> None:
     """Finds the bags that are overdue, and those that aren't any more."""
     found = register.rows("findings", "kind = 'overdue'")
     gone = {row["bag"]: row for row in found}
-    for bag in overdue_in(register):
+    for bag in overdue_of(register, register.rows("bags")):
         if gone.pop(bag["id"], None) is None:
             find(register, bag, "overdue", text_of_overdue(bag))
     for row in gone.values():
-        register.remove("findings", row)
+        lose(register, row)
 
 
-def findings_of(register: Register) -> List[Row]:
-    """What is found by now: as the register has it once it was reminded, for
-    whoever mustn't write there."""
-    late = {bag["id"]: bag for bag in overdue_in(register)}
+def lapse(register: Register) -> None:
+    """Has what was known until a day that is over be news again."""
+    today = now()[:10]
+    for row in register.rows("findings", "known IS NOT NULL"):
+        if is_news(row, today):
+            what = {"of": row["kind"], "text": row["text"]}
+            register.alter("findings", row, known=None)
+            said = json.loads(row["known"])
+            register.note("lapsed", row["bag"], **what, **said)
+
+
+def findings_of(register: Register, bags: Iterable[Row]) -> List[Row]:
+    """What is found by now: as the register has it once an audit has noted
+    which of its bags are overdue."""
+    late = {bag["id"]: bag for bag in overdue_of(register, bags)}
     found = []
     for row in register.rows("findings"):
         if row["kind"] != "overdue" or late.pop(row["bag"], None):
@@ -181,8 +202,24 @@ def is_news(row: Row, today: str) -> bool:
     """Whether nobody knows of it, or only until a day that is over."""
     if row["known"] is None:
         return True
-    until = json.loads(row["known"]).get("until")
-    return until is not None and bool(until < today)
+    until = until_in(row["known"])
+    return until is not None and until < today
+
+
+def until_in(known: Optional[str]) -> Optional[str]:
+    """The last day on which somebody wants to know of it, if there is one."""
+    found: Optional[str] = json.loads(known or "{}").get("until")
+    return found
+
+
+def is_new(row: Row) -> bool:
+    """Whether no audit has told one of the news before."""
+    return bool(row.get("is_new", True))
+
+
+def until_of(row: Row) -> str:
+    """Until when one of the news was known, if it was."""
+    return f" (known until {row['until']})" if row.get("until") else ""
 
 
 @dataclass(frozen=True)
@@ -190,13 +227,12 @@ class State:
     """How the bags of a register are, as far as people don't know it."""
 
     news: List[Row]
-    known: int
+    known: List[Row]
     bags: Dict[int, Row]
-    since: str = ""
 
     def first_line(self) -> str:
-        """How many news there are, and of what; and whether all of them were
-        there before the last audit."""
+        """How many news there are, and of what; and whether an audit has told
+        all of them before."""
         if not self.news:
             return f"no news: {self.counted()}"
         of = {(row["kind"], self.name_of(row)) for row in self.news}
@@ -204,8 +240,7 @@ class State:
         kinds = [f"{count[it]} {KINDS[it]}" for it in KINDS if count[it]]
         bags = len({name for _, name in of} - {"-"})
         noun = "bag" if bags == 1 else "bags"
-        is_old = all(row.get("since", "~") < self.since for row in self.news)
-        still = "still " if is_old else ""
+        still = "" if any(map(is_new, self.news)) else "still "
         return f"{still}news of {bags} {noun}: {', '.join(kinds)}"
 
     def counted(self) -> str:
@@ -215,15 +250,17 @@ class State:
         if kept:
             oldest = min(bag["read"] or "" for bag in kept)
             text += f", each read whole since {oldest}"
-        return f"{text}, {self.known} known findings" if self.known else text
+        count = len(self.known)
+        return f"{text}, {count} known findings" if count else text
 
     def lines(self) -> List[str]:
         """The first line, one for each of the news, and one about the rest."""
         lines = [self.first_line()]
         for row in self.news:
-            name = self.name_of(row)
+            still, name = "" if is_new(row) else "still ", self.name_of(row)
             text = OF_PATHS.get(row["kind"], row["text"])
-            lines.append(f"{row['kind']} {name} {text}".rstrip())
+            line = f"{still}{row['kind']} {name} {text}".rstrip()
+            lines.append(line + until_of(row))
         return lines + ([self.counted()] if self.news else [])
 
     def name_of(self, row: Row) -> str:
@@ -235,16 +272,52 @@ class State:
         return encoded(path_of(row["text"])) if is_path else "-"
 
 
-def state_of(register: Register, cut_off: Optional[Row] = None) -> State:
-    """The news of a register, and of a round of it that was cut off."""
+def state_of(
+    register: Register, cut_off: Optional[Row] = None, is_audit: bool = False
+) -> State:
+    """The news of a register, and of a round of it that was cut off: what
+    this audit, or else the last one, is the first to tell, and then what an
+    earlier one has told."""
     bags = {bag["id"]: bag for bag in register.rows("bags")}
-    found = findings_of(register)
-    today = now()[:10]
-    news = [row for row in found if is_news(row, today)]
-    known = len(found) - len(news)
+    found, today = findings_of(register, bags.values()), now()[:10]
+    first = first_told(register, is_audit)
+    news = []
+    for row in found:
+        if is_news(row, today):
+            until = until_in(row["known"])
+            what = row["bag"], row["kind"], row["text"]
+            is_old = "id" in row and until is None and what not in first
+            until = until or first.get(what)
+            news.append({**row, "is_new": not is_old, "until": until})
+    known = [row for row in found if not is_news(row, today)]
+    news.sort(key=lambda row: not is_new(row))
     if cut_off is not None:
         text = f"the audit of {cut_off['begun']} was cut off"
         news.insert(0, {"bag": None, "kind": "cut-off", "text": text})
-    ended = register.rows("rounds", "ended IS NOT NULL")
-    since = ended[-1]["begun"] if ended else ""
-    return State(news, known, bags, since if since <= now() else "")
+    return State(news, known, bags)
+
+
+def first_told(register: Register, is_audit: bool) -> Dict[What, Any]:
+    """What this audit, or else the last one, is the first to tell; and until
+    when it was known before."""
+    before = told_in(register)[int(is_audit)]
+    first = {}
+    for row in register.rows("events", "id > ?", before):
+        if row["kind"] in ("found", "lapsed"):
+            data = json.loads(row["data"])
+            first[row["bag"], data["of"], data["text"]] = data.get("until")
+    return first
+
+
+def told_in(register: Register) -> List[int]:
+    """The last events that the last two audits have told."""
+    return register.setting("told") or [0, 0]
+
+
+def note_told(register: Register) -> None:
+    """Notes that an audit has told its news. Where it was killed before this,
+    the next one tells them as new."""
+    with register.changing():
+        last = register.rows("events", "id = (SELECT max(id) FROM events)")
+        told = [told_in(register)[1], last[0]["id"]]
+        register.set("told", told)

@@ -16,7 +16,7 @@ from .files import absolute, read_bytes, sync_folder
 from .keeping import unended
 from .lines import FAULTS, TEXTS, encoded, faults_in, report_of
 from .messages import Refused, now, printable
-from .news import MOST_FAULTS, TO_DO, State, findings_of, state_of
+from .news import MOST_FAULTS, TO_DO, State, state_of, until_of
 from .receipts import page_of
 from .received import noted_in
 from .register import Register, Row, path_of
@@ -61,6 +61,7 @@ class Site:
     first_line: str
     bags: List[BagView]
     news: List[View] = field(default_factory=list)
+    known: List[View] = field(default_factory=list)
     ages: List[View] = field(default_factory=list)
     year: View = field(default_factory=dict)
     receipts: List[View] = field(default_factory=list)
@@ -90,7 +91,7 @@ def by_folder(lines: Iterable[str]) -> Faults:
 
 
 def day_of(time: str) -> datetime:
-    return datetime.strptime(time[:10], "%Y-%m-%d")
+    return datetime.fromisoformat(time[:10])
 
 
 def today() -> datetime:
@@ -165,7 +166,7 @@ def site_of_register(register: Register) -> Site:
     """A register's news, bags and year."""
     state = state_of(register, unended(register))
     events = register.rows("events")
-    of_bag, found = grouped(events), grouped(findings_of(register))
+    of_bag, found = grouped(events), grouped(state.news + state.known)
     kept = [bag for bag in state.bags.values() if bag["is_kept"]]
     kept.sort(key=lambda bag: str(bag["path"]))
     views = {
@@ -184,6 +185,7 @@ def site_of_register(register: Register) -> Site:
             view.receipts.append(row)
     site = Site(state.first_line(), list(views.values()), receipts=receipts)
     site.news = [news_of(state, views, row) for row in state.news]
+    site.known = [known_of(state, views, row) for row in state.known]
     site.ages = ages_of(kept)
     if kept:
         ended = register.rows("rounds", "ended IS NOT NULL")
@@ -244,10 +246,17 @@ def news_of(state: State, views: Dict[int, BagView], row: Row) -> View:
         "what": row["kind"],
         "bag": state.name_of(row),
         "page": view.page if view is not None else "",
-        "says": said_of(row),
+        "says": (said_of(row) + until_of(row)).strip(),
         "todo": TO_DO[row["kind"]],
         "since": row.get("since", "")[:10],
     }
+
+
+def known_of(state: State, views: Dict[int, BagView], row: Row) -> View:
+    """A finding that people know of, with what they have noted of it."""
+    said = json.loads(row["known"])
+    texts = {it: printable(said.get(it, "")) for it in ("by", "why", "until")}
+    return {**news_of(state, views, row), **texts}
 
 
 def site_of_round(folder: bytes) -> Site:
@@ -255,14 +264,16 @@ def site_of_round(folder: bytes) -> Site:
     bags, a_round = [], rounds.load(folder)
     for row in a_round.rows():
         view = BagView(encoded(row.bag), row.result)
-        view.findings = [row.result] if row.status else []
+        is_bad = row.status and not row.is_pruned
+        view.findings = [row.result] if is_bad else []
         if row.report is not None and (row.faults or 0) <= MOST_FAULTS:
             report = read_bytes(row.report).decode("ascii")
             view.faults = by_folder(report.splitlines())
         if row.record is not None:
             view.files, view.bytes = row.record.files, row.record.size
             view.seal = row.record.seal
-            is_whole = a_round.asked.depth == "full" and row.status != 3
+            is_read = row.status != 3 or row.is_pruned
+            is_whole = a_round.asked.depth == "full" and is_read
             view.read = row.record.ended if is_whole else None
             view.is_certified = is_whole and row.status == 0
         bags.append(view)
@@ -292,7 +303,7 @@ def templates() -> Any:
         raise Refused("there is no Jinja2 (python3-jinja2)", 3) from error
     pages = jinja2.Environment(
         loader=jinja2.FileSystemLoader(str(TEXTS)), autoescape=True,
-        trim_blocks=True, lstrip_blocks=True,
+        trim_blocks=True, lstrip_blocks=True, auto_reload=False,
     )
     pages.globals.update(now=now(), version=__version__)
     return pages
@@ -347,7 +358,7 @@ def run(words: Sequence[str]) -> int:
     """Does what the command is asked for, and says its status."""
     source, folder = map(absolute, read("page", words, 2, 2).operands)
     if os.path.isfile(join(source, b"register.sqlite")):
-        with closing(Register(source)) as register:
+        with closing(Register(source, True)) as register:
             site = site_of_register(register)
     elif os.path.isdir(source):
         site = site_of_round(source)

@@ -15,6 +15,7 @@ TYPES = {
     "moved": "replication",
     "retired": "deaccession",
     "known": "appraisal",
+    "lapsed": "appraisal",
     "received": "transfer",
 }
 """The type of an event, of PREMIS's own list."""

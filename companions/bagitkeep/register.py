@@ -50,6 +50,8 @@ UNIQUE = {
     "rounds": "name",
 }
 
+ENCODER = json.JSONEncoder(default=repr)
+
 Row = Dict[str, Any]
 
 
@@ -76,7 +78,7 @@ def unplain(value: Any) -> Any:
 def digest_of(table: str, values: List[Any]) -> str:
     """The digest of a row, whose first value is its number. A value that is
     none that JSON has was never put there, and has another digest."""
-    text = json.dumps([table, *values], default=repr)
+    text = ENCODER.encode([table, *values])
     return hashlib.sha256(text.encode()).hexdigest()
 
 
@@ -84,20 +86,25 @@ class Register:
     """An open register. What is changed in a `with self.changing()` is
     changed as a whole, or not at all."""
 
-    def __init__(self, folder: bytes) -> None:
+    def __init__(self, folder: bytes, is_only_read: bool = False) -> None:
         self.folder = folder
         self.path = join(folder, b"register.sqlite")
         if not os.path.isfile(self.path):
             raise Refused(f"{encoded(folder)} is no register")
         with self.reading():
             self._base = connect(self.path)
+            self._base.execute(f"PRAGMA query_only = {int(is_only_read)}")
             found = self._base.execute("PRAGMA integrity_check").fetchone()
             kind = self._base.execute("PRAGMA application_id").fetchone()
             form = self._base.execute("PRAGMA user_version").fetchone()
+            query = "SELECT sql FROM sqlite_master WHERE sql IS NOT NULL"
+            tables = self._base.execute(query).fetchall()
         if kind[0] != APPLICATION or form[0] != FORMAT:
             raise Refused(f"{encoded(folder)} is of another program", 3)
         if found[0] != "ok":
             raise self.altered(str(found[0]))
+        if {it[0] for it in tables} != set(statements()):
+            raise self.altered("its tables are others")
 
     def altered(self, why: str) -> Refused:
         where = encoded(self.path)
@@ -115,6 +122,8 @@ class Register:
         """Has what goes wrong with the database be said by its name."""
         try:
             yield
+        except UnicodeDecodeError as error:  # of a message of SQLite
+            raise self.altered("malformed database schema") from error
         except sqlite3.Error as error:
             where, text = encoded(self.path), str(error)
             if "locked" in text:
@@ -198,6 +207,13 @@ class Register:
         found = self.rows("settings", "name = ?", name)
         return json.loads(found[0]["value"]) if found else None
 
+    def set(self, name: str, value: Any) -> None:
+        """Has a setting have this value."""
+        values = {"name": name, "value": json.dumps(value)}
+        for row in self.rows("settings", "name = ?", name):
+            return self.alter("settings", row, **values)
+        self.add("settings", **values)
+
     def verify(self) -> None:
         """Reads all rows, each of which has to have its digest."""
         for table in COLUMNS:
@@ -225,6 +241,7 @@ def take(register: Register, path: str, **values: Any) -> int:
     number."""
     for row in register.rows("findings", "kind = 'new' AND text = ?", path):
         register.remove("findings", row)
+        register.note("gone", None, of="new", text=path)
     row_now = {**values, "path": path, "is_kept": 1, "adopted": now()}
     ours = register.rows("bags", "path = ?", path)
     if ours:
@@ -244,6 +261,16 @@ def connect(path: bytes) -> sqlite3.Connection:
     return base
 
 
+def statements() -> List[str]:
+    """What makes the tables, as SQLite keeps it."""
+    made = []
+    for table, columns in COLUMNS.items():
+        unique = f", UNIQUE ({UNIQUE[table]})" if table in UNIQUE else ""
+        names = f"{', '.join(columns)}, digest{unique}"
+        made.append(f"CREATE TABLE {table} (id INTEGER PRIMARY KEY, {names})")
+    return [*made, "CREATE INDEX of_bag ON events (bag)"]
+
+
 def make(folder: bytes, settings: Row) -> None:
     """Makes a register in a folder of its own, whole or not at all."""
     os.makedirs(folder, exist_ok=True)
@@ -255,13 +282,8 @@ def make(folder: bytes, settings: Row) -> None:
     with closing(connect(path)) as base:
         base.execute(f"PRAGMA application_id = {APPLICATION}")
         base.execute(f"PRAGMA user_version = {FORMAT}")
-        for table, columns in COLUMNS.items():
-            unique = f", UNIQUE ({UNIQUE[table]})" if table in UNIQUE else ""
-            base.execute(
-                f"CREATE TABLE {table} (id INTEGER PRIMARY KEY,"
-                f" {', '.join(columns)}, digest{unique})"
-            )
-        base.execute("CREATE INDEX of_bag ON events (bag)")
+        for statement in statements():
+            base.execute(statement)
     with closing(Register(draft)) as register, register.changing():
         for name, value in settings.items():
             register.add("settings", name=name, value=json.dumps(value))

@@ -10,6 +10,8 @@ A round is a folder:
     reports/000001-NAME.txt     the report of a check that came to its end
     tries/000001-NAME.HEX.txt   of one that didn't, or hasn't yet
     records/HEX.jsonl  of one process, a line for each check that has ended
+    pruned             the numbers of the bags without faults of which an audit
+                       has removed the reports
 
 In NAME other bytes than letters, digits, `.`, `_` and `-` are written as `_`.
 `list` is written whole under another name, and then renamed.
@@ -23,7 +25,7 @@ import json
 import os
 import re
 from contextlib import suppress
-from dataclasses import asdict, dataclass, fields
+from dataclasses import asdict, dataclass, field, fields
 from os.path import join
 from typing import IO, Dict, Iterator, List, Optional, Set, Tuple
 
@@ -74,8 +76,8 @@ def record_of(line: bytes) -> Optional[Record]:
         record = Record(**found)
     except (ValueError, TypeError, RecursionError):
         return None
-    for field in fields(Record):
-        value, kind = found.get(field.name), str(field.type)
+    for it in fields(Record):
+        value, kind = found.get(it.name), str(it.type)
         wanted = int if "int" in kind else str
         is_left_out = value is None and "Optional" in kind
         if not is_left_out and type(value) is not wanted:
@@ -98,6 +100,7 @@ class Row:
     report: Optional[bytes] = None
     record: Optional[Record] = None
     is_altered: bool = False
+    is_pruned: bool = False
 
 
 @dataclass(frozen=True)
@@ -110,6 +113,7 @@ class Round:
     options: Dict[str, object]
     records: Dict[int, List[Record]]
     tried: Set[bytes]
+    pruned: Set[int] = field(default_factory=set)
 
     def name_of(self, number: int) -> bytes:
         """What the files of the bag of a number are called."""
@@ -162,6 +166,9 @@ class Round:
             is_begun = self.name_of(number) in self.tried
             return Row(3, "begun, not ended" if is_begun else "not begun", bag)
         last = max(records, key=lambda record: record.at)
+        if number in self.pruned and last.why is None:
+            text = f"read whole at {last.ended}; its report was pruned"
+            return Row(3, text, bag, record=last, is_pruned=True)
         path = join(self.folder, os.fsencode(last.report or "."))
         with suppress(OSError):
             digest, report = read_report(path)
@@ -171,7 +178,10 @@ class Round:
                     return Row(3, why or ALTERED, bag, count, record=last)
                 unread = self.judge(3, report, bag)
                 return Row(3, unread.result, bag, count, path, last)
-        return Row(3, last.why or "not ended", bag, record=last)
+        text = "not ended"
+        if self.name_of(number) not in self.tried:
+            text = f"checked at {last.ended}; its report is not there"
+        return Row(3, last.why or text, bag, record=last)
 
     def rows(self) -> List[Row]:
         """The rows of all bags, in their order."""
@@ -237,8 +247,35 @@ def load(folder: bytes) -> Round:
         raise Refused(f"{encoded(profile)} was altered", 3)
     tries = names_in(join(folder, b"tries"))
     tried = {name.rsplit(b".", 2)[0] for name in tries}
-    records = read_records(folder)
-    return Round(folder, directories, asked, found, records, tried)
+    records, pruned = read_records(folder), read_pruned(folder)
+    return Round(folder, directories, asked, found, records, tried, pruned)
+
+
+def read_pruned(folder: bytes) -> Set[int]:
+    """The bags whose reports were removed, by their numbers."""
+    with suppress(FileNotFoundError):
+        lines = read_bytes(join(folder, b"pruned")).split()
+        return {int(it) for it in lines if it.isdigit()}
+    return set()
+
+
+def prune(folder: bytes) -> None:
+    """Removes the reports of the bags of a round without faults. That they
+    were there is noted before."""
+    a_round = load(folder)
+    numbers = range(1, len(a_round.directories) + 1)
+    good = [it for it in numbers if a_round.row(it).status == 0]
+    if good:
+        draft = join(folder, b"pruned.part")
+        with suppress(FileNotFoundError):
+            os.unlink(draft)
+        noted = sorted(a_round.pruned.union(good))
+        write_synced(draft, "".join(f"{it}\n" for it in noted).encode())
+        os.rename(draft, join(folder, b"pruned"))
+        sync_folder(folder)
+    for number in good:
+        with suppress(FileNotFoundError):
+            os.unlink(a_round.report_path(number))
 
 
 def options_of(

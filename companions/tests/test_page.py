@@ -12,6 +12,7 @@ from unittest import mock
 from bagitkeep import keeping, page, register
 from bagitkeep.lines import FAULTS
 from bagitkeep.messages import Refused, now
+from bagitkeep.news import find
 from bagitkeep.program import Asked
 from bagitkeep.rounds import Record, Row
 
@@ -79,12 +80,7 @@ class OfRegister(unittest.TestCase):
     """What the pages of a register say."""
 
     def test_the_news_are_those_of_status(self) -> None:
-        room = tempfile.TemporaryDirectory()
-        self.addCleanup(room.cleanup)
-        folder = os.fsencode(room.name) + b"/register"
-        register.make(folder, {"stores": ["/s"], "every": 90})
-        opened = register.Register(folder)
-        self.addCleanup(opened.close)
+        opened = self.made()
         with opened.changing():
             for path, read in ("/a", "2000-01-01T00:00:00Z"), ("/b", now()):
                 values = {"seal": "0", "files": 1, "bytes": 2, "read": read}
@@ -104,6 +100,37 @@ class OfRegister(unittest.TestCase):
             bag = opened.bag_at(b"/a")
             opened.alter("bags", bag, read=now())
         self.says(opened, "news of 0 bags: 1 cut off", 1)
+
+    def test_known_findings(self) -> None:
+        opened = self.made()
+        with opened.changing():
+            values = {"seal": "0", "files": 1, "bytes": 2, "read": now()}
+            register.take(opened, "/a", **values)
+            bag = opened.bag_at(b"/a")
+            for kind, text in ("fault", LINE), ("missing", ""):
+                find(opened, bag, kind, text)
+        said = {"by": "Ada", "why": HOSTILE, "until": "9999-01-01"}
+        words = Namespace(**said, all=None, line=["fault", LINE])
+        with redirect_stdout(io.StringIO()):
+            keeping.known(opened, words, [b"/a"])
+        site = page.site_of_register(opened)
+        self.assertEqual(["missing"], [it["what"] for it in site.news])
+        (known,) = site.known
+        self.assertEqual(said, {it: known[it] for it in said})
+        for name, wanted in (
+            ("what", "fault"), ("bag", "/a"), ("page", "bag-1.html"),
+            ("says", "payload-sum-differs, data/a/<b, sha256"),
+        ):
+            self.assertEqual(wanted, known[name])
+
+    def made(self) -> register.Register:
+        room = tempfile.TemporaryDirectory()
+        self.addCleanup(room.cleanup)
+        folder = os.fsencode(room.name) + b"/register"
+        register.make(folder, {"stores": ["/s"], "every": 90})
+        opened = register.Register(folder)
+        self.addCleanup(opened.close)
+        return opened
 
     def says(self, opened: register.Register, line: str, news: int) -> None:
         """The pages do, also before the register is reminded, and they change
@@ -133,12 +160,14 @@ class Written(unittest.TestCase):
         room = tempfile.TemporaryDirectory()
         self.addCleanup(room.cleanup)
         self.room = Path(room.name)
-        bag = page.BagView(HOSTILE, HOSTILE, [HOSTILE])
+        bag = page.BagView(HOSTILE, HOSTILE, [HOSTILE], HOSTILE)
         bag.events = [{"at": HOSTILE, "kind": HOSTILE, "says": HOSTILE}]
         bag.faults = page.by_folder([LINE])
         self.site = page.Site(HOSTILE, [bag])
         names = "what bag says todo since page".split()
         self.site.news = [dict.fromkeys(names, HOSTILE)]
+        names += ["by", "why", "until"]
+        self.site.known = [dict.fromkeys(names, HOSTILE)]
 
     def write(self) -> Path:
         page.replace(self.site, os.fsencode(self.room / "pages"))
@@ -153,6 +182,17 @@ class Written(unittest.TestCase):
             self.assertNotIn("<script", text)
             self.assertIn("&lt;script&gt;", text)
             self.assertNotIn("http:", text.replace("http-equiv", ""))
+
+    def test_what_pages_say_of_known_findings_and_readings(self) -> None:
+        text = (self.write() / "index.html").read_text("utf-8")
+        self.assertIn("<h2>Known findings</h2>", text)
+        text = (self.room / "pages/bag-1.html").read_text("utf-8")
+        self.assertIn("<p>Last read whole at &lt;script&gt;", text)
+        self.site.known, self.site.bags[0].read = [], None
+        text = (self.write() / "index.html").read_text("utf-8")
+        self.assertNotIn("Known findings", text)
+        text = (self.room / "pages/bag-1.html").read_text("utf-8")
+        self.assertNotIn("read whole", text)
 
     def test_pages_are_replaced_and_nothing_else_is(self) -> None:
         folder = self.write()

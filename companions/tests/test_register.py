@@ -135,6 +135,19 @@ class OfRegister(unittest.TestCase):
             register.Register(self.folder)
         self.assertIn("register.copy", str(refused.exception))
 
+    def test_a_bit_that_changes_in_a_name(self) -> None:
+        whole = read_bytes(self.folder + b"/register.sqlite")
+        place = whole.index(b"CREATE TABLE bags")
+        for name in b"KEY", b"digest", b"path)", b"MARY":
+            changed = bytearray(whole)
+            changed[whole.index(name, place)] ^= 128
+            with open(self.folder + b"/register.sqlite", "wb") as file:
+                file.write(changed)
+            with self.assertRaises(Refused) as refused:
+                register.Register(self.folder).rows("bags")
+            self.assertEqual(3, refused.exception.status)
+            self.assertIn("register.copy", str(refused.exception))
+
     def test_no_row_takes_the_place_of_another(self) -> None:
         opened = self.open()
         row = dict.fromkeys(register.COLUMNS["bags"])
@@ -224,18 +237,18 @@ class OfRegister(unittest.TestCase):
             number = register.take(
                 opened, os.fsdecode(path), seal=put("a"), **values
             )
-        self.assertEqual([], audit.strangers(opened))
+        self.assertEqual([], audit.strangers(opened)[0])
         with opened.changing():
             opened.alter("bags", opened.bag_at(path), is_kept=0)
         for text, wanted in (("a", []), ("b", [path]), ("a", [])):
             put(text)
-            self.assertEqual(wanted, audit.strangers(opened))
+            self.assertEqual(wanted, audit.strangers(opened)[0])
             with opened.changing():
-                news.welcome(opened, audit.strangers(opened))
+                news.welcome(opened, audit.strangers(opened)[0])
             self.assertEqual(len(wanted), len(opened.rows("findings")))
         os.unlink(declared)
         os.symlink("/none", declared)
-        self.assertEqual([path], audit.strangers(opened))
+        self.assertEqual([path], audit.strangers(opened)[0])
         with opened.changing():
             news.welcome(opened, [path])
             again = register.take(
@@ -322,18 +335,23 @@ class OfNews(unittest.TestCase):
         bags = {it: bag(it, "2026-01-01T00:00:00Z") for it in (1, 2)}
         for it in bags:
             bags[it]["path"] = f"/{it}"
-        state = news.State(found, 0, bags)
+        state = news.State(found, [], bags)
         self.assertEqual(
             "news of 2 bags: 1 with faults, 1 altered", state.first_line()
         )
         self.assertEqual("altered /2 " + OTHER, state.lines()[3])
-        for since, wanted in (("1", False), ("2", False), ("3", True)):
-            of = [{**it, "since": "2"} for it in found]
-            line = news.State(of, 0, bags, since).first_line()
-            self.assertEqual(wanted, line.startswith("still news of 2"))
+        for is_new in True, False:
+            found[0].update(is_new=is_new, until="2026-01-01")
+            of = [found[0], *({**it, "is_new": False} for it in found[1:])]
+            lines = news.State(of, [], bags).lines()
+            still = "" if is_new else "still "
+            self.assertTrue(lines[0].startswith(f"{still}news of 2 bags: "))
+            fault = "fault /1 x (known until 2026-01-01)"
+            self.assertEqual(still + fault, lines[1])
+            self.assertEqual("still fault /1 y", lines[2])
         self.assertEqual(
             ["no news: 2 bags, each read whole since 2026-01-01T00:00:00Z"],
-            news.State([], 0, bags).lines(),
+            news.State([], [], bags).lines(),
         )
 
 

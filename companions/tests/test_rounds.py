@@ -8,10 +8,11 @@ from dataclasses import replace
 from pathlib import Path
 from typing import Optional
 
+from bagitkeep import page
 from bagitkeep.go_round import without_left
 from bagitkeep.messages import Refused
 from bagitkeep.program import Asked
-from bagitkeep.rounds import Record, Row, begin, load, record_of
+from bagitkeep.rounds import Record, Row, begin, load, prune, record_of
 from bagitkeep.table import change_of, table_of
 
 VALID, FAULTY = b"/b/a is valid\n", b"/b/a has faults: 1\n"
@@ -117,6 +118,44 @@ class Rounds(unittest.TestCase):
         (self.round / "tries" / "000001-a.00.txt").write_bytes(VALID)
         self.assertEqual(load(name).row(1).result, "begun, not ended")
         self.assertEqual(load(name).row(1).status, 3)
+
+    def test_a_report_that_was_pruned(self) -> None:
+        name, report = os.fsencode(self.round), self.round / "reports"
+        self.row(VALID, a_record(VALID))
+        for _ in range(2):
+            prune(name)
+            self.assertEqual([], os.listdir(report))
+            row = load(name).row(1)
+            self.assertEqual(
+                (row.status, row.result, row.is_pruned),
+                (3, "read whole at y; its report was pruned", True),
+            )
+            site = page.site_of_round(name)
+            self.assertEqual("0 of 1 bags have news", site.first_line)
+            self.assertEqual(row.result, site.bags[0].how)
+            self.assertEqual("y", site.bags[0].read)
+            self.assertFalse(site.bags[0].is_certified)
+        (self.round / "pruned").unlink()
+        row = load(name).row(1)
+        says = "checked at y; its report is not there"
+        self.assertEqual((row.result, row.is_pruned), (says, False))
+        (self.round / "tries" / "000001-a.00.txt").write_bytes(b"")
+        self.assertEqual("not ended", load(name).row(1).result)
+        killed = replace(a_record(VALID), why="killed")
+        row = replace(load(name), records={1: [killed]}, pruned={1}).row(1)
+        self.assertEqual((row.status, row.is_pruned), (3, False))
+        row = replace(load(name), records={}, tried=set(), pruned={1}).row(1)
+        self.assertEqual((row.result, row.is_pruned), ("not begun", False))
+
+    def test_only_reports_without_faults_are_pruned(self) -> None:
+        name, report = os.fsencode(self.round), MISSING + FAULTY
+        (self.round / "pruned").write_bytes(b"1\n\xff 7")
+        (self.round / "pruned.part").write_bytes(b"")
+        for text, record in (report, a_record(report)), (VALID, None):
+            status = self.row(text, record).status
+            prune(name)
+            row = load(name).row(1)
+            self.assertEqual((row.status, row.is_pruned), (status, False))
 
     def test_rounds_of_another_depth_are_not_compared(self) -> None:
         other = self.round.parent / "other"

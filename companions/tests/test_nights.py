@@ -1,0 +1,171 @@
+"""What audits tell on their nights, and what `status` tells between them."""
+import io
+import os
+import sqlite3
+import tempfile
+import unittest
+from argparse import Namespace
+from contextlib import closing, redirect_stdout
+from typing import Any, Callable, List, Optional
+from unittest import mock
+
+from bagitkeep import audit, keeping, news, register
+from bagitkeep.messages import Refused
+from bagitkeep.seal import seal_of
+
+
+class OfNights(unittest.TestCase):
+    """Audits that read no bag."""
+
+    def setUp(self) -> None:
+        room = tempfile.TemporaryDirectory()
+        self.addCleanup(room.cleanup)
+        self.folder = os.fsencode(room.name) + b"/register"
+        register.make(self.folder, {"stores": [], "every": 90})
+        self.opened = register.Register(self.folder)
+        self.addCleanup(self.opened.close)
+        due = mock.patch.object(audit, "due", lambda bags, asked: [])
+        due.start()
+        self.addCleanup(due.stop)
+
+    def take(self, path: str, read: Optional[str]) -> None:
+        with self.opened.changing():
+            values = {"seal": "0", "files": 0, "bytes": 0, "read": read}
+            register.take(self.opened, path, **values)
+
+    def said(self, work: Callable[..., int], *words: Any) -> List[str]:
+        with redirect_stdout(io.StringIO()) as out:
+            work(self.opened, *words)
+        return out.getvalue().splitlines()
+
+    def audit(self) -> List[str]:
+        return self.said(audit.audit, Namespace(task=None))
+
+    def status(self) -> List[str]:
+        """What `status` says, which changes nothing."""
+        before = [self.opened.rows(it) for it in register.COLUMNS]
+        with closing(register.Register(self.folder, True)) as it:
+            with redirect_stdout(io.StringIO()) as out:
+                keeping.status(it, Namespace(), [])
+        after = [self.opened.rows(it) for it in register.COLUMNS]
+        self.assertEqual(before, after)
+        return out.getvalue().splitlines()
+
+    def kinds(self) -> List[str]:
+        """The kinds of the events of the first bag, but for its adoption."""
+        return [it["kind"] for it in self.opened.rows("events", "bag = 1")][1:]
+
+    def test_news_are_new_once(self) -> None:
+        self.take("/none", audit.now())
+        for still in "", "still ", "still ":
+            said = self.audit()
+            self.assertEqual(f"{still}news of 1 bag: 1 missing", said[0])
+            self.assertEqual(f"{still}missing /none", said[1])
+            self.assertEqual(said, self.status())
+        self.take("/none2", audit.now())
+        said = self.audit()
+        self.assertEqual("news of 2 bags: 2 missing", said[0])
+        self.assertEqual("missing /none2", said[1])
+        self.assertEqual("still missing /none", said[2])
+
+    def test_what_was_not_told_is_new(self) -> None:
+        self.take("/none", audit.now())
+        full = mock.patch.object(self.opened, "copy", side_effect=Refused("x"))
+        with full, self.assertRaises(Refused):
+            self.audit()
+        self.assertEqual("news of 1 bag: 1 missing", self.audit()[0])
+        self.assertEqual("still news of 1 bag: 1 missing", self.audit()[0])
+
+    def test_an_altered_event_is_an_error(self) -> None:
+        self.take("/none", audit.now())
+        self.audit()
+        path = os.fsdecode(self.folder + b"/register.sqlite")
+        with closing(sqlite3.connect(path)) as base, base:
+            query = "UPDATE events SET kind = 'fount' WHERE kind = 'found'"
+            self.assertEqual(1, base.execute(query).rowcount)
+        with self.assertRaises(Refused):
+            self.said(keeping.status, Namespace(), [])
+
+    def test_what_was_known_is_new_again(self) -> None:
+        self.take("/none", audit.now())
+        self.audit()
+        self.audit()
+        who = {"by": "Ada", "why": "x", "until": "2026-01-01"}
+        words = Namespace(**who, all=True, line=[])
+        self.said(keeping.known, words, [b"/none"])
+        for said in self.status(), self.audit(), self.status():
+            self.assertEqual("news of 1 bag: 1 missing", said[0])
+            line = "missing /none (known until 2026-01-01)"
+            self.assertEqual(line, said[1])
+            self.assertEqual("1 bags, each read", said[2][:17])
+        said = self.audit()
+        self.assertEqual("still news of 1 bag: 1 missing", said[0])
+        self.assertEqual("still missing /none", said[1])
+        self.assertEqual(["found", "known", "lapsed"], self.kinds())
+        words.all, words.until = None, "9999-01-01"
+        words.line = "missing (known until 2026-01-01)".split()
+        self.said(keeping.known, words, [b"/none"])
+        self.assertEqual("no news: 1 bags, ", self.audit()[0][:17])
+
+    def test_a_bag_that_is_overdue(self) -> None:
+        self.take("/", "2026-01-01T00:00:00Z")
+        for said in self.status(), self.status(), self.audit(), self.status():
+            self.assertEqual("news of 1 bag: 1 overdue", said[0])
+        self.assertEqual("still news of 1 bag: 1 overdue", self.audit()[0])
+        self.assertEqual(["found"], self.kinds())
+        with self.opened.changing():
+            bag = self.opened.bag_at(b"/")
+            self.opened.alter("bags", bag, read=audit.now())
+        for said in self.status(), self.audit():
+            self.assertEqual("no news: 1 bags, ", said[0][:17])
+        self.assertEqual(["found", "gone"], self.kinds())
+
+    def test_a_bag_that_was_retired(self) -> None:
+        self.take("/", "2026-01-01T00:00:00Z")
+        self.audit()
+        words = Namespace(by="Ada", why="x")
+        self.said(keeping.retire, words, [b"/"])
+        self.assertEqual(["found", "gone", "retired"], self.kinds())
+
+    def test_a_tar_that_was_retired_is_read_once(self) -> None:
+        store = os.path.dirname(self.folder)
+        path = os.path.join(store, b"bag.tar")
+
+        def put(text: bytes) -> str:
+            with open(path, "wb") as file:
+                file.write(text)
+            os.utime(path, ns=(1, 1))
+            return seal_of(path)
+
+        with self.opened.changing():
+            self.opened.set("stores", [os.fsdecode(store)])
+            values = {"files": 1, "bytes": 2, "read": audit.now()}
+            seal = put(b"one")
+            register.take(self.opened, os.fsdecode(path), seal=seal, **values)
+            bag = self.opened.bag_at(path)
+            self.opened.alter("bags", bag, is_kept=0)
+        new = f"new {os.fsdecode(path)}"
+        for text, line in ((b"", ""), (b"two", new), (b"one", "")):
+            if text:
+                put(text)
+            for count in 1, 0, 0:
+                with mock.patch.object(audit, "seal_of", wraps=seal_of) as it:
+                    said = self.audit()
+                self.assertEqual(count, it.call_count)
+                self.assertEqual(bool(line), said[1:2] != [])
+                if line:
+                    self.assertEqual(line, said[1].replace("still ", ""))
+        os.unlink(path)
+        self.audit()
+        self.assertEqual({}, self.opened.setting("seen"))
+
+    def test_news_of_no_bag_go_too(self) -> None:
+        for there in [b"/new"], []:
+            with self.opened.changing():
+                news.welcome(self.opened, there)
+        kinds = [it["kind"] for it in self.opened.rows("events")]
+        self.assertEqual(["init", "found", "gone"], kinds)
+
+
+if __name__ == "__main__":
+    unittest.main()
