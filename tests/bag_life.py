@@ -893,7 +893,8 @@ class EachAlone(Life):
         os.symlink("../../d/data/in/deep/file", "link/data/better")
         os.unlink("d/data/gone")
         ended = self.ends(1, "restore", "d", "--from", "copy", "--from", "link")
-        self.assertIn("no copy has data/better", ended.said)
+        self.assertIn("copy: data/better doesn't have the digest that manifest-md5.txt gives", ended.said)
+        self.assertNotIn("no copy has", ended.said)
         self.assertEqual((self.payload("d")["better"], self.payload("d")["gone"]), (b"bettex of d", b"gone of d"))
         self.assertEqual([it for it in os.listdir() if it.startswith("d.")], [])
         for words in ["d"], ["d", "--from", "d"], ["d", "--from", "nowhere"], ["d", "--from", "d/bagit.txt"], ["nowhere", "--from", "d"]:
@@ -910,6 +911,37 @@ class EachAlone(Life):
         Path("cut.tar").write_bytes(whole[: size // 2 + 100])
         self.run_it("restore", "d", "--from", "cut.tar")
         self.ends(0, "restore", "d", "--from", "cut.tar", "--from", "copy.tar")
+        self.assertEqual(content_of("d"), before)
+
+    def test_restores_out_of_the_copies_that_can_be_read(self):
+        before = self.new_bag("d", ["x", "y"])
+        for copy in "copy", "less":
+            shutil.copytree("d", copy)
+        with tarfile.open("copy.tar", "w") as tar:
+            tar.add("d")
+        with tarfile.open("copy.tar") as tar:
+            at = tar.getmember("d/data/y").offset
+        os.makedirs("no-bag/in")
+        Path("file.pdf").write_bytes(b"%PDF-1.7")
+        unusable = ["--from=nowhere", "--from=no-bag", "--from=file.pdf", "--from=d/bagit.txt"]
+        for name in "d", "less":
+            os.unlink(f"{name}/data/y")
+        whole = Path("copy.tar").read_bytes()
+        for begin, why in (whole[:at] + b"\xff", "damaged"), (whole[:at] + bytes(512), "after its end"), (whole[:at], "cut off"):
+            Path("damaged.tar").write_bytes(begin + whole[len(begin):] * (why != "cut off"))
+            said = self.refused(3, "restore", "d", "--from", "damaged.tar").said
+            self.assertIn("damaged.tar isn't read whole: ", said)
+            self.assertIn(why, said)
+            self.assertIn("data/y isn't in what could be read of the copies", said)
+            self.assertNotIn("no copy has", said)
+        for words in unusable, unusable[:1]:
+            self.refused(2, "restore", "d", *words)
+        said = self.refused(3, "restore", "d", *unusable, "--from", "less").said
+        self.assertIn("data/y isn't in what could be read of the copies", said)
+        self.assertIn("no copy has data/y", self.refused(1, "restore", "d", "--from", "less").said)
+        ended = self.ends(0, "restore", "d", *unusable, "--from", "damaged.tar", "--from", "copy")
+        for word in unusable:
+            self.assertIn(f"{word[7:]} isn't used: ", ended.said)
         self.assertEqual(content_of("d"), before)
 
     def test_restores_into_no_other_place(self):

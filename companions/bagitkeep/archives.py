@@ -113,10 +113,8 @@ def tar_content(file: IO[bytes], limits: Limits) -> Content:
         fileobj=file, mode="r:", encoding="utf-8", errors=ANY_BYTES
     )
     members = [limits.count(tar_member(it)) for it in tar]
-    file.seek(tar.offset)
-    while piece := file.read(PIECE):
-        if piece.strip(b"\0"):
-            raise Unfit(AFTER_END)
+    if why := wrong_end(file, tar.offset):
+        raise Unfit(why)
 
     def open_member(member: Member) -> IO[bytes]:
         file = tar.extractfile(member.source)
@@ -124,6 +122,20 @@ def tar_content(file: IO[bytes], limits: Limits) -> Content:
         return file
 
     return Content(members, open_member)
+
+
+def wrong_end(file: IO[bytes], at: int) -> Optional[str]:
+    """What is wrong with the end of a .tar, if its last header ends there."""
+    file.seek(at)
+    begin = file.read(tarfile.BLOCKSIZE)
+    if len(begin) < tarfile.BLOCKSIZE:
+        return "it is cut off"
+    if begin.strip(b"\0"):
+        return f"the header at byte {at} is damaged"
+    while piece := file.read(PIECE):
+        if piece.strip(b"\0"):
+            return AFTER_END
+    return None
 
 
 def tar_member(it: tarfile.TarInfo) -> Member:
