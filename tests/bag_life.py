@@ -913,6 +913,28 @@ class EachAlone(Life):
         self.ends(0, "restore", "d", "--from", "cut.tar", "--from", "copy.tar")
         self.assertEqual(content_of("d"), before)
 
+    def test_says_how_a_valid_bag_differs_from_copies(self):
+        files = self.new_bag("d", ["x"])
+        shutil.copytree("d", "copy")
+        self.assertEqual(self.refused(0, "restore", "d", "--from", "copy").said, "")
+        shutil.rmtree("d")
+        files = {path: it for path, it in files.items() if "manifest-" not in path}
+        del files["meta/notes.xml"]
+        self.write("d", {**files, "bag-info.txt": b"Contact-Name: Eve\n", "new": b""}, ["sha256"])
+        with tarfile.open("copy.tar", "w") as tar:
+            tar.add("copy")
+        for name in "copy", "copy.tar":
+            ended = self.refused(0, "restore", "d", "--from", name)
+            self.assertTrue(ended.out.endswith("/d is valid\n"))
+            says = ["another bag-info.txt", "manifest-md5.txt, and the bag hasn't", "meta/notes.xml, and the bag hasn't", "no new"]
+            says += ["tagmanifest-md5.txt, and the bag hasn't", "another tagmanifest-sha256.txt"]
+            self.assertEqual(ended.said.splitlines(), [f"bagit-keep: {name} has {it}" for it in says])
+        with tarfile.open("damaged.tar", "w") as tar:
+            tar.add("copy/data", "copy/data")
+        Path("damaged.tar").write_bytes(Path("damaged.tar").read_bytes().rstrip(b"\0"))
+        said = self.refused(0, "restore", "d", "--from", "damaged.tar").said
+        self.assertEqual((said.count("\n"), "isn't read whole" in said), (1, True), said)
+
     def test_restores_out_of_the_copies_that_can_be_read(self):
         before = self.new_bag("d", ["x", "y"])
         for copy in "copy", "less":

@@ -9,9 +9,10 @@ from typing import IO, Dict, Iterator, List, Optional, Sequence, Set, Tuple
 
 from .archives import BROKEN, wrong_end
 from .errors import BagError
-from .files import opened
+from .files import digests_of, opened
 from .lines import encoded
 from .messages import say, shown
+from .seal import sums_of, tag_files
 from .trees import copied
 
 NO_ROOM = {errno.ENOSPC, errno.EDQUOT, errno.EFBIG, errno.EROFS}
@@ -81,6 +82,28 @@ class Copy:
                 self.unread.add(path)
             say(f"{shown(self.path)}: {encoded(path)} isn't read: {error}")
 
+    def tag_files(self) -> Set[str]:
+        """The paths of its tag files."""
+        if self.tar is None:
+            place = join(os.fsencode(self.path), b"")
+            return {os.fsdecode(it) for it in tag_files(place)}
+        return {
+            path for path, members in self.members.items()
+            if not path.startswith("data/")
+            if not all(it.isdir() for it in members)
+        }
+
+    def has_sum(self, path: str, sum: str) -> Optional[bool]:
+        """Whether it has a file of this SHA-512; None if it isn't read."""
+        found = None
+        with self.trying(path):
+            for stream, _ in self.streams(path):
+                with stream:
+                    found = digests_of(stream, ["sha512"])["sha512"] == sum
+                if found:
+                    return True
+        return found
+
 
 def members_of(
     tar: tarfile.TarFile, file: IO[bytes]
@@ -133,3 +156,27 @@ def copies_at(paths: Sequence[str], stack: ExitStack) -> List[Copy]:
             if copies[-1].why is not None:
                 say(f"{shown(path)} isn't read whole: {copies[-1].why}")
     return copies
+
+
+def differences(bag: str, copy: Copy) -> Iterator[str]:
+    """What a copy's tag files have that a bag's haven't, or the reverse, by
+    their bytes alone."""
+    sums = {os.fsdecode(path): sum for path, sum in sums_of(bag).items()}
+    name, theirs = shown(copy.path), copy.tag_files()
+    for path in sorted({*sums, *theirs}):
+        if path not in sums:
+            yield f"{name} has {encoded(path)}, and the bag hasn't"
+        elif path in theirs and copy.has_sum(path, sums[path]) is False:
+            yield f"{name} has another {encoded(path)}"
+        elif path not in theirs and copy.why is None:
+            yield f"{name} has no {encoded(path)}"
+
+
+def say_differences(bag: str, copies: List[Copy]) -> None:
+    """Says them for each copy."""
+    for copy in copies:
+        try:
+            for text in differences(bag, copy):
+                say(text)
+        except (*BROKEN, OSError) as error:
+            say(f"{shown(copy.path)} isn't compared: {error}")

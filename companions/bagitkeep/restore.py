@@ -8,7 +8,7 @@ from typing import Dict, List, Sequence, Set, Tuple
 
 from .bagit import entries_in, reading
 from .beside import Beside, Faulty, checked, folder_of, kept_of, show
-from .copies import Copy, Sums, copies_at
+from .copies import Copy, Sums, copies_at, say_differences
 from .errors import BagError
 from .files import sync_folder, write_synced
 from .lines import encoded
@@ -152,6 +152,8 @@ def restored(
                 continue
             for path in missing:
                 say_missing(path, copies, is_whole)
+            if report.status == 0:
+                say_differences(bag, copies)
             return report, missing
     finally:
         place.clear()

@@ -11,7 +11,7 @@ from unittest.mock import patch
 
 from bagitkeep import copies
 from bagitkeep.archives import wrong_end
-from bagitkeep.copies import Copy, copies_at
+from bagitkeep.copies import Copy, copies_at, differences
 
 ABC = {"md5": "900150983cd24fb0d6963f7d28e17f72"}  # RFC 1321, A.5
 
@@ -119,6 +119,24 @@ class Copies(InAFolder):
                 self.assertFalse(os.path.lexists(new))
             self.assertEqual(copy.others, {"b": ["md5"]})
             self.assertEqual(copy.unread, set())
+
+    def test_tag_files_that_differ(self) -> None:
+        self.at("bag/bagit.txt", b"")
+        self.at("bag/in/a", b"abc")
+        self.at("bag/in/b", b"b")
+        self.at("bag/data/c", b"c")
+        self.at("a.tar", tar_of({"bagit.txt": b"", "in/a": b"a", "c": b""}))
+        self.at("cut.tar", tar_of({"bagit.txt": b""})[:512])
+        bag = str(self.folder / "bag")
+        found = self.copies("bag", "a.tar", "cut.tar")
+        said = [list(differences(bag, it)) for it in found]
+        tar = f"{self.folder}/a.tar has"
+        wanted = [
+            f"{tar} c, and the bag hasn't",
+            f"{tar} another in/a",
+            f"{tar} no in/b",
+        ]
+        self.assertEqual(said, [[], wanted, []])
 
     def test_what_is_not_read(self) -> None:
         self.at("bag/bagit.txt", b"")
