@@ -341,6 +341,7 @@ class Restores(Scenario):
         self.good = content_of("d")
         Path("d/data/b").write_bytes(b"B")
         Path("d/manifest-md5.txt").write_bytes(b"no manifest\n")
+        Path("d/tagmanifest-sha256.txt").write_bytes(self.good["tagmanifest-sha256.txt"].replace(b" bag-info.txt", b" bag-inbo.txt"))
         os.unlink("d/bagit.txt")
         shutil.rmtree("d/data/in")
         for name in self.names:
@@ -912,6 +913,55 @@ class EachAlone(Life):
         self.run_it("restore", "d", "--from", "cut.tar")
         self.ends(0, "restore", "d", "--from", "cut.tar", "--from", "copy.tar")
         self.assertEqual(content_of("d"), before)
+
+    def test_restores_a_tag_manifest(self):
+        """The bag's is damaged in a byte, and a copy's fits what is there."""
+        files = self.new_bag("d", ["x"])
+        shutil.copytree("d", "copy")
+        with tarfile.open("copy.tar", "w") as tar:
+            tar.add("copy")
+        name = "tagmanifest-sha256.txt"
+        good = files[name]
+        at = good.index(b"  bag-info.txt")
+        other = b"1" if good[at - 1:at] == b"0" else b"0"
+        for damaged in (
+            good[:at - 1] + other + good[at:], good[:at - 1] + b"x" + good[at:], good[:at - 1] + good[at:], good[:at] + b"\xff" + good[at:],
+            good.replace(b"bag-info", b"bag-inbo"), good.replace(b" manifest-md5", b" manifest-md4"), b"",
+        ):
+            for copy in "copy", "copy.tar":
+                Path("d", name).write_bytes(damaged)
+                self.assertIn(f"{name} is now that of {copy}\n", self.ends(0, "restore", "d", "--from", copy).said)
+                self.assertEqual(content_of("d"), files)
+                (kept,) = [it for it in os.listdir() if ".kept." in it]
+                self.assertEqual(content_of(kept), {name: damaged})
+                shutil.rmtree(kept)
+
+    def test_a_tag_manifest_hides_no_damage(self):
+        """None is taken that gives other digests than the tag files have, or names less."""
+        files = self.new_bag("d", ["x"])
+        others = {path: it for path, it in files.items() if "manifest-" not in path}
+        self.write("edited", {**others, "bag-info.txt": b"Contact-Name: Eve\n"})
+        self.write("less", {path: it for path, it in others.items() if path != "meta/notes.xml"})
+        for name in "edited", "less":
+            os.unlink(f"{name}/bag-info.txt")
+        copies = ["--from", "edited", "--from", "less"]
+        Path("d/tagmanifest-md5.txt").unlink()
+        sha = files["tagmanifest-sha256.txt"]
+        was = digest(files["bag-info.txt"], "sha256").encode()
+        Path("d/tagmanifest-sha256.txt").write_bytes(sha.replace(was, was[::-1]))
+        self.assertIn("no copy has bag-info.txt", self.refused(1, "restore", "d", *copies).said)
+        shutil.copytree("less", "edited", dirs_exist_ok=True)
+        Path("edited/bag-info.txt").write_bytes(b"Contact-Name: Eve\n")
+        said = self.refused(1, "restore", "d", "--from", "edited").said
+        self.assertIn("edited: bag-info.txt doesn't have the digest that tagmanifest-sha256.txt gives", said)
+        self.assertNotIn("no copy has", said)
+        for path in "meta/notes.xml", "bag-info.txt":
+            Path("d/tagmanifest-sha256.txt").write_bytes(sha)
+            old = Path("d", path).read_bytes()
+            for content in b"damaged", None:
+                Path("d", path).unlink() if content is None else Path("d", path).write_bytes(content)
+                self.refused(1, "restore", "d", "--from", "less")
+            Path("d", path).write_bytes(old)
 
     def test_says_how_a_valid_bag_differs_from_copies(self):
         files = self.new_bag("d", ["x"])

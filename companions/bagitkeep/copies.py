@@ -82,6 +82,13 @@ class Copy:
                 self.unread.add(path)
             say(f"{shown(self.path)}: {encoded(path)} isn't read: {error}")
 
+    def contents(self, path: str) -> Iterator[Tuple[bytes, float]]:
+        """What the files that it has at this path have, with their times."""
+        with self.trying(path):
+            for stream, time in self.streams(path):
+                with stream:
+                    yield stream.read(), time
+
     def tag_files(self) -> Set[str]:
         """The paths of its tag files."""
         if self.tar is None:

@@ -3,20 +3,20 @@ import errno
 import os
 import stat
 from contextlib import ExitStack
-from os.path import dirname, join, lexists
-from typing import Dict, List, Sequence, Set, Tuple
+from os.path import basename, dirname, join, lexists
+from typing import Dict, Iterator, List, Sequence, Set, Tuple
 
-from .bagit import entries_in, reading
+from .bagit import content_of, entries_in, manifests_in, reading
 from .beside import Beside, Faulty, checked, folder_of, kept_of, show
 from .copies import Copy, Sums, copies_at, say_differences
 from .errors import BagError
 from .files import sync_folder, write_synced
 from .lines import encoded
-from .mending import is_old
+from .mending import fits, is_old
 from .messages import Refused, explained, say, shown
 from .program import Asked
 from .runs import BagReport, alone, check
-from .trees import dress, make_folders
+from .trees import dress, link_tree, make_folders
 from .usage import read
 
 OLD = "BagIt-Version: 0.97\nTag-File-Character-Encoding: UTF-8\n"
@@ -122,6 +122,49 @@ def by_digests(
     return 0, missing
 
 
+def tag_manifests(
+    bag: str, report: BagReport, copies: List[Copy]
+) -> Iterator[Tuple[str, Copy, bytes, float]]:
+    """Tag manifests of copies that the tag files of a bag fit, where its own
+    doesn't: name, copy, content and time."""
+    old = is_old(bag)
+    for algorithm, path in manifests_in(bag, True).items():
+        name, seen = basename(path), [content_of(path)]
+        if report.status == 1 and any(
+            it.path == name
+            or it.code in (602, 702) and it.algorithm == algorithm
+            for it in report.faults
+        ):
+            for copy in copies:
+                for content, time in copy.contents(name):
+                    if content not in seen and fits(
+                        bag, algorithm, seen[0], content, old
+                    ):
+                        yield name, copy, content, time
+                    seen.append(content)
+
+
+def by_tag_manifest(
+    place: Beside, report: BagReport, copies: List[Copy], kept: str
+) -> bool:
+    """Takes a tag manifest of a copy, if a full check of the bag with it
+    finds fewer faults."""
+    for name, copy, content, time in tag_manifests(
+        place.bag, report, copies
+    ):
+        place.clear()
+        place.note()
+        os.mkdir(place.work)
+        link_tree(place.bag, place.work, lambda it: it if it != name else None)
+        new = join(place.work, name)
+        write_synced(new, content)
+        os.utime(new, (time, time))
+        tried = check(place.work, Asked())
+        if tried.unread is None and len(tried.faults) < len(report.faults):
+            return put_all(place.bag, {name: (new, copy.path)}, kept) > 0
+    return False
+
+
 def say_missing(path: str, copies: List[Copy], is_whole: bool) -> None:
     """Says why a file wasn't restored."""
     kind = "manifest" if path.startswith("data/") else "tagmanifest"
@@ -148,7 +191,7 @@ def restored(
         while True:
             report = check(bag, Asked())
             count, missing = by_digests(place, report, copies, kept, done)
-            if count:
+            if count or by_tag_manifest(place, report, copies, kept):
                 continue
             for path in missing:
                 say_missing(path, copies, is_whole)

@@ -1,4 +1,5 @@
 """Copies of a bag: how far they can be read, and what is found in them."""
+import hashlib
 import io
 import os
 import tarfile
@@ -119,6 +120,20 @@ class Copies(InAFolder):
                 self.assertFalse(os.path.lexists(new))
             self.assertEqual(copy.others, {"b": ["md5"]})
             self.assertEqual(copy.unread, set())
+
+    def test_each_file_of_a_tar_at_a_path(self) -> None:
+        self.at("bag/data/x", b"a")
+        with tarfile.open(self.folder / "bag.tar", "w") as tar:
+            tar.add(self.folder / "bag", "./bag")
+            tar.add(self.at("empty", b""), "other/data/x")
+        empty, a = [{"md5": hashlib.md5(it).hexdigest()} for it in (b"", b"a")]
+        both = {**a, "sha1": hashlib.sha1(b"a").hexdigest()}
+        new = str(self.folder / "new")
+        (copy,) = self.copies("bag.tar")
+        for sums in empty, a, both:
+            self.assertTrue(copy.has("data/x", sums, new))
+            os.unlink(new)
+        self.assertFalse(copy.has("data/x", {"md5": "0" * 32}, new))
 
     def test_tag_files_that_differ(self) -> None:
         self.at("bag/bagit.txt", b"")
