@@ -377,6 +377,11 @@ def hostile_tars():
     refused(HERE / "h.tar", "has a header of")
     (HERE / "h.tar").write_bytes(b"no archive" * 100)
     refused(HERE / "h.tar", "can't be read")
+    for content in b"", b"%PDF-1.7" * 100, b"7z\xbc\xaf\x27\x1c" + bytes(600):
+        (HERE / "other.pdf").write_bytes(content)
+        refused(HERE / "other.pdf", "is refused: it is not a folder, .tar or .zip")
+        pack("gzip", "-kf", "other.pdf")
+        refused(HERE / "other.pdf.gz", "is refused: it is not a folder, .tar or .zip")
     os.mkfifo("pipe")
     ends(3, "receive", "pipe", new_store(), says="neither a file nor a folder")
 

@@ -23,6 +23,7 @@ from .messages import first_line
 MOST_TIMES = 1000
 TOO_DENSE = f"it is compressed more than {MOST_TIMES:,} times"
 AFTER_END = "something comes after its end"
+OTHER = "it is not a folder, .tar or .zip"
 
 BROKEN = (
     tarfile.TarError, zipfile.BadZipFile, zlib.error, LZMAError, struct.error,
@@ -69,6 +70,20 @@ def form_of(file: IO[bytes]) -> str:
     file.seek(0)
     found = (form for mark, form in FORMS.items() if begin.startswith(mark))
     return next(found, "tar")
+
+
+def may_be_tar(file: IO[bytes]) -> bool:
+    """Whether a file begins as a .tar does: by a header, also a damaged one,
+    or by zeros."""
+    begin = file.read(tarfile.BLOCKSIZE)
+    file.seek(0)
+    if begin[257:262] == b"ustar":
+        return True
+    try:
+        tarfile.TarInfo.frombuf(begin, "utf-8", ANY_BYTES)
+    except tarfile.HeaderError:
+        return len(begin) == tarfile.BLOCKSIZE and not begin.strip(b"\0")
+    return True
 
 
 def run_into(

@@ -13,7 +13,8 @@ from typing import IO, Any, Dict, List, Optional, Sequence, Tuple
 
 from . import receipts, tags
 from .archives import (
-    decompress, form_of, tar_content, understood, zip_content,
+    OTHER, decompress, form_of, may_be_tar, tar_content, understood,
+    zip_content,
 )
 from .bagit import absolute
 from .beside import show
@@ -178,8 +179,11 @@ def content_of(case: Case, work: Work, limits: Limits) -> Content:
             os.symlink(case.path, tar)
         else:
             decompress(case.form, case.file, size, tar)
-        refuse_unread(case, check(tar, Asked()))
         file = case.files.enter_context(open(tar, "rb"))
+        is_named = case.form == "tar" and case.path.endswith(".tar")
+        if not (is_named or may_be_tar(file)):
+            raise Unfit(OTHER)
+        refuse_unread(case, check(tar, Asked()))
         return tar_content(file, limits)
 
 
