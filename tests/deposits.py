@@ -525,6 +525,7 @@ class Server(http.server.SimpleHTTPRequestHandler):
             self.send_response(302)
             self.send_header("Location", self.path.partition("=")[2] or self.path[3:])
             self.end_headers()
+            self.wfile.write(b"moved")
         elif self.path == "/cut":
             self.send_response(200)
             self.end_headers()
@@ -544,9 +545,9 @@ class Server(http.server.SimpleHTTPRequestHandler):
         pass
 
 
-def holey(base, url, path="data/sub/hello", more=""):
+def holey(base, url, path="data/sub/hello", more="", length="-"):
     """A bag that lacks a file."""
-    bag = new_bag(HERE / "holey", {"a": b"a", "sub/hello": b"hello"}, fetched=f"{base}{url} - {path}\n{more}")
+    bag = new_bag(HERE / "holey", {"a": b"a", "sub/hello": b"hello"}, fetched=f"{base}{url} {length} {path}\n{more}")
     (bag / "data/sub/hello").unlink()
     (bag / "data/sub").rmdir()
     return bag
@@ -563,8 +564,8 @@ def fetching():
     base = f"http://127.0.0.1:{server.server_port}"
     allowed = ["--allow", "127.0.0.1"]
 
-    def fetches(status, url, *words, says="", path="data/sub/hello", more=""):
-        bag = holey(base if url.startswith("/") else "", url, path, more)
+    def fetches(status, url, *words, says="", path="data/sub/hello", more="", length="-"):
+        bag = holey(base if url.startswith("/") else "", url, path, more, length)
         before = tree(bag)
         Server.requests.clear()
         answer = ends(status, "fetch", bag, *words, says=says)
@@ -582,7 +583,19 @@ def fetching():
     fetches(2, "/hello", says="--allow doesn't name these hosts: 127.0.0.1")
     fetches(2, "/hello", "--allow", "localhost", says="127.0.0.1")
     fetches(0, "/to/hello", *allowed)
-    fetches(2, f"/to/=http://localhost:{server.server_port}/hello", *allowed, says="hosts: localhost")
+    fetches(2, "/hello", "--allow", "127.0.0.1:80", says=f"hosts: 127.0.0.1:{server.server_port}")
+    elsewhere = f"/to/=http://localhost:{server.server_port}/hello"
+    fetches(3, elsewhere, *allowed, says=f"hosts: localhost:{server.server_port}")
+    fetches(3, f"/to/={base}/hello".replace("127.0.0.1", "localhost"), "--allow", "localhost:80", *allowed, says="hosts: localhost:")
+    for length in "5", "0005", "6", "9" * 5000:
+        fetches(0, "/to/hello", *allowed, length=length)
+    for length in "4", "0":
+        fetches(3, "/hello", *allowed, length=length, says="data/sub/hello wasn't fetched from http://127.0.0.1:")
+        fetches(3, "/endless", *allowed, length=length, says="it is longer than fetch.txt says")
+    for url in "/none", "/other", elsewhere:
+        answer = fetches(0, url, *allowed, more=f"{base}/hello 5 data/sub/hello\n")
+        assert "fetched" not in answer.err, answer
+    fetches(3, "/none", *allowed, more=f"{base}/other - data/sub/hello\n", says="has other bytes at ")
     fetches(3, "/to/to/to/to/to/to/to/to/to/to/to/to/hello", *allowed, says="always elsewhere")
     fetches(3, "/to/=file:///proc/version", *allowed)
     for url in "/other", "/cut":
@@ -609,6 +622,19 @@ def fetching():
     refused(HERE / "holey.tar", "hosts: 127.0.0.1", "--fetch", status=2, receipt=None)
     receipt = accepted(HERE / "holey.tar", whole, "--fetch", *allowed, decision="accepted with remarks")
     assert receipt["remarks"][0] == "files fetched: 1", receipt
+    # One that isn't fetched keeps no other from it.
+    several = {"a": b"a", "b": b"b", "sub/hello": b"hello", "to/other": b"other"}
+    lines = f"{base}/none - data/b\n{base}/hello 5 data/sub/hello\n{base}{elsewhere} - data/to/other\n"
+    lacking = new_bag(HERE / "several", several, fetched=lines)
+    for name in "b", "sub/hello", "to/other":
+        (lacking / "data" / name).unlink()
+    pack("tar", "-cf", "several.tar", "several")
+    answer = ends(3, "fetch", lacking, *allowed, says="hosts: localhost:")
+    assert (lacking / "data/sub/hello").read_bytes() == b"hello" and answer.out.count("601 payload-file-missing") == 2, answer
+    answer = refused(HERE / "several.tar", "hosts: localhost:", "--fetch", *allowed)
+    receipt = receipt_in(HERE / "store", "refused")
+    assert receipt["why"] == "has faults: 2" and receipt["remarks"][0] == "files fetched: 1", receipt
+    assert [it.split(" ")[0] for it in receipt["remarks"][1:3]] == ["data/b", "data/to/other"], receipt
     killed(["fetch", bag, *allowed], bag, lambda: holey(base, "/hello"), lambda: is_valid(bag) and tree(bag) == tree(whole))
     server.shutdown()
 

@@ -258,10 +258,11 @@ def take_in(case: Case, work: Work) -> str:
         raise Refused(f"{case.name} was altered meanwhile", 3)
     os.rename(join(work.at("in"), top), work.at("bag"))
     if case.asked.fetch:
-        kept, case.failed = fetch_into(
+        fetched = fetch_into(
             work.at("bag"), case.asked.allow, limits.bytes, work
         )
-        case.remarks.append(f"files fetched: {kept}")
+        case.failed = fetched.failed
+        case.remarks += [f"files fetched: {fetched.kept}", *fetched.wrong]
     return name
 
 
