@@ -266,6 +266,9 @@ def windows():
     deposit = written_zip("w.zip", members(plain, "\\"))
     refused(deposit, "a backslash: --names, as of cp850")
     accepted(deposit, plain, "--names", "cp437", decision="accepted with remarks")
+    added = [(b"Thumbs.db", b"x"), (b"Desktop.ini", b"x")]
+    receipt = accepted(written_zip("w.zip", members(plain) + added), plain, decision="accepted with remarks")
+    assert receipt["remarks"] == ["set aside Thumbs.db and Desktop.ini: 2"], receipt
     added = [(b"__MACOSX/plain/._a", b"x"), (b".DS_Store", b"x")]
     receipt = accepted(written_zip("w.zip", members(plain) + added), plain, decision="accepted with remarks")
     assert receipt["remarks"] == ["set aside __MACOSX and .DS_Store: 2"], receipt
@@ -273,8 +276,10 @@ def windows():
     deposit = written_zip("w.zip", members(plain, top=False))
     refused(deposit, "--as gives its name")
     accepted(deposit, plain, "--as", "plain", decision="accepted with remarks")
-    refused(written_zip("w.zip", members(plain) + [(b"other/a", b"")]), "--as gives its name")
-    refused(written_zip("w.zip", [(b"plain", b"")]), "--as gives its name")
+    for loose in b"other/a", b"notes.txt":
+        answer = refused(written_zip("w.zip", members(plain) + [(loose, b"")]), "2 (plain, ")
+        assert "ask for one that has" in answer.err and "--as" not in answer.err, answer
+    refused(written_zip("w.zip", [(b"plain", b"")]), "1 (plain)): ask for one that has")
     accepted(written_zip("w.zip", members(plain)), plain, "--as", "other name", name="other name")
     hidden = written_zip("w.zip", [(b".x/" + name.partition(b"/")[2], content) for name, content in members(plain)])
     refused(hidden, ".x is no name for a bag")
@@ -353,7 +358,7 @@ def hostile_tars():
         ("plain/data/A", file, b"b", "", "differ by case"),
         ("plain/data", file, b"b", "", "is there twice"),
         ("plain/data/a", folder, b"", "", "is there twice"),
-        ("evil", file, b"b", "", "--as gives its name"),
+        ("evil", file, b"b", "", "ask for one that has"),
         ("plain/data/b", file, b"b", "", "has faults"),
     ):
         refused(written_tar("h.tar", [(path, kind, content, linked)], bag), says, status=1 if says == "has faults" else 3)

@@ -36,7 +36,8 @@ from .seal import seal_of
 from .serialization import asked_by
 from .usage import number, read
 
-ASIDE = ("__MACOSX", ".DS_Store")
+ASIDE = ("__macosx", ".ds_store", "thumbs.db", "desktop.ini")
+"""What macOS and Windows add at the top, by names in lower case."""
 OF_TARS = {
     "cut-off": "is cut off",
     "damaged": "is damaged",
@@ -202,27 +203,40 @@ def refuse_unread(case: Case, report: BagReport) -> None:
 
 def arrange(case: Case, content: Content) -> Tuple[str, str]:
     """The bag's name, and which folder of the content is the bag: the empty
-    text where that is all. Sets aside what macOS adds."""
+    text where that is all. Sets aside what systems add."""
     if case.file is None:
         return str(case.asked.name or os.path.basename(case.path)), ""
     tops: Dict[str, bool] = {}
-    kept = []
+    kept, aside = [], []
     for it in content.members:
         top, slash, _ = it.path.partition("/")
-        if top not in ASIDE and (it.path or not it.is_folder):
+        if top.lower() in ASIDE:
+            aside.append(top)
+        elif it.path or not it.is_folder:
             kept.append(it)
             tops[top] = tops.get(top, False) or bool(slash) or it.is_folder
-    aside = sum(it.path.partition("/")[0] in ASIDE for it in content.members)
     if aside:
-        case.remarks.append(f"set aside {' and '.join(ASIDE)}: {aside}")
+        names = " and ".join(map(encoded, dict.fromkeys(aside)))
+        case.remarks.append(f"set aside {names}: {len(aside)}")
     content.members = kept
     if len(tops) == 1 and all(tops.values()):
         (top,) = tops
         return str(case.asked.name or top), top
     if case.asked.name is None:
-        raise Unfit("it hasn't one folder at its top: --as gives its name")
+        raise Unfit(why_no_bag(tops))
     case.remarks.append("it has no folder at its top")
     return str(case.asked.name), ""
+
+
+def why_no_bag(tops: Dict[str, bool]) -> str:
+    """What to do about a deposit that hasn't one folder at its top."""
+    text = "it hasn't one folder at its top"
+    if not tops:
+        return "it has no files"
+    if tops.get("bagit.txt") is False:
+        return f"{text}: --as gives its name"
+    names = receipts.text_of(("files and folders there", list(tops)))
+    return f"{text} ({names}): ask for one that has"
 
 
 def compare_digest(case: Case) -> None:

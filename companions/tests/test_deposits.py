@@ -34,12 +34,20 @@ class Folders(unittest.TestCase):
         self.assertEqual(arranged("b/", "b/a"), ("b", "b"))
         self.assertEqual(arranged("b/a"), ("b", "b"))
         self.assertEqual(arranged("b/a", name="c"), ("c", "b"))
-        found = arranged("b/a", "__MACOSX/b/._a", ".DS_Store")
+        found = arranged("b/a", "__MACOSX/b/._a", ".DS_Store", "Thumbs.db")
         self.assertEqual(found, ("b", "b"))
 
     def test_none_or_several(self) -> None:
-        for paths in ("a", "b/c"), ("a/b", "c/d"), ("a",), ("__MACOSX/a",):
-            with self.assertRaisesRegex(Unfit, "--as"):
+        for says, *paths in (
+            (r"top \(files and folders there: 2 \(a, b\)\)", "a", "b/c"),
+            ("2 .*: ask for one", "a/b", "c/d"),
+            ("1 .*: ask for one", "a"),
+            ("it has no files", "__MACOSX/a"),
+            ("ask for one", "a/bagit.txt", "Thumbs.db/a", "b"),
+            ("ask for one", "bagit.txt/a", "b"),
+            ("--as gives its name", "bagit.txt", "data/a"),
+        ):
+            with self.assertRaisesRegex(Unfit, says):
                 arranged(*paths)
             self.assertEqual(arranged(*paths, name="n"), ("n", ""))
 
