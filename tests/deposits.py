@@ -503,16 +503,16 @@ def profiles():
                "Accept-Serialization": ["application/zip"]}
     Path("p.json").write_text(json.dumps(profile))
     accepted(HERE / "deposit.zip", bag, "--profile", "p.json")
-    refused(HERE / "deposit.tar", "the profile accepts application/zip", "--profile", "p.json", status=1)
+    refused(HERE / "deposit.tar", "the profile accepts application/zip", "--profile", "p.json")
     refused(bag, "813 serialization-required", "--profile", "p.json", status=1)
     Path("p.json").write_text(json.dumps({**profile, "Serialization": "forbidden"}))
-    refused(HERE / "deposit.zip", "allows no archive file", "--profile", "p.json", status=1)
+    refused(HERE / "deposit.zip", "allows no archive file", "--profile", "p.json")
     receipt = accepted(bag, bag, "--profile", "p.json", decision="accepted with remarks")
     assert receipt["profile_not_checked"] == ["Accept-Serialization"], receipt
     assert receipt["remarks"] == ["keys of the profile that weren't checked: 1 (Accept-Serialization)"], receipt
     Path("p.json").write_text(json.dumps({**profile, "Data-Empty": True, "Bag-Info": {"Contact-Name": {"required": True}}}))
     refused(HERE / "deposit.zip", "802 label-required", "--profile", "p.json", status=1)
-    ends(1, "send", bag, "x.tar", "--profile", "p.json", says="the profile accepts application/zip")
+    ends(3, "send", bag, "x.tar", "--profile", "p.json", says="the profile accepts application/zip")
     Path("p.json").write_text(json.dumps({**profile, "Accept-Serialization": ["application/x-tar"], "Data-Empty": True}))
     ends(0, "send", bag, "x.tar", "--profile", "p.json")
     Path("p.json").write_text("{}")
