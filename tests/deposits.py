@@ -319,6 +319,11 @@ def hostile_zips():
     for content in whole + b"x", whole[:-1], whole[:len(whole) // 2], whole[:40], b"", b"7z\xbc\xaf\x27\x1c" + bytes(600):
         (HERE / "h.zip").write_bytes(content)
         refused(HERE / "h.zip", "")
+    # Two files in one, of which readers take the second; also by offsets that count from where it begins.
+    for fix in "true", "zip":
+        (HERE / "two.zip").write_bytes(whole + whole)
+        pack(fix, "-Aq", "two.zip")
+        refused(HERE / "two.zip", "something stands before the archive's first member")
     at = whole.index(b"a", whole.index(b"plain/data/a") + 12)
     (HERE / "h.zip").write_bytes(whole[:at] + b"b" + whole[at + 1:])
     refused(HERE / "h.zip", "Bad CRC-32")

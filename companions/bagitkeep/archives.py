@@ -23,6 +23,7 @@ from .messages import first_line
 MOST_TIMES = 1000
 TOO_DENSE = f"it is compressed more than {MOST_TIMES:,} times"
 AFTER_END = "something comes after its end"
+BEFORE_BEGIN = "something stands before the archive's first member"
 OTHER = "it is not a folder, .tar or .zip"
 
 BROKEN = (
@@ -179,6 +180,8 @@ def zip_content(
     if file.read(4) != b"PK\5\6":
         raise Unfit(AFTER_END)
     infos = packed.infolist()
+    if min([it.header_offset for it in infos], default=packed.start_dir) != 0:
+        raise Unfit(BEFORE_BEGIN)
     refuse_overlaps(infos)
     if sum(it.file_size for it in infos) > size * MOST_TIMES:
         raise Unfit(TOO_DENSE)

@@ -12,6 +12,7 @@ from bagitkeep.archives import (
     form_of,
     may_be_tar,
     tar_content,
+    zip_content,
     zip_name,
 )
 from bagitkeep.files import digests_of
@@ -121,6 +122,23 @@ class Zips(unittest.TestCase):
         self.assertEqual(self.name(b"a\\b"), "a\\b")
         with self.assertRaisesRegex(Unfit, "--names"):
             self.name(b"\x81")
+
+    def test_one_begins_with_its_first_member(self) -> None:
+        out = io.BytesIO()
+        with zipfile.ZipFile(out, "w") as packed:
+            empty = io.BytesIO()
+            zipfile.ZipFile(empty, "w").close()
+            packed.writestr("bag/a", b"a")
+        for whole, count in (out.getvalue(), 1), (empty.getvalue(), 0):
+            def found(content: bytes) -> Content:
+                limits = Limits(MANY, MANY)
+                file = io.BytesIO(content)
+                return zip_content(file, len(content), None, limits)
+
+            self.assertEqual(len(found(whole).members), count)
+            for before in whole, out.getvalue(), b"x":
+                with self.assertRaisesRegex(Unfit, "before the archive"):
+                    found(before + whole)
 
 
 class Others(unittest.TestCase):
