@@ -283,6 +283,9 @@ def windows():
     accepted(written_zip("w.zip", members(plain)), plain, "--as", "other name", name="other name")
     hidden = written_zip("w.zip", [(b".x/" + name.partition(b"/")[2], content) for name, content in members(plain)])
     refused(hidden, ".x is no name for a bag")
+    option = written_zip("w.zip", [(b"-rf/" + name.partition(b"/")[2], content) for name, content in members(plain)])
+    refused(option, "-rf is no name for a bag: --as gives another")
+    accepted(option, plain, "--as", "rf", name="rf")
 
 
 def hostile_zips():
@@ -452,7 +455,7 @@ def folders_and_arguments():
         ["deposit", "deposit/data"], ["deposit", "deposit"], ["deposit", store, "--digest", f"sha512:{digest}"],
         ["deposit.tar", store, "--digest", "sha512:12"], ["deposit.tar", store, "--digest", digest],
         ["deposit", store, "--names", "no-encoding"], ["deposit", store, "--names", "hex"], ["deposit", store, "--as", "a/b"],
-        ["deposit", store, "--as", ".."], ["deposit", store, "--as", ".a"], ["deposit", store, "--allow", "localhost"],
+        ["deposit", store, "--as", ".."], ["deposit", store, "--as", ".a"], ["deposit", store, "--as=-a"], ["deposit", store, "--allow", "localhost"],
         ["deposit", store, "--max-bytes", "-1"], ["deposit", store, "--receipt", "r.html"], ["deposit", store, "--other"],
     ):
         ends(2, "receive", *words)

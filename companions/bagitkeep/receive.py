@@ -115,8 +115,13 @@ def encoding_of(word: str) -> str:
     return word
 
 
+def is_name(name: str) -> bool:
+    """Whether a bag may have this name: it isn't hidden, nor an option."""
+    return not name.startswith((".", "-")) and name.isprintable()
+
+
 def folder_name_of(word: str) -> str:
-    if word.startswith(".") or "/" in word or not word.isprintable():
+    if "/" in word or not is_name(word):
         raise argparse.ArgumentTypeError(f"no name for a bag: {word}")
     return word
 
@@ -259,7 +264,7 @@ def take_in(case: Case, work: Work) -> str:
     name, top = arrange(case, content)
     if case.file is not None:
         refuse_twice(content.members)
-    if name.startswith(".") or not name.isprintable():
+    if not is_name(name):
         raise Unfit(
             f"{encoded(name)} is no name for a bag: --as gives another"
         )
