@@ -1044,7 +1044,14 @@ class EachAlone(Life):
         os.chmod(".", 0o755)
         for name in "x", "y":
             os.chmod(f"d/data/{name}", 0)
-        self.ends(0, "restore", "d", "--from", "copy", user=NOBODY)
+        os.chmod("copy/data/x", 0)
+        said = self.ends(3, "restore", "d", "--from", "copy", user=NOBODY).said
+        self.assertIn("copy: data/x isn't read: ", said)
+        self.assertNotIn("no copy has", said)
+        os.chmod("copy/data/x", 0o644)
+        os.mkdir("closed", 0)
+        said = self.ends(0, "restore", "d", "--from", "closed", "--from", "copy", user=NOBODY).said
+        self.assertIn("closed isn't used: Permission denied", said)
         self.assertEqual(content_of("d"), before)
 
 

@@ -20,7 +20,7 @@ NO_FILE = {0, errno.ELOOP, errno.EISDIR}
 """The errors where something is there, and is no file."""
 
 Sums = Dict[str, str]
-"""The digests of a file, by algorithms."""
+"""The digests of a file, by algorithms, or of files, by paths."""
 
 Members = Dict[str, List[tarfile.TarInfo]]
 """What a .tar has, by paths in the bag."""
@@ -165,10 +165,9 @@ def copies_at(paths: Sequence[str], stack: ExitStack) -> List[Copy]:
     return copies
 
 
-def differences(bag: str, copy: Copy) -> Iterator[str]:
-    """What a copy's tag files have that a bag's haven't, or the reverse, by
-    their bytes alone."""
-    sums = {os.fsdecode(path): sum for path, sum in sums_of(bag).items()}
+def differences(sums: Sums, copy: Copy) -> Iterator[str]:
+    """How a copy's tag files differ from those of a bag, which have these
+    SHA-512, by their paths."""
     name, theirs = shown(copy.path), copy.tag_files()
     for path in sorted({*sums, *theirs}):
         if path not in sums:
@@ -180,10 +179,11 @@ def differences(bag: str, copy: Copy) -> Iterator[str]:
 
 
 def say_differences(bag: str, copies: List[Copy]) -> None:
-    """Says them for each copy."""
+    """Says how the tag files of copies differ from a bag's."""
+    sums = {os.fsdecode(path): sum for path, sum in sums_of(bag).items()}
     for copy in copies:
         try:
-            for text in differences(bag, copy):
+            for text in differences(sums, copy):
                 say(text)
         except (*BROKEN, OSError) as error:
             say(f"{shown(copy.path)} isn't compared: {error}")

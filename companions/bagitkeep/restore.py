@@ -11,7 +11,7 @@ from .beside import Beside, Faulty, checked, folder_of, kept_of, show
 from .copies import Copy, Sums, copies_at, say_differences
 from .errors import BagError
 from .files import sync_folder, write_synced
-from .lines import encoded
+from .lines import Fault, encoded
 from .mending import fits, is_old
 from .messages import Refused, explained, say, shown
 from .program import Asked
@@ -122,6 +122,12 @@ def by_digests(
     return 0, missing
 
 
+def is_of(fault: Fault, name: str, algorithm: str) -> bool:
+    """Whether a fault is of this tag manifest, or was found by it."""
+    is_by_it = fault.code in (602, 702) and fault.algorithm == algorithm
+    return is_by_it or fault.path == name
+
+
 def tag_manifests(
     bag: str, report: BagReport, copies: List[Copy]
 ) -> Iterator[Tuple[str, Copy, bytes, float]]:
@@ -130,28 +136,29 @@ def tag_manifests(
     old = is_old(bag)
     for algorithm, path in manifests_in(bag, True).items():
         name, seen = basename(path), [content_of(path)]
-        if report.status == 1 and any(
-            it.path == name
-            or it.code in (602, 702) and it.algorithm == algorithm
-            for it in report.faults
-        ):
-            for copy in copies:
-                for content, time in copy.contents(name):
-                    if content not in seen and fits(
-                        bag, algorithm, seen[0], content, old
-                    ):
-                        yield name, copy, content, time
-                    seen.append(content)
+        if not any(is_of(it, name, algorithm) for it in report.faults):
+            continue
+        for copy in copies:
+            for content, time in copy.contents(name):
+                is_new = content not in seen
+                seen.append(content)
+                if is_new and fits(bag, algorithm, seen[0], content, old):
+                    yield name, copy, content, time
 
 
 def by_tag_manifest(
-    place: Beside, report: BagReport, copies: List[Copy], kept: str
+    place: Beside, report: BagReport, copies: List[Copy], kept: str,
+    done: Set[str],
 ) -> bool:
     """Takes a tag manifest of a copy, if a full check of the bag with it
-    finds fewer faults."""
+    finds fewer faults. Each is taken once."""
+    if report.status != 1:
+        return False
     for name, copy, content, time in tag_manifests(
         place.bag, report, copies
     ):
+        if name in done:
+            continue
         place.clear()
         place.note()
         os.mkdir(place.work)
@@ -161,6 +168,7 @@ def by_tag_manifest(
         os.utime(new, (time, time))
         tried = check(place.work, Asked())
         if tried.unread is None and len(tried.faults) < len(report.faults):
+            done.add(name)
             return put_all(place.bag, {name: (new, copy.path)}, kept) > 0
     return False
 
@@ -191,7 +199,7 @@ def restored(
         while True:
             report = check(bag, Asked())
             count, missing = by_digests(place, report, copies, kept, done)
-            if count or by_tag_manifest(place, report, copies, kept):
+            if count or by_tag_manifest(place, report, copies, kept, done):
                 continue
             for path in missing:
                 say_missing(path, copies, is_whole)

@@ -13,6 +13,7 @@ from unittest.mock import patch
 from bagitkeep import copies
 from bagitkeep.archives import wrong_end
 from bagitkeep.copies import Copy, copies_at, differences
+from bagitkeep.seal import sums_of
 
 ABC = {"md5": "900150983cd24fb0d6963f7d28e17f72"}  # RFC 1321, A.5
 
@@ -142,9 +143,10 @@ class Copies(InAFolder):
         self.at("bag/data/c", b"c")
         self.at("a.tar", tar_of({"bagit.txt": b"", "in/a": b"a", "c": b""}))
         self.at("cut.tar", tar_of({"bagit.txt": b""})[:512])
-        bag = str(self.folder / "bag")
-        found = self.copies("bag", "a.tar", "cut.tar")
-        said = [list(differences(bag, it)) for it in found]
+        found = sums_of(str(self.folder / "bag"))
+        sums = {os.fsdecode(path): sum for path, sum in found.items()}
+        copies = self.copies("bag", "a.tar", "cut.tar")
+        said = [list(differences(sums, it)) for it in copies]
         tar = f"{self.folder}/a.tar has"
         wanted = [
             f"{tar} c, and the bag hasn't",
