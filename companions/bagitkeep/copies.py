@@ -144,7 +144,7 @@ def copy_at(path: str) -> Iterator[Copy]:
             copy.members, copy.why = members_of(tar, file)
             names = {it.partition("/")[0] for it in copy.members}
         if not names & {"bagit.txt", "data"}:
-            raise BagError(copy.why or "no bag: it has no bagit.txt, no data")
+            raise BagError(copy.why or "it has neither bagit.txt nor data")
         yield copy
 
 
