@@ -341,6 +341,7 @@ class Restores(Scenario):
         self.good = content_of("d")
         Path("d/data/b").write_bytes(b"B")
         Path("d/manifest-md5.txt").write_bytes(b"no manifest\n")
+        Path("d/tagmanifest-sha256.txt").write_bytes(self.good["tagmanifest-sha256.txt"].replace(b" bag-info.txt", b" bag-inbo.txt"))
         os.unlink("d/bagit.txt")
         shutil.rmtree("d/data/in")
         for name in self.names:
@@ -900,7 +901,8 @@ class EachAlone(Life):
         os.symlink("../../d/data/in/deep/file", "link/data/better")
         os.unlink("d/data/gone")
         ended = self.ends(1, "restore", "d", "--from", "copy", "--from", "link")
-        self.assertIn("no copy has data/better", ended.said)
+        self.assertIn("copy: data/better doesn't have the digest that manifest-md5.txt gives", ended.said)
+        self.assertNotIn("no copy has", ended.said)
         self.assertEqual((self.payload("d")["better"], self.payload("d")["gone"]), (b"bettex of d", b"gone of d"))
         self.assertEqual([it for it in os.listdir() if it.startswith("d.")], [])
         for words in ["d"], ["d", "--from", "d"], ["d", "--from", "nowhere"], ["d", "--from", "d/bagit.txt"], ["nowhere", "--from", "d"]:
@@ -917,6 +919,108 @@ class EachAlone(Life):
         Path("cut.tar").write_bytes(whole[: size // 2 + 100])
         self.run_it("restore", "d", "--from", "cut.tar")
         self.ends(0, "restore", "d", "--from", "cut.tar", "--from", "copy.tar")
+        self.assertEqual(content_of("d"), before)
+
+    def test_restores_a_tag_manifest(self):
+        """The bag's is damaged in a byte, and a copy's fits what is there."""
+        files = self.new_bag("d", ["x"])
+        shutil.copytree("d", "copy")
+        with tarfile.open("copy.tar", "w") as tar:
+            tar.add("copy")
+        name = "tagmanifest-sha256.txt"
+        good = files[name]
+        at = good.index(b"  bag-info.txt")
+        other = b"1" if good[at - 1:at] == b"0" else b"0"
+        for damaged in (
+            good[:at - 1] + other + good[at:], good[:at - 1] + b"x" + good[at:], good[:at - 1] + good[at:], good[:at] + b"\xff" + good[at:],
+            good.replace(b"bag-info", b"bag-inbo"), good.replace(b" manifest-md5", b" manifest-md4"), b"",
+        ):
+            for copy in "copy", "copy.tar":
+                Path("d", name).write_bytes(damaged)
+                self.assertIn(f"{name} is now that of {copy}\n", self.ends(0, "restore", "d", "--from", copy).said)
+                self.assertEqual(content_of("d"), files)
+                (kept,) = [it for it in os.listdir() if ".kept." in it]
+                self.assertEqual(content_of(kept), {name: damaged})
+                shutil.rmtree(kept)
+
+    def test_a_tag_manifest_hides_no_damage(self):
+        """None is taken that gives other digests than the tag files have, or names less."""
+        files = self.new_bag("d", ["x"])
+        others = {path: it for path, it in files.items() if "manifest-" not in path}
+        self.write("edited", {**others, "bag-info.txt": b"Contact-Name: Eve\n"})
+        self.write("less", {path: it for path, it in others.items() if path != "meta/notes.xml"})
+        for name in "edited", "less":
+            os.unlink(f"{name}/bag-info.txt")
+        copies = ["--from", "edited", "--from", "less"]
+        Path("d/tagmanifest-md5.txt").unlink()
+        sha = files["tagmanifest-sha256.txt"]
+        was = digest(files["bag-info.txt"], "sha256").encode()
+        Path("d/tagmanifest-sha256.txt").write_bytes(sha.replace(was, was[::-1]))
+        self.assertIn("no copy has bag-info.txt", self.refused(1, "restore", "d", *copies).said)
+        shutil.copytree("less", "edited", dirs_exist_ok=True)
+        Path("edited/bag-info.txt").write_bytes(b"Contact-Name: Eve\n")
+        said = self.refused(1, "restore", "d", "--from", "edited").said
+        self.assertIn("edited: bag-info.txt doesn't have the digest that tagmanifest-sha256.txt gives", said)
+        self.assertNotIn("no copy has", said)
+        for path in "meta/notes.xml", "bag-info.txt":
+            Path("d/tagmanifest-sha256.txt").write_bytes(sha)
+            old = Path("d", path).read_bytes()
+            for content in b"damaged", None:
+                Path("d", path).unlink() if content is None else Path("d", path).write_bytes(content)
+                self.refused(1, "restore", "d", "--from", "less")
+            Path("d", path).write_bytes(old)
+
+    def test_says_how_a_valid_bag_differs_from_copies(self):
+        files = self.new_bag("d", ["x"])
+        shutil.copytree("d", "copy")
+        self.assertEqual(self.refused(0, "restore", "d", "--from", "copy").said, "")
+        shutil.rmtree("d")
+        files = {path: it for path, it in files.items() if "manifest-" not in path}
+        del files["meta/notes.xml"]
+        self.write("d", {**files, "bag-info.txt": b"Contact-Name: Eve\n", "new": b""}, ["sha256"])
+        with tarfile.open("copy.tar", "w") as tar:
+            tar.add("copy")
+        for name in "copy", "copy.tar":
+            ended = self.refused(0, "restore", "d", "--from", name)
+            self.assertTrue(ended.out.endswith("/d is valid\n"))
+            says = ["another bag-info.txt", "manifest-md5.txt, and the bag hasn't", "meta/notes.xml, and the bag hasn't", "no new"]
+            says += ["tagmanifest-md5.txt, and the bag hasn't", "another tagmanifest-sha256.txt"]
+            self.assertEqual(ended.said.splitlines(), [f"bagit-keep: {name} has {it}" for it in says])
+        with tarfile.open("damaged.tar", "w") as tar:
+            tar.add("copy/data", "copy/data")
+        Path("damaged.tar").write_bytes(Path("damaged.tar").read_bytes().rstrip(b"\0"))
+        said = self.refused(0, "restore", "d", "--from", "damaged.tar").said
+        self.assertEqual((said.count("\n"), "isn't read whole" in said), (1, True), said)
+
+    def test_restores_out_of_the_copies_that_can_be_read(self):
+        before = self.new_bag("d", ["x", "y"])
+        for copy in "copy", "less":
+            shutil.copytree("d", copy)
+        with tarfile.open("copy.tar", "w") as tar:
+            tar.add("d")
+        with tarfile.open("copy.tar") as tar:
+            at = tar.getmember("d/data/y").offset
+        os.makedirs("no-bag/in")
+        Path("file.pdf").write_bytes(b"%PDF-1.7")
+        unusable = ["--from=nowhere", "--from=no-bag", "--from=file.pdf", "--from=d/bagit.txt"]
+        for name in "d", "less":
+            os.unlink(f"{name}/data/y")
+        whole = Path("copy.tar").read_bytes()
+        for begin, why in (whole[:at] + b"\xff", "damaged"), (whole[:at] + bytes(512), "after its end"), (whole[:at], "cut off"):
+            Path("damaged.tar").write_bytes(begin + whole[len(begin):] * (why != "cut off"))
+            said = self.refused(3, "restore", "d", "--from", "damaged.tar").said
+            self.assertIn("damaged.tar isn't read whole: ", said)
+            self.assertIn(why, said)
+            self.assertIn("data/y isn't in what could be read of the copies", said)
+            self.assertNotIn("no copy has", said)
+        for words in unusable, unusable[:1]:
+            self.refused(2, "restore", "d", *words)
+        said = self.refused(3, "restore", "d", *unusable, "--from", "less").said
+        self.assertIn("data/y isn't in what could be read of the copies", said)
+        self.assertIn("no copy has data/y", self.refused(1, "restore", "d", "--from", "less").said)
+        ended = self.ends(0, "restore", "d", *unusable, "--from", "damaged.tar", "--from", "copy")
+        for word in unusable:
+            self.assertIn(f"{word[7:]} isn't used: ", ended.said)
         self.assertEqual(content_of("d"), before)
 
     def test_restores_into_no_other_place(self):
@@ -947,7 +1051,14 @@ class EachAlone(Life):
         os.chmod(".", 0o755)
         for name in "x", "y":
             os.chmod(f"d/data/{name}", 0)
-        self.ends(0, "restore", "d", "--from", "copy", user=NOBODY)
+        os.chmod("copy/data/x", 0)
+        said = self.ends(3, "restore", "d", "--from", "copy", user=NOBODY).said
+        self.assertIn("copy: data/x isn't read: ", said)
+        self.assertNotIn("no copy has", said)
+        os.chmod("copy/data/x", 0o644)
+        os.mkdir("closed", 0)
+        said = self.ends(0, "restore", "d", "--from", "closed", "--from", "copy", user=NOBODY).said
+        self.assertIn("closed isn't used: Permission denied", said)
         self.assertEqual(content_of("d"), before)
 
 

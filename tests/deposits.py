@@ -266,6 +266,9 @@ def windows():
     deposit = written_zip("w.zip", members(plain, "\\"))
     refused(deposit, "a backslash: --names, as of cp850")
     accepted(deposit, plain, "--names", "cp437", decision="accepted with remarks")
+    added = [(b"Thumbs.db", b"x"), (b"Desktop.ini", b"x")]
+    receipt = accepted(written_zip("w.zip", members(plain) + added), plain, decision="accepted with remarks")
+    assert receipt["remarks"] == ["set aside Thumbs.db and Desktop.ini: 2"], receipt
     added = [(b"__MACOSX/plain/._a", b"x"), (b".DS_Store", b"x")]
     receipt = accepted(written_zip("w.zip", members(plain) + added), plain, decision="accepted with remarks")
     assert receipt["remarks"] == ["set aside __MACOSX and .DS_Store: 2"], receipt
@@ -273,11 +276,16 @@ def windows():
     deposit = written_zip("w.zip", members(plain, top=False))
     refused(deposit, "--as gives its name")
     accepted(deposit, plain, "--as", "plain", decision="accepted with remarks")
-    refused(written_zip("w.zip", members(plain) + [(b"other/a", b"")]), "--as gives its name")
-    refused(written_zip("w.zip", [(b"plain", b"")]), "--as gives its name")
+    for loose in b"other/a", b"notes.txt":
+        answer = refused(written_zip("w.zip", members(plain) + [(loose, b"")]), "2 (plain, ")
+        assert "ask for one that has" in answer.err and "--as" not in answer.err, answer
+    refused(written_zip("w.zip", [(b"plain", b"")]), "1 (plain)): ask for one that has")
     accepted(written_zip("w.zip", members(plain)), plain, "--as", "other name", name="other name")
     hidden = written_zip("w.zip", [(b".x/" + name.partition(b"/")[2], content) for name, content in members(plain)])
     refused(hidden, ".x is no name for a bag")
+    option = written_zip("w.zip", [(b"-rf/" + name.partition(b"/")[2], content) for name, content in members(plain)])
+    refused(option, "-rf is no name for a bag: --as gives another")
+    accepted(option, plain, "--as", "rf", name="rf")
 
 
 def hostile_zips():
@@ -314,6 +322,11 @@ def hostile_zips():
     for content in whole + b"x", whole[:-1], whole[:len(whole) // 2], whole[:40], b"", b"7z\xbc\xaf\x27\x1c" + bytes(600):
         (HERE / "h.zip").write_bytes(content)
         refused(HERE / "h.zip", "")
+    # Two files in one, of which readers take the second; also by offsets that count from where it begins.
+    for fix in "true", "zip":
+        (HERE / "two.zip").write_bytes(whole + whole)
+        pack(fix, "-Aq", "two.zip")
+        refused(HERE / "two.zip", "something stands before the archive's first member")
     at = whole.index(b"a", whole.index(b"plain/data/a") + 12)
     (HERE / "h.zip").write_bytes(whole[:at] + b"b" + whole[at + 1:])
     refused(HERE / "h.zip", "Bad CRC-32")
@@ -353,7 +366,7 @@ def hostile_tars():
         ("plain/data/A", file, b"b", "", "differ by case"),
         ("plain/data", file, b"b", "", "is there twice"),
         ("plain/data/a", folder, b"", "", "is there twice"),
-        ("evil", file, b"b", "", "--as gives its name"),
+        ("evil", file, b"b", "", "ask for one that has"),
         ("plain/data/b", file, b"b", "", "has faults"),
     ):
         refused(written_tar("h.tar", [(path, kind, content, linked)], bag), says, status=1 if says == "has faults" else 3)
@@ -377,6 +390,11 @@ def hostile_tars():
     refused(HERE / "h.tar", "has a header of")
     (HERE / "h.tar").write_bytes(b"no archive" * 100)
     refused(HERE / "h.tar", "can't be read")
+    for content in b"", b"%PDF-1.7" * 100, b"7z\xbc\xaf\x27\x1c" + bytes(600):
+        (HERE / "other.pdf").write_bytes(content)
+        refused(HERE / "other.pdf", "is refused: it is not a folder, .tar or .zip")
+        pack("gzip", "-kf", "other.pdf")
+        refused(HERE / "other.pdf.gz", "is refused: it is not a folder, .tar or .zip")
     os.mkfifo("pipe")
     ends(3, "receive", "pipe", new_store(), says="neither a file nor a folder")
 
@@ -437,7 +455,7 @@ def folders_and_arguments():
         ["deposit", "deposit/data"], ["deposit", "deposit"], ["deposit", store, "--digest", f"sha512:{digest}"],
         ["deposit.tar", store, "--digest", "sha512:12"], ["deposit.tar", store, "--digest", digest],
         ["deposit", store, "--names", "no-encoding"], ["deposit", store, "--names", "hex"], ["deposit", store, "--as", "a/b"],
-        ["deposit", store, "--as", ".."], ["deposit", store, "--as", ".a"], ["deposit", store, "--allow", "localhost"],
+        ["deposit", store, "--as", ".."], ["deposit", store, "--as", ".a"], ["deposit", store, "--as=-a"], ["deposit", store, "--allow", "localhost"],
         ["deposit", store, "--max-bytes", "-1"], ["deposit", store, "--receipt", "r.html"], ["deposit", store, "--other"],
     ):
         ends(2, "receive", *words)
@@ -493,16 +511,16 @@ def profiles():
                "Accept-Serialization": ["application/zip"]}
     Path("p.json").write_text(json.dumps(profile))
     accepted(HERE / "deposit.zip", bag, "--profile", "p.json")
-    refused(HERE / "deposit.tar", "the profile accepts application/zip", "--profile", "p.json", status=1)
+    refused(HERE / "deposit.tar", "the profile accepts application/zip", "--profile", "p.json")
     refused(bag, "813 serialization-required", "--profile", "p.json", status=1)
     Path("p.json").write_text(json.dumps({**profile, "Serialization": "forbidden"}))
-    refused(HERE / "deposit.zip", "allows no archive file", "--profile", "p.json", status=1)
+    refused(HERE / "deposit.zip", "allows no archive file", "--profile", "p.json")
     receipt = accepted(bag, bag, "--profile", "p.json", decision="accepted with remarks")
     assert receipt["profile_not_checked"] == ["Accept-Serialization"], receipt
     assert receipt["remarks"] == ["keys of the profile that weren't checked: 1 (Accept-Serialization)"], receipt
     Path("p.json").write_text(json.dumps({**profile, "Data-Empty": True, "Bag-Info": {"Contact-Name": {"required": True}}}))
     refused(HERE / "deposit.zip", "802 label-required", "--profile", "p.json", status=1)
-    ends(1, "send", bag, "x.tar", "--profile", "p.json", says="the profile accepts application/zip")
+    ends(3, "send", bag, "x.tar", "--profile", "p.json", says="the profile accepts application/zip")
     Path("p.json").write_text(json.dumps({**profile, "Accept-Serialization": ["application/x-tar"], "Data-Empty": True}))
     ends(0, "send", bag, "x.tar", "--profile", "p.json")
     Path("p.json").write_text("{}")
@@ -520,6 +538,7 @@ class Server(http.server.SimpleHTTPRequestHandler):
             self.send_response(302)
             self.send_header("Location", self.path.partition("=")[2] or self.path[3:])
             self.end_headers()
+            self.wfile.write(b"moved")
         elif self.path == "/cut":
             self.send_response(200)
             self.end_headers()
@@ -539,9 +558,9 @@ class Server(http.server.SimpleHTTPRequestHandler):
         pass
 
 
-def holey(base, url, path="data/sub/hello", more=""):
+def holey(base, url, path="data/sub/hello", more="", length="-"):
     """A bag that lacks a file."""
-    bag = new_bag(HERE / "holey", {"a": b"a", "sub/hello": b"hello"}, fetched=f"{base}{url} - {path}\n{more}")
+    bag = new_bag(HERE / "holey", {"a": b"a", "sub/hello": b"hello"}, fetched=f"{base}{url} {length} {path}\n{more}")
     (bag / "data/sub/hello").unlink()
     (bag / "data/sub").rmdir()
     return bag
@@ -558,8 +577,8 @@ def fetching():
     base = f"http://127.0.0.1:{server.server_port}"
     allowed = ["--allow", "127.0.0.1"]
 
-    def fetches(status, url, *words, says="", path="data/sub/hello", more=""):
-        bag = holey(base if url.startswith("/") else "", url, path, more)
+    def fetches(status, url, *words, says="", path="data/sub/hello", more="", length="-"):
+        bag = holey(base if url.startswith("/") else "", url, path, more, length)
         before = tree(bag)
         Server.requests.clear()
         answer = ends(status, "fetch", bag, *words, says=says)
@@ -577,7 +596,19 @@ def fetching():
     fetches(2, "/hello", says="--allow doesn't name these hosts: 127.0.0.1")
     fetches(2, "/hello", "--allow", "localhost", says="127.0.0.1")
     fetches(0, "/to/hello", *allowed)
-    fetches(2, f"/to/=http://localhost:{server.server_port}/hello", *allowed, says="hosts: localhost")
+    fetches(2, "/hello", "--allow", "127.0.0.1:80", says=f"hosts: 127.0.0.1:{server.server_port}")
+    elsewhere = f"/to/=http://localhost:{server.server_port}/hello"
+    fetches(3, elsewhere, *allowed, says=f"hosts: localhost:{server.server_port}")
+    fetches(3, f"/to/={base}/hello".replace("127.0.0.1", "localhost"), "--allow", "localhost:80", *allowed, says="hosts: localhost:")
+    for length in "5", "0005", "6", "9" * 5000:
+        fetches(0, "/to/hello", *allowed, length=length)
+    for length in "4", "0":
+        fetches(3, "/hello", *allowed, length=length, says="data/sub/hello wasn't fetched from http://127.0.0.1:")
+        fetches(3, "/endless", *allowed, length=length, says="it is longer than fetch.txt says")
+    for url in "/none", "/other", elsewhere:
+        answer = fetches(0, url, *allowed, more=f"{base}/hello 5 data/sub/hello\n")
+        assert "fetched" not in answer.err, answer
+    fetches(3, "/none", *allowed, more=f"{base}/other - data/sub/hello\n", says="has other bytes at ")
     fetches(3, "/to/to/to/to/to/to/to/to/to/to/to/to/hello", *allowed, says="always elsewhere")
     fetches(3, "/to/=file:///proc/version", *allowed)
     for url in "/other", "/cut":
@@ -604,6 +635,19 @@ def fetching():
     refused(HERE / "holey.tar", "hosts: 127.0.0.1", "--fetch", status=2, receipt=None)
     receipt = accepted(HERE / "holey.tar", whole, "--fetch", *allowed, decision="accepted with remarks")
     assert receipt["remarks"][0] == "files fetched: 1", receipt
+    # One that isn't fetched keeps no other from it.
+    several = {"a": b"a", "b": b"b", "sub/hello": b"hello", "to/other": b"other"}
+    lines = f"{base}/none - data/b\n{base}/hello 5 data/sub/hello\n{base}{elsewhere} - data/to/other\n"
+    lacking = new_bag(HERE / "several", several, fetched=lines)
+    for name in "b", "sub/hello", "to/other":
+        (lacking / "data" / name).unlink()
+    pack("tar", "-cf", "several.tar", "several")
+    answer = ends(3, "fetch", lacking, *allowed, says="hosts: localhost:")
+    assert (lacking / "data/sub/hello").read_bytes() == b"hello" and answer.out.count("601 payload-file-missing") == 2, answer
+    answer = refused(HERE / "several.tar", "hosts: localhost:", "--fetch", *allowed)
+    receipt = receipt_in(HERE / "store", "refused")
+    assert receipt["why"] == "has faults: 2" and receipt["remarks"][0] == "files fetched: 1", receipt
+    assert [it.split(" ")[0] for it in receipt["remarks"][1:3]] == ["data/b", "data/to/other"], receipt
     killed(["fetch", bag, *allowed], bag, lambda: holey(base, "/hello"), lambda: is_valid(bag) and tree(bag) == tree(whole))
     server.shutdown()
 

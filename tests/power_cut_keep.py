@@ -283,6 +283,8 @@ class Restores:
         shutil.copytree("d", "copy")
         Path("d/data/a").write_bytes(b"worse")
         Path("d/bag-info.txt").write_bytes(b"worse tag file")
+        for manifest in Path("d").glob("tagmanifest-*.txt"):
+            manifest.write_bytes(manifest.read_bytes().replace(b" bagit.txt", b" bagid.txt"))
         shutil.rmtree("d/data/in")
         self.words = ["restore", "d", "--from", "copy"]
 

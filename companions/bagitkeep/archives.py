@@ -23,6 +23,8 @@ from .messages import first_line
 MOST_TIMES = 1000
 TOO_DENSE = f"it is compressed more than {MOST_TIMES:,} times"
 AFTER_END = "something comes after its end"
+BEFORE_BEGIN = "something stands before the archive's first member"
+OTHER = "it is not a folder, .tar or .zip"
 
 BROKEN = (
     tarfile.TarError, zipfile.BadZipFile, zlib.error, LZMAError, struct.error,
@@ -71,6 +73,20 @@ def form_of(file: IO[bytes]) -> str:
     return next(found, "tar")
 
 
+def may_be_tar(file: IO[bytes]) -> bool:
+    """Whether a file begins as a .tar does: by a header, also a damaged one,
+    or by zeros."""
+    begin = file.read(tarfile.BLOCKSIZE)
+    file.seek(0)
+    if begin[257:262] == b"ustar":
+        return True
+    try:
+        tarfile.TarInfo.frombuf(begin, "utf-8", ANY_BYTES)
+    except tarfile.HeaderError:
+        return len(begin) == tarfile.BLOCKSIZE and not begin.strip(b"\0")
+    return True
+
+
 def run_into(
     words: Sequence[str], file: IO[bytes], most: int, of: int, why: str
 ) -> str:
@@ -113,10 +129,8 @@ def tar_content(file: IO[bytes], limits: Limits) -> Content:
         fileobj=file, mode="r:", encoding="utf-8", errors=ANY_BYTES
     )
     members = [limits.count(tar_member(it)) for it in tar]
-    file.seek(tar.offset)
-    while piece := file.read(PIECE):
-        if piece.strip(b"\0"):
-            raise Unfit(AFTER_END)
+    if why := wrong_end(file, tar.offset):
+        raise Unfit(why)
 
     def open_member(member: Member) -> IO[bytes]:
         file = tar.extractfile(member.source)
@@ -124,6 +138,20 @@ def tar_content(file: IO[bytes], limits: Limits) -> Content:
         return file
 
     return Content(members, open_member)
+
+
+def wrong_end(file: IO[bytes], at: int) -> Optional[str]:
+    """What is wrong with the end of a .tar, if its last header ends there."""
+    file.seek(at)
+    begin = file.read(tarfile.BLOCKSIZE)
+    if len(begin) < tarfile.BLOCKSIZE:
+        return "it is cut off"
+    if begin.strip(b"\0"):
+        return f"the header at byte {at} is damaged"
+    while piece := file.read(PIECE):
+        if piece.strip(b"\0"):
+            return AFTER_END
+    return None
 
 
 def tar_member(it: tarfile.TarInfo) -> Member:
@@ -152,6 +180,8 @@ def zip_content(
     if file.read(4) != b"PK\5\6":
         raise Unfit(AFTER_END)
     infos = packed.infolist()
+    if min([it.header_offset for it in infos], default=packed.start_dir) != 0:
+        raise Unfit(BEFORE_BEGIN)
     refuse_overlaps(infos)
     if sum(it.file_size for it in infos) > size * MOST_TIMES:
         raise Unfit(TOO_DENSE)

@@ -24,8 +24,8 @@ ANY_BYTES = "surrogateescape"
 class Unfit(Refused):
     """What has come can't be taken in, and why."""
 
-    def __init__(self, text: str, status: int = 3) -> None:
-        super().__init__(text, status)
+    def __init__(self, text: str) -> None:
+        super().__init__(text, 3)
 
 
 @dataclass(frozen=True)

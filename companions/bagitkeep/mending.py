@@ -187,6 +187,18 @@ def untold(bag: str, new: str) -> Iterator[Entry]:
                 yield path, algorithm
 
 
+def fits(
+    bag: str, algorithm: str, was: bytes, becomes: bytes, old: bool
+) -> bool:
+    """Whether the tag files of a bag have the digests of a tag manifest that
+    isn't its own, which names all that its own does, also by other digests."""
+    named, new = (given(it, algorithm, True, old) for it in (was, becomes))
+    for path, digests in new.items():
+        if not has_one(join(bag, path), algorithm, digests):
+            return False
+    return not any(lost(named, new, lambda path, digests: path in new))
+
+
 def build(bag: str, to: str, changes: Changes) -> None:
     """Makes a bag in a folder, which may have its payload: some tag files are
     changed, the tag manifests with them, and all other files are linked."""

@@ -13,7 +13,8 @@ from typing import IO, Any, Dict, List, Optional, Sequence, Tuple
 
 from . import receipts, tags
 from .archives import (
-    decompress, form_of, tar_content, understood, zip_content,
+    OTHER, decompress, form_of, may_be_tar, tar_content, understood,
+    zip_content,
 )
 from .bagit import absolute
 from .beside import show
@@ -35,7 +36,8 @@ from .seal import seal_of
 from .serialization import asked_by
 from .usage import number, read
 
-ASIDE = ("__MACOSX", ".DS_Store")
+ASIDE = ("__macosx", ".ds_store", "thumbs.db", "desktop.ini")
+"""What macOS and Windows add at the top, by names in lower case."""
 OF_TARS = {
     "cut-off": "is cut off",
     "damaged": "is damaged",
@@ -113,8 +115,13 @@ def encoding_of(word: str) -> str:
     return word
 
 
+def is_name(name: str) -> bool:
+    """Whether a bag may have this name: it isn't hidden, nor an option."""
+    return not name.startswith((".", "-")) and name.isprintable()
+
+
 def folder_name_of(word: str) -> str:
-    if word.startswith(".") or "/" in word or not word.isprintable():
+    if "/" in word or not is_name(word):
         raise argparse.ArgumentTypeError(f"no name for a bag: {word}")
     return word
 
@@ -178,8 +185,11 @@ def content_of(case: Case, work: Work, limits: Limits) -> Content:
             os.symlink(case.path, tar)
         else:
             decompress(case.form, case.file, size, tar)
-        refuse_unread(case, check(tar, Asked()))
         file = case.files.enter_context(open(tar, "rb"))
+        is_named = case.form == "tar" and case.path.endswith(".tar")
+        if not (is_named or may_be_tar(file)):
+            raise Unfit(OTHER)
+        refuse_unread(case, check(tar, Asked()))
         return tar_content(file, limits)
 
 
@@ -198,27 +208,40 @@ def refuse_unread(case: Case, report: BagReport) -> None:
 
 def arrange(case: Case, content: Content) -> Tuple[str, str]:
     """The bag's name, and which folder of the content is the bag: the empty
-    text where that is all. Sets aside what macOS adds."""
+    text where that is all. Sets aside what systems add."""
     if case.file is None:
         return str(case.asked.name or os.path.basename(case.path)), ""
     tops: Dict[str, bool] = {}
-    kept = []
+    kept, aside = [], []
     for it in content.members:
         top, slash, _ = it.path.partition("/")
-        if top not in ASIDE and (it.path or not it.is_folder):
+        if top.lower() in ASIDE:
+            aside.append(top)
+        elif it.path or not it.is_folder:
             kept.append(it)
             tops[top] = tops.get(top, False) or bool(slash) or it.is_folder
-    aside = sum(it.path.partition("/")[0] in ASIDE for it in content.members)
     if aside:
-        case.remarks.append(f"set aside {' and '.join(ASIDE)}: {aside}")
+        names = " and ".join(map(encoded, dict.fromkeys(aside)))
+        case.remarks.append(f"set aside {names}: {len(aside)}")
     content.members = kept
     if len(tops) == 1 and all(tops.values()):
         (top,) = tops
         return str(case.asked.name or top), top
     if case.asked.name is None:
-        raise Unfit("it hasn't one folder at its top: --as gives its name")
+        raise Unfit(why_no_bag(tops))
     case.remarks.append("it has no folder at its top")
     return str(case.asked.name), ""
+
+
+def why_no_bag(tops: Dict[str, bool]) -> str:
+    """What to do about a deposit that hasn't one folder at its top."""
+    text = "it hasn't one folder at its top"
+    if not tops:
+        return "it has no files"
+    if tops.get("bagit.txt") is False:
+        return f"{text}: --as gives its name"
+    names = receipts.text_of(("files and folders there", list(tops)))
+    return f"{text} ({names}): ask for one that has"
 
 
 def compare_digest(case: Case) -> None:
@@ -241,7 +264,7 @@ def take_in(case: Case, work: Work) -> str:
     name, top = arrange(case, content)
     if case.file is not None:
         refuse_twice(content.members)
-    if name.startswith(".") or not name.isprintable():
+    if not is_name(name):
         raise Unfit(
             f"{encoded(name)} is no name for a bag: --as gives another"
         )
@@ -254,10 +277,11 @@ def take_in(case: Case, work: Work) -> str:
         raise Refused(f"{case.name} was altered meanwhile", 3)
     os.rename(join(work.at("in"), top), work.at("bag"))
     if case.asked.fetch:
-        kept, case.failed = fetch_into(
+        fetched = fetch_into(
             work.at("bag"), case.asked.allow, limits.bytes, work
         )
-        case.remarks.append(f"files fetched: {kept}")
+        case.failed = fetched.failed
+        case.remarks += [f"files fetched: {fetched.kept}", *fetched.wrong]
     return name
 
 

@@ -2,75 +2,28 @@
 import errno
 import os
 import stat
-import tarfile
-from contextlib import ExitStack, closing, suppress
-from os.path import dirname, isdir, join, lexists
-from typing import IO, Dict, Iterator, List, Sequence, Set, Tuple
+from contextlib import ExitStack
+from os.path import basename, dirname, join, lexists
+from typing import Dict, Iterator, List, Sequence, Set, Tuple
 
-from .bagit import entries_in, reading
+from .bagit import content_of, entries_in, manifests_in, reading
 from .beside import Beside, Faulty, checked, folder_of, kept_of, show
+from .copies import Copy, Sums, copies_at, say_differences
 from .errors import BagError
-from .files import opened, sync_folder, write_synced
-from .lines import encoded
-from .mending import is_old
+from .files import sync_folder, write_synced
+from .lines import Fault, encoded
+from .mending import fits, is_old
 from .messages import Refused, explained, say, shown
 from .program import Asked
 from .runs import BagReport, alone, check
-from .trees import copied, dress, make_folders
+from .trees import dress, link_tree, make_folders
 from .usage import read
 
-NO_ROOM = {errno.ENOSPC, errno.EDQUOT, errno.EFBIG, errno.EROFS}
 OLD = "BagIt-Version: 0.97\nTag-File-Character-Encoding: UTF-8\n"
 """The declaration of a bag whose manifests may name some files each."""
 
-Sums = Dict[str, str]
-"""The digests of a file, by algorithms."""
-
-
-class Copy:
-    """A copy of a bag: a folder, or a .tar of one."""
-
-    def __init__(self, path: str) -> None:
-        self.path = path
-        self.members: Dict[str, List[tarfile.TarInfo]] = {}
-        self.tar = None if isdir(path) else tarfile.open(path, "r:")
-        for member in self.tar or ():
-            name = member.name.removeprefix("./").partition("/")[2]
-            self.members.setdefault(name, []).append(member)
-
-    def close(self) -> None:
-        if self.tar is not None:
-            self.tar.close()
-
-    def streams(self, path: str) -> Iterator[Tuple[IO[bytes], float]]:
-        """The files that it has at this path, with their times."""
-        if self.tar is None:
-            stream = opened(join(self.path, path))
-            yield stream, os.fstat(stream.fileno()).st_mtime
-            return
-        for member in self.members.get(path, []):
-            content = self.tar.extractfile(member)
-            if content is not None:
-                yield content, member.mtime
-
-    def has(self, path: str, sums: Sums, to: str) -> bool:
-        """Whether it has a file with these digests, which is copied then."""
-        try:
-            for stream, time in self.streams(path):
-                with stream:
-                    if copied(stream, to, sums) == sums:
-                        os.utime(to, (time, time))
-                        return True
-                os.unlink(to)
-        except FileNotFoundError:
-            pass
-        except (OSError, tarfile.TarError, KeyError) as error:
-            if isinstance(error, OSError) and error.errno in NO_ROOM:
-                raise
-            say(f"{shown(self.path)}: {encoded(path)} isn't read: {error}")
-        with suppress(FileNotFoundError):
-            os.unlink(to)
-        return False
+Found = Dict[str, Tuple[str, str]]
+"""New files, and of which copy each is, by their paths in the bag."""
 
 
 def wanted_of(bag: str, report: BagReport, is_tag: bool) -> Dict[str, Sums]:
@@ -87,14 +40,14 @@ def wanted_of(bag: str, report: BagReport, is_tag: bool) -> Dict[str, Sums]:
 
 def gather(
     place: Beside, wanted: Dict[str, Sums], copies: List[Copy]
-) -> Dict[str, Tuple[str, str]]:
-    """Copies of the files that are wanted, and of which copy each is, by
-    their paths. A bag is made of them, and checked in full."""
+) -> Found:
+    """Copies of the files that are wanted. A bag is made of them, and checked
+    in full."""
     place.clear()
     place.note()
     os.makedirs(join(place.work, "data"))
     write_synced(join(place.work, "bagit.txt"), OLD.encode())
-    found: Dict[str, Tuple[str, str]] = {}
+    found: Found = {}
     manifests: Dict[str, str] = {}
     for number, (path, sums) in enumerate(wanted.items()):
         name = f"data/{number}"
@@ -137,7 +90,7 @@ def put(new: str, bag: str, path: str, kept: str) -> None:
     sync_folder(dirname(new))
 
 
-def put_all(bag: str, found: Dict[str, Tuple[str, str]], kept: str) -> int:
+def put_all(bag: str, found: Found, kept: str) -> int:
     """Gives files their names in a bag, and says how many got theirs."""
     count = 0
     for path, (new, copy) in found.items():
@@ -150,27 +103,109 @@ def put_all(bag: str, found: Dict[str, Tuple[str, str]], kept: str) -> int:
     return count
 
 
-def restored(bag: str, copies: List[Copy]) -> BagReport:
-    """Restores what can be, and gives the report of the last full check. The
-    tag files are first, since manifests are among them."""
+def by_digests(
+    place: Beside, report: BagReport, copies: List[Copy], kept: str,
+    done: Set[str],
+) -> Tuple[int, List[str]]:
+    """Restores files that have the digests of manifests, tag files first,
+    since manifests are among them; says how many, and which no copy has."""
+    missing: List[str] = []
+    for is_tag in True, False:
+        wanted = wanted_of(place.bag, report, is_tag)
+        wanted = {it: wanted[it] for it in wanted if it not in done}
+        found = gather(place, wanted, copies) if wanted else {}
+        missing += [it for it in wanted if it not in found]
+        done |= set(found)
+        count = put_all(place.bag, found, kept)
+        if count:
+            return count, missing
+    return 0, missing
+
+
+def is_of(fault: Fault, name: str, algorithm: str) -> bool:
+    """Whether a fault is of this tag manifest, or was found by it."""
+    is_by_it = fault.code in (602, 702) and fault.algorithm == algorithm
+    return is_by_it or fault.path == name
+
+
+def tag_manifests(
+    bag: str, report: BagReport, copies: List[Copy]
+) -> Iterator[Tuple[str, Copy, bytes, float]]:
+    """Tag manifests of copies that the tag files of a bag fit, where its own
+    doesn't: name, copy, content and time."""
+    old = is_old(bag)
+    for algorithm, path in manifests_in(bag, True).items():
+        name, seen = basename(path), [content_of(path)]
+        if not any(is_of(it, name, algorithm) for it in report.faults):
+            continue
+        for copy in copies:
+            for content, time in copy.contents(name):
+                is_new = content not in seen
+                seen.append(content)
+                if is_new and fits(bag, algorithm, seen[0], content, old):
+                    yield name, copy, content, time
+
+
+def by_tag_manifest(
+    place: Beside, report: BagReport, copies: List[Copy], kept: str,
+    done: Set[str],
+) -> bool:
+    """Takes a tag manifest of a copy, if a full check of the bag with it
+    finds fewer faults. Each is taken once."""
+    if report.status != 1:
+        return False
+    for name, copy, content, time in tag_manifests(
+        place.bag, report, copies
+    ):
+        if name in done:
+            continue
+        place.clear()
+        place.note()
+        os.mkdir(place.work)
+        link_tree(place.bag, place.work, lambda it: it if it != name else None)
+        new = join(place.work, name)
+        write_synced(new, content)
+        os.utime(new, (time, time))
+        tried = check(place.work, Asked())
+        if tried.unread is None and len(tried.faults) < len(report.faults):
+            done.add(name)
+            return put_all(place.bag, {name: (new, copy.path)}, kept) > 0
+    return False
+
+
+def say_missing(path: str, copies: List[Copy], is_whole: bool) -> None:
+    """Says why a file wasn't restored."""
+    kind = "manifest" if path.startswith("data/") else "tagmanifest"
+    name = encoded(path)
+    for copy in copies:
+        for algorithm in copy.others.get(path, [])[:1]:
+            say(
+                f"{shown(copy.path)}: {name} doesn't have the digest that"
+                f" {kind}-{algorithm}.txt gives"
+            )
+    if not any(path in it.others or path in it.unread for it in copies):
+        text = f"{name} isn't in what could be read of the copies"
+        say(f"no copy has {name}" if is_whole else text)
+
+
+def restored(
+    bag: str, copies: List[Copy], is_whole: bool
+) -> Tuple[BagReport, List[str]]:
+    """Restores what can be; gives the report of the last full check, and the
+    files that no copy has."""
     place, kept = Beside(bag, "restore"), kept_of(bag)
     done: Set[str] = set()
     try:
         while True:
-            report, missing, count = check(bag, Asked()), [], 0
-            for is_tag in True, False:
-                wanted = wanted_of(bag, report, is_tag)
-                wanted = {it: wanted[it] for it in wanted if it not in done}
-                found = gather(place, wanted, copies) if wanted else {}
-                missing += [it for it in wanted if it not in found]
-                done |= set(found)
-                count = put_all(bag, found, kept)
-                if count:
-                    break
-            if not count:
-                for path in missing:
-                    say(f"no copy has {encoded(path)}")
-                return report
+            report = check(bag, Asked())
+            count, missing = by_digests(place, report, copies, kept, done)
+            if count or by_tag_manifest(place, report, copies, kept, done):
+                continue
+            for path in missing:
+                say_missing(path, copies, is_whole)
+            if report.status == 0:
+                say_differences(bag, copies)
+            return report, missing
     finally:
         place.clear()
         if lexists(kept):
@@ -189,13 +224,17 @@ def run(words: Sequence[str]) -> int:
             raise Refused(f"{shown(name)} is the bag itself")
     with reading(bag), ExitStack() as stack:
         Beside(bag, "restore").left()
-        try:
-            copies = [stack.enter_context(closing(Copy(it))) for it in names]
-        except (OSError, tarfile.TarError) as error:
-            raise Refused(f"a copy is neither a folder nor a .tar: {error}")
+        copies = copies_at(names, stack)
+        if not copies:
+            raise Refused("there is no copy that can be used")
+        is_whole = len(copies) == len(names) and not any(
+            it.why for it in copies
+        )
         stack.enter_context(alone(bag))
         try:
-            report = restored(bag, copies)
+            report, missing = restored(bag, copies, is_whole)
         except Faulty as faulty:
             raise BagError(f"what was copied changed: {faulty}")
-    return show(report)
+    status = show(report)
+    is_read = is_whole and not any(set(missing) & it.unread for it in copies)
+    return status if is_read or not missing else 3

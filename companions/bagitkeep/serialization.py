@@ -44,7 +44,7 @@ def asked_by(profile: Optional[bytes], form: str, work: Work) -> Asked:
     rules = json.loads(profile)
     if form != "folder":
         if why := why_not_so(rules, form):
-            raise Unfit(why, 1)
+            raise Unfit(why)
         rules["Serialization"] = "optional"
         rules.pop("Accept-Serialization", None)
     path = work.at("profile.json")

@@ -7,7 +7,14 @@ import zipfile
 from pathlib import Path
 from typing import Dict, List, Optional
 
-from bagitkeep.archives import bare, form_of, tar_content, zip_name
+from bagitkeep.archives import (
+    bare,
+    form_of,
+    may_be_tar,
+    tar_content,
+    zip_content,
+    zip_name,
+)
 from bagitkeep.files import digests_of
 from bagitkeep.members import (
     MANY,
@@ -116,6 +123,23 @@ class Zips(unittest.TestCase):
         with self.assertRaisesRegex(Unfit, "--names"):
             self.name(b"\x81")
 
+    def test_one_begins_with_its_first_member(self) -> None:
+        out = io.BytesIO()
+        with zipfile.ZipFile(out, "w") as packed:
+            empty = io.BytesIO()
+            zipfile.ZipFile(empty, "w").close()
+            packed.writestr("bag/a", b"a")
+        for whole, count in (out.getvalue(), 1), (empty.getvalue(), 0):
+            def found(content: bytes) -> Content:
+                limits = Limits(MANY, MANY)
+                file = io.BytesIO(content)
+                return zip_content(file, len(content), None, limits)
+
+            self.assertEqual(len(found(whole).members), count)
+            for before in whole, out.getvalue(), b"x":
+                with self.assertRaisesRegex(Unfit, "before the archive"):
+                    found(before + whole)
+
 
 class Others(unittest.TestCase):
     def test_forms(self) -> None:
@@ -130,6 +154,18 @@ class Others(unittest.TestCase):
             (b"", "tar"),
         ):
             self.assertEqual(form_of(io.BytesIO(content)), form)
+
+    def test_what_may_be_a_tar(self) -> None:
+        whole = tar_of(tarfile.TarInfo("bag/a"))
+        old = bytearray(whole)
+        old[257:265] = bytes(8)
+        old[148:156] = b"%06o\0 " % (sum(old[:512]) - sum(old[148:156]) + 256)
+        for content in whole, whole[:300], b"x" + whole[1:], bytes(old):
+            self.assertTrue(may_be_tar(io.BytesIO(content)))
+        for content in b"", b"%PDF-1.7", b"x" * 600, b"x" + bytes(old[1:]):
+            file = io.BytesIO(content)
+            self.assertFalse(may_be_tar(file))
+            self.assertEqual(file.tell(), 0)
 
     def test_digests(self) -> None:
         found = digests_of(io.BytesIO(b"abc"), ["md5", "sha1"])

@@ -1,9 +1,7 @@
 """Pure parts of what changes bags: manifests, paths, copies, elements."""
-import hashlib
 import io
 import os
 import stat
-import tarfile
 import tempfile
 import unittest
 from typing import Dict, List, Optional
@@ -12,10 +10,11 @@ from unittest.mock import patch
 from bagitkeep.beside import Beside, bag_beside, folder_of, path_in_bag
 from bagitkeep.errors import BagError
 from bagitkeep.make import algorithms_in, elements_given
-from bagitkeep.mending import Entry, changed, line_of, mended, untold
+from bagitkeep.mending import (
+    Entry, changed, fits, line_of, mended, untold,
+)
 from bagitkeep.messages import Refused
 from bagitkeep.repack import OXUM, change_of, is_at
-from bagitkeep.restore import Copy
 from bagitkeep.files import opened
 from bagitkeep.trees import copied, dress, link_tree
 
@@ -123,6 +122,32 @@ class TagManifests(InAFolder):
             self.assertIsNone(changes["x"])
             new = changes.get("tagmanifest-md5.txt", content)
             self.assertEqual(new, left + other)
+
+
+class Fits(InAFolder):
+    """Which tag manifest may take the place of a bag's."""
+
+    def test_all_that_was_named_is_named_and_is_so(self) -> None:
+        self.at("bag/a", b"a")
+        self.at("bag/b", b"")
+        a, b, good = f"{A}  a\n", f"{EMPTY}  b\n", f"{A}  a\n{EMPTY}  b\n"
+        for was, becomes, is_fit in (
+            (f"{EMPTY}  a\n{b}", good, True),
+            (f"{A}  c\n{b}", good, True),
+            (f"x{A}  a\n{b}", good, True),
+            ("", good, True),
+            (good, good, True),
+            (good, a, False),
+            (f"{EMPTY}  a\n{b}", b, False),
+            (f"{EMPTY}  c\n{b}", good, False),
+            (f"{A}  c\n{good}", good, False),
+            (b, f"{EMPTY}  a\n{b}", False),
+            (b, f"{A}  c\n{b}", False),
+            (b, "", False),
+        ):
+            texts = was.encode(), becomes.encode()
+            found = fits(self.at("bag"), "md5", *texts, False)
+            self.assertEqual(found, is_fit, (was, becomes))
 
 
 class Untold(InAFolder):
@@ -364,29 +389,6 @@ class Files(InAFolder):
         os.symlink("x", self.at("d/in/link"))
         with self.assertRaises(BagError):
             link_tree(self.at("d"), self.at("to"), lambda it: f"z/{it}")
-
-    def test_copies(self) -> None:
-        self.at("bag/data/x", b"a")
-        with tarfile.open(self.at("bag.tar"), "w") as tar:
-            tar.add(self.at("bag"), "./bag")
-            os.unlink(self.at("bag/data/x"))
-            self.at("bag/data/x", b"")
-            tar.add(self.at("bag/data/x"), "other/data/x")
-        for name in "bag", "bag.tar":
-            copy, to = Copy(self.at(name)), self.at("to")
-            self.addCleanup(copy.close)
-            self.assertFalse(copy.has("data/y", {"md5": A}, to))
-            self.assertFalse(copy.has("data/x", {"md5": "0" * 32}, to))
-            self.assertFalse(os.path.exists(to))
-            self.assertTrue(copy.has("data/x", {"md5": EMPTY}, to))
-            os.unlink(to)
-            both = {"md5": A, "sha1": hashlib.sha1(b"a").hexdigest()}
-            is_in_tar = name == "bag.tar"
-            self.assertEqual(copy.has("data/x", both, to), is_in_tar)
-            if is_in_tar:
-                os.unlink(to)
-        with self.assertRaises(tarfile.TarError):
-            Copy(self.at("bag/data/x"))
 
 
 class Notes(InAFolder):

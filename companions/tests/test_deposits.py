@@ -10,7 +10,7 @@ from contextlib import ExitStack
 from pathlib import Path
 from typing import Any, Dict, List, Optional, Tuple
 
-from bagitkeep.fetch import host_of, refuse_hosts
+from bagitkeep.fetch import hosts_of, length_of, refuse_hosts
 from bagitkeep.members import Content, Member, Unfit
 from bagitkeep.messages import Refused
 from bagitkeep.errors import BagError
@@ -34,12 +34,20 @@ class Folders(unittest.TestCase):
         self.assertEqual(arranged("b/", "b/a"), ("b", "b"))
         self.assertEqual(arranged("b/a"), ("b", "b"))
         self.assertEqual(arranged("b/a", name="c"), ("c", "b"))
-        found = arranged("b/a", "__MACOSX/b/._a", ".DS_Store")
+        found = arranged("b/a", "__MACOSX/b/._a", ".DS_Store", "Thumbs.db")
         self.assertEqual(found, ("b", "b"))
 
     def test_none_or_several(self) -> None:
-        for paths in ("a", "b/c"), ("a/b", "c/d"), ("a",), ("__MACOSX/a",):
-            with self.assertRaisesRegex(Unfit, "--as"):
+        for says, *paths in (
+            (r"top \(files and folders there: 2 \(a, b\)\)", "a", "b/c"),
+            ("2 .*: ask for one", "a/b", "c/d"),
+            ("1 .*: ask for one", "a"),
+            ("it has no files", "__MACOSX/a"),
+            ("ask for one", "a/bagit.txt", "Thumbs.db/a", "b"),
+            ("ask for one", "bagit.txt/a", "b"),
+            ("--as gives its name", "bagit.txt", "data/a"),
+        ):
+            with self.assertRaisesRegex(Unfit, says):
                 arranged(*paths)
             self.assertEqual(arranged(*paths, name="n"), ("n", ""))
 
@@ -78,13 +86,13 @@ class Profiles(unittest.TestCase):
 
 class Hosts(unittest.TestCase):
     def test_of_urls(self) -> None:
-        for url, host in (
-            ("http://a.example/x", "a.example"),
-            ("HTTPS://A.example", "a.example"),
-            ("http://a:80/{1,2}[a]?q#f", "a"),
-            ("http://[::1]:8/", "[::1]"),
+        for url, hosts in (
+            ("http://a.example/x", ("a.example", "a.example:80")),
+            ("HTTPS://A.example", ("a.example", "a.example:443")),
+            ("http://a:080/{1,2}[a]?q#f", ("a:80", "a")),
+            ("http://[::1]:8/", ("[::1]:8", "[::1]")),
         ):
-            self.assertEqual(host_of(url), host)
+            self.assertEqual(hosts_of(url), hosts)
         for url in (
             "file:///etc/passwd",
             "ftp://a/",
@@ -98,12 +106,23 @@ class Hosts(unittest.TestCase):
             "-o x",
             "http://a/\nb",
         ):
-            self.assertIsNone(host_of(url), url)
+            self.assertEqual(hosts_of(url), (), url)
 
     def test_others_are_refused(self) -> None:
         refuse_hosts(["http://a/x", "https://b/"], {"a", "b"})
         with self.assertRaisesRegex(Refused, "hosts: b, c"):
             refuse_hosts(["http://c/", "http://b/", "http://a/"], {"a"})
+
+    def test_ports(self) -> None:
+        refuse_hosts(["http://a:8/x", "https://a/"], {"a:8", "a:443"})
+        for url in "http://a:8/", "https://a/", "http://b/":
+            with self.assertRaises(Refused):
+                refuse_hosts([url], {"a:80", "b:8"})
+
+    def test_lengths(self) -> None:
+        self.assertEqual(length_of("007"), 7)
+        for text in "-", "9" * 5000:
+            self.assertIsNone(length_of(text))
 
 
 class Receipts(unittest.TestCase):
