@@ -207,6 +207,29 @@ def night_removed_and_not_read():
     assert run('audit', register, '--days', '1')[0].startswith('no news: 20 bags')
 
 
+def night_not_read_and_then_there():
+    """Of a bag that couldn't be read, what was found before is still so, and known, until it is read; also if it is there again."""
+    change(4, 'x')
+    line = damaged(4, '4', 'x')
+    news(line)
+    link, away = work / 'away', bag(4)
+    os.rename(away, link)
+    away.symlink_to(work / 'nowhere')
+    for _ in range(2):
+        said = run('audit', register, wanted=1)
+        assert sorted(it.replace('still ', '') for it in said[1:3]) == [line, f'missing {bag(4)}'], said
+        assert said[0].endswith('1 with faults, 1 missing'), said
+    away.unlink()
+    os.rename(link, away)
+    said = run('audit', register, '--days', '1', wanted=1)
+    assert said[:2] == ['still news of 1 bag: 1 with faults', f'still {line}'], said
+    known(4)
+    run('audit', register, wanted=1, env={'BAGIT': str(work / 'nowhere')})
+    news()
+    change(4, '4')
+    news()
+
+
 def night_renewed():
     run('renew', register, bag(5), '--', '--quiet', '--set', 'Contact-Name=Ada')
     news()

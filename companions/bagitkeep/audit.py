@@ -59,7 +59,7 @@ def bags_there(register: Register) -> List[Row]:
     return [
         {**bag, "tried": tried.get(bag["id"], "")}
         for bag in register.rows("bags")
-        if os.path.lexists(path_of(bag["path"]))
+        if os.path.exists(path_of(bag["path"]))
     ]
 
 
@@ -235,7 +235,7 @@ def take_in(
                 statuses[bag["id"]] = result.status
         for bag in bags.values():
             if bag["id"] not in statuses:
-                miss(register, bag, os.path.lexists(path_of(bag["path"])))
+                miss(register, bag, os.path.exists(path_of(bag["path"])))
         if row is not None:
             register.alter(
                 "rounds", row, ended=now(), results=json.dumps(statuses)

@@ -107,6 +107,15 @@ class OfNights(unittest.TestCase):
         self.said(keeping.known, words, [b"/none"])
         self.assertEqual("no news: 1 bags, ", self.audit()[0][:17])
 
+    def test_a_link_that_leads_nowhere_is_missing(self) -> None:
+        path = os.path.dirname(self.folder) + b"/bag"
+        os.symlink("/none", path)
+        self.take(os.fsdecode(path), audit.now())
+        for still in "", "still ":
+            wanted = f"{still}missing {os.fsdecode(path)}"
+            self.assertEqual(wanted, self.audit()[1])
+            self.assertEqual([], audit.bags_there(self.opened))
+
     def test_a_bag_that_is_overdue(self) -> None:
         self.take("/", "2026-01-01T00:00:00Z")
         for said in self.status(), self.status(), self.audit(), self.status():
