@@ -15,9 +15,9 @@ from .audit import FULL, check, open_round, strangers, tell
 from .files import absolute, text_of
 from .lines import encoded
 from .messages import Refused, now, printable
-from .news import LAPSED, forget, state_of
+from .news import LAPSED, forget, remind, state_of
 from .premis import premis_of
-from .register import Register, Row, alone, make, take
+from .register import Register, Row, alone, forget_new, make, take
 from .rounds import Round
 from .rounds import Row as Result
 from .usage import DAYS, JOBS, MANY, read
@@ -102,7 +102,7 @@ def unended(register: Register) -> Optional[Row]:
     only who may write in the register can tell."""
     if open_round(register) is None:
         return None
-    with suppress(PermissionError):
+    with suppress(OSError):
         try:
             with alone(register.folder):
                 return open_round(register)
@@ -151,6 +151,7 @@ def known(register: Register, asked: Namespace, paths: List[bytes]) -> int:
         said["until"] = asked.until
     text = text_of(paths[0])
     with register.changing():
+        remind(register)
         new = register.rows("findings", "bag IS NULL AND text = ?", text)
         bag = {"id": None} if new else register.bag_at(paths[0])
         found = new or register.rows("findings", "bag = ?", bag["id"])
@@ -181,14 +182,14 @@ def accept(
     look: Callable[[Row], None],
 ) -> int:
     """Does so if `look`, which is given what is to be noted, lets it."""
-    register.bag_at(path)
+    register.kept_at(path)
     result = checked(register, [path], None).row(1)
     values = good(result)
     if values is None:
         return result.status or 3
     look(values)
     with register.changing():
-        bag = register.bag_at(path)
+        bag = register.kept_at(path)
         forget(register, bag)
         register.alter("bags", bag, **values)
         register.note("accepted", bag["id"], **said, **values)
@@ -198,7 +199,7 @@ def accept(
 
 def retire(register: Register, asked: Namespace, paths: List[bytes]) -> int:
     """Notes that a bag isn't kept any more."""
-    said, bag = who_of(asked), register.bag_at(paths[0])
+    said, bag = who_of(asked), register.kept_at(paths[0])
     with register.changing():
         forget(register, bag)
         register.alter("bags", bag, is_kept=0)
@@ -209,7 +210,7 @@ def retire(register: Register, asked: Namespace, paths: List[bytes]) -> int:
 
 def moved(register: Register, asked: Namespace, paths: List[bytes]) -> int:
     """Notes that a bag is at another place, by a full check of it there."""
-    said, bag = who_of(asked), register.bag_at(paths[0])
+    said, bag = who_of(asked), register.kept_at(paths[0])
     old, new = map(encoded, paths)
     if os.path.lexists(paths[0]):
         raise Refused(f"{old} is still there", 3)
@@ -222,8 +223,9 @@ def moved(register: Register, asked: Namespace, paths: List[bytes]) -> int:
     if values["seal"] != bag["seal"]:
         raise Refused(f"{new} is another bag: its seal is another one", 3)
     with register.changing():
-        bag = register.bag_at(paths[0])
+        bag = register.kept_at(paths[0])
         forget(register, bag)
+        forget_new(register, text_of(paths[1]))
         register.alter("bags", bag, path=text_of(paths[1]), **values)
         register.note(
             "moved", bag["id"], old=text_of(paths[0]), new=text_of(paths[1]),

@@ -203,6 +203,14 @@ class Register:
             raise Refused(f"the register has no bag {encoded(path)}")
         return found[0]
 
+    def kept_at(self, path: bytes) -> Row:
+        """The bag at a path, which has to be one that is kept."""
+        bag = self.bag_at(path)
+        if not bag["is_kept"]:
+            text = f"{encoded(path)} is retired: adopt takes it again"
+            raise Refused(text)
+        return bag
+
     def setting(self, name: str) -> Any:
         found = self.rows("settings", "name = ?", name)
         return json.loads(found[0]["value"]) if found else None
@@ -236,12 +244,17 @@ class Register:
         sync_folder(self.folder)
 
 
-def take(register: Register, path: str, **values: Any) -> int:
-    """Takes a bag into the register, also one that was retired; gives its
-    number."""
+def forget_new(register: Register, path: str) -> None:
+    """Has it say that no new bag is found at this path any more."""
     for row in register.rows("findings", "kind = 'new' AND text = ?", path):
         register.remove("findings", row)
         register.note("gone", None, of="new", text=path)
+
+
+def take(register: Register, path: str, **values: Any) -> int:
+    """Takes a bag into the register, also one that was retired; gives its
+    number."""
+    forget_new(register, path)
     row_now = {**values, "path": path, "is_kept": 1, "adopted": now()}
     ours = register.rows("bags", "path = ?", path)
     if ours:

@@ -1,4 +1,5 @@
 """What audits tell on their nights, and what `status` tells between them."""
+import errno
 import io
 import os
 import sqlite3
@@ -9,7 +10,7 @@ from contextlib import closing, redirect_stdout
 from typing import Any, Callable, List, Optional
 from unittest import mock
 
-from bagitkeep import audit, keeping, news, register
+from bagitkeep import audit, keeping, news, register, renewal
 from bagitkeep.messages import Refused
 from bagitkeep.seal import seal_of
 
@@ -135,6 +136,49 @@ class OfNights(unittest.TestCase):
         words = Namespace(by="Ada", why="x")
         self.said(keeping.retire, words, [b"/"])
         self.assertEqual(["found", "gone", "retired"], self.kinds())
+
+    def test_a_retired_bag_is_only_adopted(self) -> None:
+        self.take("/", audit.now())
+        words = Namespace(by="Ada", why="x")
+        self.said(keeping.retire, words, [b"/"])
+        for work in keeping.accepted, keeping.retire, keeping.moved:
+            with self.assertRaises(Refused) as refused:
+                work(self.opened, words, [b"/", b"/new"])
+            text = "/ is retired: adopt takes it again"
+            self.assertEqual(text, str(refused.exception))
+        with self.assertRaises(Refused):
+            renewal.renew(self.opened, b"/", [])
+        self.assertEqual(["retired"], self.kinds())
+
+    def test_a_bag_that_was_moved_is_not_new(self) -> None:
+        self.take("/none", audit.now())
+        with self.opened.changing():
+            news.welcome(self.opened, [b"/new"])
+        values = {"seal": "0", "files": 0, "bytes": 0, "read": audit.now()}
+        words = Namespace(by="Ada", why="x")
+        with mock.patch.object(keeping, "checked"):
+            with mock.patch.object(keeping, "good", return_value=values):
+                self.said(keeping.moved, words, [b"/none", b"/new"])
+        self.assertEqual("no news: 1 bags, ", self.status()[0][:17])
+
+    def test_what_only_status_has_told_can_be_known(self) -> None:
+        self.take("/", "2026-01-01T00:00:00Z")
+        self.assertEqual("news of 1 bag: 1 overdue", self.status()[0])
+        words = Namespace(by="Ada", why="x", until=None, all=True, line=[])
+        said = self.said(keeping.known, words, [b"/"])
+        self.assertEqual(["/: 1 findings are known"], said)
+        for said in self.status(), self.audit():
+            self.assertEqual("no news: 1 bags, ", said[0][:17])
+
+    def test_status_where_nothing_can_be_written(self) -> None:
+        with self.opened.changing():
+            values = {"begun": "x", "ended": None, "results": None}
+            self.opened.add("rounds", name="1", **values)
+        for number in errno.EROFS, errno.EACCES:
+            fails = OSError(number, os.strerror(number))
+            with mock.patch.object(keeping, "alone", side_effect=fails):
+                said = self.status()
+            self.assertEqual("news of 0 bags: 1 cut off", said[0])
 
     def test_a_tar_that_was_retired_is_read_once(self) -> None:
         store = os.path.dirname(self.folder)
