@@ -378,7 +378,9 @@ def night_of_tars():
 
 def night_moved():
     os.rename(bag(10), store / 'moved')
+    news(f'missing {bag(10)}', f'new {store / "moved"}')
     run('moved', register, bag(10), store / 'moved', *who)
+    run('status', register)
     news()
     os.rename(store / 'moved', bag(10))
     run('moved', register, store / 'moved', bag(10), *who)
@@ -610,6 +612,49 @@ def night_of_bits():
     shutil.copy(register / 'register.copy', path)
     assert run('status', register)[0] == said[0]
     path.write_bytes(whole)
+
+
+def night_of_a_lost_round():
+    """A round whose folder is gone, or whose list was altered, is told, and its bags are read again."""
+    for change_it in shutil.rmtree, lambda folder: (folder / 'list/options.json').write_text('{}'):
+        run('audit', register, '--task', '1/2')
+        change_it(max((register / 'rounds').glob('0*')))
+        change(13, 'x')
+        said = run('audit', register, wanted=1)
+        assert said[0] == 'news of 1 bag: 1 with faults, 1 cut off' and damaged(13, '13', 'x') in said, said
+        change(13, '13')
+        news()
+
+
+def night_of_a_removed_row():
+    """A row that somebody has removed is told, also of a bag that is gone; and the copy of the night before is the register then."""
+    path = register / 'register.sqlite'
+    whole = path.read_bytes()
+    os.rename(bag(4), work / 'away')
+    for table, where in ('bags', f"path = '{bag(4)}'"), ('events', 'id = 5'), ('settings', "name = 'stores'"):
+        with contextlib.closing(sqlite3.connect(path)) as base, base:
+            assert base.execute(f'DELETE FROM {table} WHERE {where}').rowcount == 1
+        for command in 'status', 'audit':
+            status, out, said = end(begin(command, register))
+            assert (status, out) == (3, '') and f' (a row of {table} was removed): put register.copy in its place' in said, (status, out, said)
+        path.write_bytes(whole)
+    shutil.copy(register / 'register.copy', path)
+    news(f'missing {bag(4)}')
+    os.rename(work / 'away', bag(4))
+    news()
+
+
+def night_retired_and_accepted():
+    """A retired bag is taken back by adopt alone: no other command says that it is kept."""
+    make(bag(21), '21')
+    run('adopt', register)
+    run('retire', register, bag(21), *who)
+    remake(21, 'another')
+    run('accept', register, bag(21), *who, wanted=2)
+    run('renew', register, bag(21), '--', '--set', 'A=b', wanted=2)
+    news(f'new {bag(21)}')
+    shutil.rmtree(bag(21))
+    news()
 
 
 def night_of_an_altered_event():

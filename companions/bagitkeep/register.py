@@ -50,6 +50,16 @@ UNIQUE = {
     "rounds": "name",
 }
 
+LOST = """
+SELECT 'events' WHERE (SELECT count(*) <> max(id) FROM events)
+UNION SELECT 'events' FROM bags WHERE NOT EXISTS (SELECT 1 FROM events)
+UNION SELECT 'bags' FROM events
+    WHERE bag IS NOT NULL AND bag NOT IN (SELECT id FROM bags)
+UNION SELECT 'settings' WHERE EXISTS (SELECT 1 FROM events)
+    AND (SELECT count(*) FROM settings WHERE name IN ('stores', 'every')) < 2
+"""
+"""Tables that lack a row: no event or bag is ever removed."""
+
 ENCODER = json.JSONEncoder(default=repr)
 
 Row = Dict[str, Any]
@@ -105,6 +115,10 @@ class Register:
             raise self.altered(str(found[0]))
         if {it[0] for it in tables} != set(statements()):
             raise self.altered("its tables are others")
+        with self.reading():
+            lost = self._base.execute(LOST).fetchone()
+        if lost is not None:
+            raise self.altered(f"a row of {lost[0]} was removed")
 
     def altered(self, why: str) -> Refused:
         where = encoded(self.path)

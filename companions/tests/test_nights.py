@@ -2,6 +2,7 @@
 import errno
 import io
 import os
+import shutil
 import sqlite3
 import tempfile
 import unittest
@@ -10,7 +11,7 @@ from contextlib import closing, redirect_stdout
 from typing import Any, Callable, List, Optional
 from unittest import mock
 
-from bagitkeep import audit, keeping, news, register, renewal
+from bagitkeep import audit, keeping, news, register, renewal, rounds
 from bagitkeep.messages import Refused
 from bagitkeep.seal import seal_of
 
@@ -86,6 +87,61 @@ class OfNights(unittest.TestCase):
             self.assertEqual(1, base.execute(query).rowcount)
         with self.assertRaises(Refused):
             self.said(keeping.status, Namespace(), [])
+
+    def test_a_row_that_was_removed_is_an_error(self) -> None:
+        for path in "/none", "/none2":
+            self.take(path, audit.now())
+        self.audit()
+        path = os.fsdecode(self.folder + b"/register.sqlite")
+        with open(path, "rb") as file:
+            whole = file.read()
+        for table, where in (
+            ("settings", "name = 'stores'"),
+            ("settings", "name = 'every'"),
+            ("bags", "id = 2"),
+            ("bags", "1"),
+            ("events", "id = 2"),
+            ("events", "1"),
+        ):
+            with closing(sqlite3.connect(path)) as base, base:
+                base.execute(f"DELETE FROM {table} WHERE {where}")
+            text = fr"\(a row of {table} was removed\): put register.copy in"
+            with self.assertRaisesRegex(Refused, text):
+                register.Register(self.folder)
+            with open(path, "wb") as file:
+                file.write(whole)
+        self.assertEqual("still news of 2 bags: 2 missing", self.audit()[0])
+
+    def test_a_round_whose_list_is_lost_is_given_up(self) -> None:
+        for is_removed in True, False:
+            row = audit.begin_round(self.opened, [], False)
+            folder = audit.folder_of(self.opened, row["name"])
+            if is_removed:
+                shutil.rmtree(folder)
+            else:
+                with open(folder + b"/list/options.json", "r+b") as file:
+                    text = file.read().replace(b"depth", b"depvh")
+                    file.seek(0)
+                    file.write(text)
+            self.assertEqual("news of 0 bags: 1 cut off", self.audit()[0])
+            self.assertEqual("no news: 0 bags", self.audit()[0])
+
+    def test_a_round_takes_a_number_that_none_had(self) -> None:
+        folder = os.path.join(self.folder, b"rounds", b"000007", b"reports")
+        os.makedirs(folder)
+        row = audit.begin_round(self.opened, [], False)
+        self.assertEqual("000008", row["name"])
+        self.assertTrue(os.path.isdir(folder))
+
+    def test_rounds_that_were_pruned_are_not_read_again(self) -> None:
+        with self.opened.changing():
+            for name in "12345":
+                values = {"begun": "x", "ended": "y", "results": "{}"}
+                self.opened.add("rounds", name=name, **values)
+        counts = [1, Refused("x"), 0, 1]
+        with mock.patch.object(rounds, "prune", side_effect=counts) as it:
+            audit.prune(self.opened)
+        self.assertEqual(3, it.call_count)
 
     def test_what_was_known_is_new_again(self) -> None:
         self.take("/none", audit.now())
