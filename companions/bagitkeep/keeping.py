@@ -199,7 +199,7 @@ def accept(
 
 def retire(register: Register, asked: Namespace, paths: List[bytes]) -> int:
     """Notes that a bag isn't kept any more."""
-    said, bag = who_of(asked), register.kept_at(paths[0])
+    said, bag = who_of(asked), register.bag_at(paths[0])
     with register.changing():
         forget(register, bag)
         register.alter("bags", bag, is_kept=0)

@@ -197,7 +197,7 @@ class OfNights(unittest.TestCase):
         self.take("/", audit.now())
         words = Namespace(by="Ada", why="x")
         self.said(keeping.retire, words, [b"/"])
-        for work in keeping.accepted, keeping.retire, keeping.moved:
+        for work in keeping.accepted, keeping.moved:
             with self.assertRaises(Refused) as refused:
                 work(self.opened, words, [b"/", b"/new"])
             text = "/ is retired: adopt takes it again"
