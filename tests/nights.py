@@ -594,6 +594,29 @@ def night_of_two():
     assert end(first)[0] == 0
 
 
+def night_of_two_in_turn():
+    """What is accepted while an audit is at work stands, if the audit had read it before; what it reads after that is news."""
+    for number, word in (17, 'first'), (18, 'last'):
+        change(number, 'x')
+        slow = work / 'slow'
+        slow.write_text(f'#!/bin/sh\ncase "$*" in *bag-18) : >"{work}/{word}"; while [ ! -e "{work}/go" ]; do sleep 0.1; done;; esac\n'
+                        f'exec "{os.environ["BAGIT"]}" "$@"\n')
+        slow.chmod(0o755)
+        audited = begin('audit', register, '--jobs', '1', env={'BAGIT': str(slow)})
+        while not (work / word).exists():
+            time.sleep(0.1)
+        change(number, str(number))
+        run('accept', register, bag(number), *who)
+        change(18, '18' if number == 17 else 'x')
+        (work / 'go').touch()
+        status, out, said = end(audited)
+        lines = [] if number == 17 else [damaged(18, '18', 'x')]
+        assert (status, out.splitlines()[1:2]) == (len(lines), lines), out + said
+        (work / 'go').unlink()
+    change(18, '18')
+    news()
+
+
 def night_of_bits():
     """A bit that changes in the register is told, or changes nothing that is said."""
     path = register / 'register.sqlite'
@@ -630,7 +653,7 @@ def night_of_a_removed_row():
     """A row that somebody has removed is told, also of a bag that is gone; and the copy of the night before is the register then."""
     path = register / 'register.sqlite'
     whole = path.read_bytes()
-    os.rename(bag(4), work / 'away')
+    os.rename(bag(4), work / 'gone')
     for table, where in ('bags', f"path = '{bag(4)}'"), ('events', 'id = 5'), ('settings', "name = 'stores'"):
         with contextlib.closing(sqlite3.connect(path)) as base, base:
             assert base.execute(f'DELETE FROM {table} WHERE {where}').rowcount == 1
@@ -640,7 +663,7 @@ def night_of_a_removed_row():
         path.write_bytes(whole)
     shutil.copy(register / 'register.copy', path)
     news(f'missing {bag(4)}')
-    os.rename(work / 'away', bag(4))
+    os.rename(work / 'gone', bag(4))
     news()
 
 

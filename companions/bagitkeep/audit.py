@@ -6,7 +6,7 @@ import time
 from contextlib import closing, suppress
 from functools import cached_property
 from os.path import join
-from typing import Dict, Iterator, List, Optional, Sequence, Tuple
+from typing import Dict, Iterator, List, Optional, Sequence, Set, Tuple
 
 from . import rounds
 from .beside import bag_beside, say_passed
@@ -143,7 +143,7 @@ def next_number(register: Register) -> int:
     older copy of the register doesn't know."""
     known = [row["name"].encode() for row in register.rows("rounds")]
     there = rounds.names_in(join(register.folder, b"rounds"))
-    return 1 + max((int(it) for it in known + there if it.isdigit()), default=0)
+    return 1 + max(int(it) for it in [b"0", *known, *there] if it.isdigit())
 
 
 def folder_of(register: Register, name: str) -> bytes:
@@ -228,8 +228,8 @@ def strangers(register: Register) -> Tuple[List[bytes], Seen]:
         seal: str = bag["seal"]
         return seal_at(path, before, seen) != seal
 
-    stores = register.setting("stores")
-    return list(filter(is_strange, bags_in(stores))), seen
+    found = dict.fromkeys(bags_in(register.setting("stores")))
+    return list(filter(is_strange, found)), seen
 
 
 def take_in(
@@ -248,10 +248,10 @@ def take_in(
         results = list(zip(a_round.directories, a_round.rows()))
     with register.changing():
         bags = {bag["path"]: bag for bag in register.rows("bags", "is_kept")}
-        statuses = {}
+        statuses, over = {}, accepted_after(register, row)
         for path, result in results:
             bag = bags.get(text_of(path))
-            if bag is not None and path not in late:
+            if bag and bag["id"] not in over and path not in late:
                 take_result(register, bag, result)
                 statuses[bag["id"]] = result.status
         for bag in bags.values():
@@ -268,6 +268,16 @@ def take_in(
         remind(register)
         lapse(register)
         register.set("seen", seen)
+
+
+def accepted_after(register: Register, row: Optional[Row]) -> Set[int]:
+    """The bags that were accepted when a round had read them: of how they are
+    since, it says nothing."""
+    name = None if row is None else row["name"]
+    rows = register.rows("events", "kind = 'accepted'") if row else []
+    return {
+        it["bag"] for it in rows if json.loads(it["data"]).get("after") == name
+    }
 
 
 def take_result(register: Register, bag: Row, result: Result) -> None:

@@ -11,7 +11,7 @@ from os.path import join
 from typing import Any, Callable, Dict, List, Optional, Sequence
 
 from . import rounds
-from .audit import FULL, check, open_round, strangers, tell
+from .audit import FULL, check, folder_of, open_round, strangers, tell
 from .files import absolute, text_of
 from .lines import encoded
 from .messages import Refused, now, printable
@@ -175,6 +175,18 @@ def accepted(register: Register, asked: Namespace, paths: List[bytes]) -> int:
     return accept(register, paths[0], who_of(asked), lambda values: None)
 
 
+def round_over(register: Register, path: bytes) -> Dict[str, str]:
+    """The audit at work, if it has read this bag already. Of how the bag is
+    from now on, it knows nothing."""
+    row = open_round(register)
+    if row is not None:
+        with suppress(Refused, OSError):
+            a_round = rounds.load(folder_of(register, row["name"]))
+            if path in a_round.bags_read():
+                return {"after": row["name"]}
+    return {}
+
+
 def accept(
     register: Register,
     path: bytes,
@@ -183,6 +195,7 @@ def accept(
 ) -> int:
     """Does so if `look`, which is given what is to be noted, lets it."""
     register.kept_at(path)
+    after = round_over(register, path)
     result = checked(register, [path], None).row(1)
     values = good(result)
     if values is None:
@@ -192,7 +205,7 @@ def accept(
         bag = register.kept_at(path)
         forget(register, bag)
         register.alter("bags", bag, **values)
-        register.note("accepted", bag["id"], **said, **values)
+        register.note("accepted", bag["id"], **said, **values, **after)
     print(f"{encoded(path)} is accepted, with the seal {values['seal']}")
     return 0
 

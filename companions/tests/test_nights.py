@@ -217,6 +217,28 @@ class OfNights(unittest.TestCase):
                 self.said(keeping.moved, words, [b"/none", b"/new"])
         self.assertEqual("no news: 1 bags, ", self.status()[0][:17])
 
+    def test_what_is_accepted_after_an_audit_has_read_it(self) -> None:
+        values = {"seal": "1", "files": 0, "bytes": 0, "read": audit.now()}
+        words, paths = Namespace(by="Ada", why="x"), [b"/a", b"/b"]
+        for path in paths:
+            self.take(os.fsdecode(path), audit.now())
+        row = audit.begin_round(self.opened, self.opened.rows("bags"), False)
+        folder = audit.folder_of(self.opened, row["name"])
+        os.mkdir(folder + b"/records")
+        read = rounds.Record(1, "/a", "/a", audit.now(), audit.now(), 1)
+        with open(folder + b"/records/x.jsonl", "wb") as file:
+            file.write(read.line())
+        with mock.patch.object(keeping, "checked"):
+            with mock.patch.object(keeping, "good", return_value=values):
+                for path in paths:
+                    self.said(keeping.accepted, words, [path])
+        self.assertEqual({1}, audit.accepted_after(self.opened, row))
+        self.assertEqual(set(), audit.accepted_after(self.opened, None))
+        with mock.patch.object(os.path, "exists", return_value=True):
+            audit.take_in(self.opened, row, False, [])
+        found = self.opened.rows("findings")
+        self.assertEqual([2], [it["bag"] for it in found])
+
     def test_what_only_status_has_told_can_be_known(self) -> None:
         self.take("/", "2026-01-01T00:00:00Z")
         self.assertEqual("news of 1 bag: 1 overdue", self.status()[0])
@@ -267,6 +289,15 @@ class OfNights(unittest.TestCase):
         os.unlink(path)
         self.audit()
         self.assertEqual({}, self.opened.setting("seen"))
+
+    def test_a_bag_in_two_stores_is_one(self) -> None:
+        store = os.path.dirname(self.folder)
+        os.mkdir(store + b"/bag")
+        with open(store + b"/bag/bagit.txt", "wb"):
+            pass
+        with self.opened.changing():
+            self.opened.set("stores", [os.fsdecode(store)] * 2)
+        self.assertEqual([store + b"/bag"], audit.strangers(self.opened)[0])
 
     def test_news_of_no_bag_go_too(self) -> None:
         for there in [b"/new"], []:
