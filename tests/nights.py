@@ -207,6 +207,29 @@ def night_removed_and_not_read():
     assert run('audit', register, '--days', '1')[0].startswith('no news: 20 bags')
 
 
+def night_not_read_and_then_there():
+    """Of a bag that couldn't be read, what was found before is still so, and known, until it is read; also if it is there again."""
+    change(4, 'x')
+    line = damaged(4, '4', 'x')
+    news(line)
+    link, away = work / 'away', bag(4)
+    os.rename(away, link)
+    away.symlink_to(work / 'nowhere')
+    for _ in range(2):
+        said = run('audit', register, wanted=1)
+        assert sorted(it.replace('still ', '') for it in said[1:3]) == [line, f'missing {bag(4)}'], said
+        assert said[0].endswith('1 with faults, 1 missing'), said
+    away.unlink()
+    os.rename(link, away)
+    said = run('audit', register, '--days', '1', wanted=1)
+    assert said[:2] == ['still news of 1 bag: 1 with faults', f'still {line}'], said
+    known(4)
+    run('audit', register, wanted=1, env={'BAGIT': str(work / 'nowhere')})
+    news()
+    change(4, '4')
+    news()
+
+
 def night_renewed():
     run('renew', register, bag(5), '--', '--quiet', '--set', 'Contact-Name=Ada')
     news()
@@ -355,7 +378,9 @@ def night_of_tars():
 
 def night_moved():
     os.rename(bag(10), store / 'moved')
+    news(f'missing {bag(10)}', f'new {store / "moved"}')
     run('moved', register, bag(10), store / 'moved', *who)
+    run('status', register)
     news()
     os.rename(store / 'moved', bag(10))
     run('moved', register, store / 'moved', bag(10), *who)
@@ -569,6 +594,29 @@ def night_of_two():
     assert end(first)[0] == 0
 
 
+def night_of_two_in_turn():
+    """What is accepted while an audit is at work stands, if the audit had read it before; what it reads after that is news."""
+    for number, word in (17, 'first'), (18, 'last'):
+        change(number, 'x')
+        slow = work / 'slow'
+        slow.write_text(f'#!/bin/sh\ncase "$*" in *bag-18) : >"{work}/{word}"; while [ ! -e "{work}/go" ]; do sleep 0.1; done;; esac\n'
+                        f'exec "{os.environ["BAGIT"]}" "$@"\n')
+        slow.chmod(0o755)
+        audited = begin('audit', register, '--jobs', '1', env={'BAGIT': str(slow)})
+        while not (work / word).exists():
+            time.sleep(0.1)
+        change(number, str(number))
+        run('accept', register, bag(number), *who)
+        change(18, '18' if number == 17 else 'x')
+        (work / 'go').touch()
+        status, out, said = end(audited)
+        lines = [] if number == 17 else [damaged(18, '18', 'x')]
+        assert (status, out.splitlines()[1:2]) == (len(lines), lines), out + said
+        (work / 'go').unlink()
+    change(18, '18')
+    news()
+
+
 def night_of_bits():
     """A bit that changes in the register is told, or changes nothing that is said."""
     path = register / 'register.sqlite'
@@ -587,6 +635,49 @@ def night_of_bits():
     shutil.copy(register / 'register.copy', path)
     assert run('status', register)[0] == said[0]
     path.write_bytes(whole)
+
+
+def night_of_a_lost_round():
+    """A round whose folder is gone, or whose list was altered, is told, and its bags are read again."""
+    for change_it in shutil.rmtree, lambda folder: (folder / 'list/options.json').write_text('{}'):
+        run('audit', register, '--task', '1/2')
+        change_it(max((register / 'rounds').glob('0*')))
+        change(13, 'x')
+        said = run('audit', register, wanted=1)
+        assert said[0] == 'news of 1 bag: 1 with faults, 1 cut off' and damaged(13, '13', 'x') in said, said
+        change(13, '13')
+        news()
+
+
+def night_of_a_removed_row():
+    """A row that somebody has removed is told, also of a bag that is gone; and the copy of the night before is the register then."""
+    path = register / 'register.sqlite'
+    whole = path.read_bytes()
+    os.rename(bag(4), work / 'gone')
+    for table, where in ('bags', f"path = '{bag(4)}'"), ('events', 'id = 5'), ('settings', "name = 'stores'"):
+        with contextlib.closing(sqlite3.connect(path)) as base, base:
+            assert base.execute(f'DELETE FROM {table} WHERE {where}').rowcount == 1
+        for command in 'status', 'audit':
+            status, out, said = end(begin(command, register))
+            assert (status, out) == (3, '') and f' (a row of {table} was removed): put register.copy in its place' in said, (status, out, said)
+        path.write_bytes(whole)
+    shutil.copy(register / 'register.copy', path)
+    news(f'missing {bag(4)}')
+    os.rename(work / 'gone', bag(4))
+    news()
+
+
+def night_retired_and_accepted():
+    """A retired bag is taken back by adopt alone: no other command says that it is kept."""
+    make(bag(21), '21')
+    run('adopt', register)
+    run('retire', register, bag(21), *who)
+    remake(21, 'another')
+    run('accept', register, bag(21), *who, wanted=2)
+    run('renew', register, bag(21), '--', '--set', 'A=b', wanted=2)
+    news(f'new {bag(21)}')
+    shutil.rmtree(bag(21))
+    news()
 
 
 def night_of_an_altered_event():

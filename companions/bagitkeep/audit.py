@@ -2,12 +2,11 @@
 import argparse
 import json
 import os
-import shutil
 import time
 from contextlib import closing, suppress
 from functools import cached_property
 from os.path import join
-from typing import Dict, Iterator, List, Optional, Sequence, Tuple
+from typing import Dict, Iterator, List, Optional, Sequence, Set, Tuple
 
 from . import rounds
 from .beside import bag_beside, say_passed
@@ -59,7 +58,7 @@ def bags_there(register: Register) -> List[Row]:
     return [
         {**bag, "tried": tried.get(bag["id"], "")}
         for bag in register.rows("bags")
-        if os.path.lexists(path_of(bag["path"]))
+        if os.path.exists(path_of(bag["path"]))
     ]
 
 
@@ -103,6 +102,24 @@ def open_round(register: Register) -> Optional[Row]:
     return next((row for row in rows if row["ended"] is None), None)
 
 
+def is_lost(register: Register, row: Row) -> bool:
+    """Whether the list of a round was altered or removed, which is said."""
+    try:
+        rounds.load(folder_of(register, row["name"]))
+    except Refused as refused:
+        say(f"{refused}: its bags are read again")
+        return True
+    return False
+
+
+def give_up(register: Register, row: Row) -> None:
+    """Ends a round without a list, of which nothing can be taken in."""
+    with register.changing():
+        if open_round(register) == row:
+            register.alter("rounds", row, ended=now(), results="{}")
+            register.note("cut-off", None, begun=row["begun"])
+
+
 def begin_round(register: Register, bags: List[Row], by_task: bool) -> Row:
     """Begins a round over these bags, or takes the one that another process
     has just begun. That of tasks has results at once, which are none yet."""
@@ -110,19 +127,23 @@ def begin_round(register: Register, bags: List[Row], by_task: bool) -> Row:
         there = open_round(register)
         if there is not None:
             return there
-        number = 1 + max(
-            [int(row["name"]) for row in register.rows("rounds")] or [0]
-        )
-        name = f"{number:06d}"
+        name = f"{next_number(register):06d}"
         folder = folder_of(register, name)
         os.makedirs(os.path.dirname(folder), exist_ok=True)
-        shutil.rmtree(folder, ignore_errors=True)
         rounds.begin(folder, [path_of(it["path"]) for it in bags], FULL, None)
         values = {"ended": None, "results": "{}" if by_task else None}
         register.add("rounds", name=name, begun=now(), **values)
         found = open_round(register)
         assert found is not None
         return found
+
+
+def next_number(register: Register) -> int:
+    """The number of the next round, which none ever had: also none that an
+    older copy of the register doesn't know."""
+    known = [row["name"].encode() for row in register.rows("rounds")]
+    there = rounds.names_in(join(register.folder, b"rounds"))
+    return 1 + max(int(it) for it in [b"0", *known, *there] if it.isdigit())
 
 
 def folder_of(register: Register, name: str) -> bytes:
@@ -207,8 +228,8 @@ def strangers(register: Register) -> Tuple[List[bytes], Seen]:
         seal: str = bag["seal"]
         return seal_at(path, before, seen) != seal
 
-    stores = register.setting("stores")
-    return list(filter(is_strange, bags_in(stores))), seen
+    found = dict.fromkeys(bags_in(register.setting("stores")))
+    return list(filter(is_strange, found)), seen
 
 
 def take_in(
@@ -227,15 +248,15 @@ def take_in(
         results = list(zip(a_round.directories, a_round.rows()))
     with register.changing():
         bags = {bag["path"]: bag for bag in register.rows("bags", "is_kept")}
-        statuses = {}
+        statuses, over = {}, accepted_after(register, row)
         for path, result in results:
             bag = bags.get(text_of(path))
-            if bag is not None and path not in late:
+            if bag and bag["id"] not in over and path not in late:
                 take_result(register, bag, result)
                 statuses[bag["id"]] = result.status
         for bag in bags.values():
             if bag["id"] not in statuses:
-                miss(register, bag, os.path.lexists(path_of(bag["path"])))
+                miss(register, bag, os.path.exists(path_of(bag["path"])))
         if row is not None:
             register.alter(
                 "rounds", row, ended=now(), results=json.dumps(statuses)
@@ -249,6 +270,16 @@ def take_in(
         register.set("seen", seen)
 
 
+def accepted_after(register: Register, row: Optional[Row]) -> Set[int]:
+    """The bags that were accepted when a round had read them: of how they are
+    since, it says nothing."""
+    name = None if row is None else row["name"]
+    rows = register.rows("events", "kind = 'accepted'") if row else []
+    return {
+        it["bag"] for it in rows if json.loads(it["data"]).get("after") == name
+    }
+
+
 def take_result(register: Register, bag: Row, result: Result) -> None:
     """Notes how a bag is."""
     settle(register, bag, found_of(result, bag["seal"]))
@@ -257,10 +288,12 @@ def take_result(register: Register, bag: Row, result: Result) -> None:
 
 
 def prune(register: Register) -> None:
-    """Of rounds but the last, removes the reports of bags without faults."""
-    for row in register.rows("rounds", "ended IS NOT NULL")[:-1]:
+    """Of rounds but the last, removes the reports of bags without faults: back
+    to one that has none, as those before it were pruned, too."""
+    for row in reversed(register.rows("rounds", "ended IS NOT NULL")[:-1]):
         with suppress(Refused, OSError):
-            rounds.prune(folder_of(register, row["name"]))
+            if not rounds.prune(folder_of(register, row["name"])):
+                break
 
 
 def is_checked(register: Register, row: Row) -> bool:
@@ -282,7 +315,11 @@ def cut_off_of(register: Register, there: Optional[Row]) -> Optional[Row]:
 def audit(register: Register, asked: argparse.Namespace) -> int:
     """One audit, or one task of it, and what is new."""
     there, by_task = open_round(register), asked.task is not None
-    cut_off = None if by_task else cut_off_of(register, there)
+    lost = there if there is not None and is_lost(register, there) else None
+    if lost is not None:
+        give_up(register, lost)
+        there = None
+    cut_off = None if by_task else lost or cut_off_of(register, there)
     late: List[bytes] = []
     if there is None or cut_off is not None and is_checked(register, there):
         if there is not None:

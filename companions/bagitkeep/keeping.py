@@ -11,13 +11,13 @@ from os.path import join
 from typing import Any, Callable, Dict, List, Optional, Sequence
 
 from . import rounds
-from .audit import FULL, check, open_round, strangers, tell
+from .audit import FULL, check, folder_of, open_round, strangers, tell
 from .files import absolute, text_of
 from .lines import encoded
 from .messages import Refused, now, printable
-from .news import LAPSED, forget, state_of
+from .news import LAPSED, forget, remind, state_of
 from .premis import premis_of
-from .register import Register, Row, alone, make, take
+from .register import Register, Row, alone, forget_new, make, take
 from .rounds import Round
 from .rounds import Row as Result
 from .usage import DAYS, JOBS, MANY, read
@@ -102,7 +102,7 @@ def unended(register: Register) -> Optional[Row]:
     only who may write in the register can tell."""
     if open_round(register) is None:
         return None
-    with suppress(PermissionError):
+    with suppress(OSError):
         try:
             with alone(register.folder):
                 return open_round(register)
@@ -151,6 +151,7 @@ def known(register: Register, asked: Namespace, paths: List[bytes]) -> int:
         said["until"] = asked.until
     text = text_of(paths[0])
     with register.changing():
+        remind(register)
         new = register.rows("findings", "bag IS NULL AND text = ?", text)
         bag = {"id": None} if new else register.bag_at(paths[0])
         found = new or register.rows("findings", "bag = ?", bag["id"])
@@ -174,6 +175,18 @@ def accepted(register: Register, asked: Namespace, paths: List[bytes]) -> int:
     return accept(register, paths[0], who_of(asked), lambda values: None)
 
 
+def round_over(register: Register, path: bytes) -> Dict[str, str]:
+    """The audit at work, if it has read this bag already. Of how the bag is
+    from now on, it knows nothing."""
+    row = open_round(register)
+    if row is not None:
+        with suppress(Refused, OSError):
+            a_round = rounds.load(folder_of(register, row["name"]))
+            if path in a_round.bags_read():
+                return {"after": row["name"]}
+    return {}
+
+
 def accept(
     register: Register,
     path: bytes,
@@ -181,17 +194,18 @@ def accept(
     look: Callable[[Row], None],
 ) -> int:
     """Does so if `look`, which is given what is to be noted, lets it."""
-    register.bag_at(path)
+    register.kept_at(path)
+    after = round_over(register, path)
     result = checked(register, [path], None).row(1)
     values = good(result)
     if values is None:
         return result.status or 3
     look(values)
     with register.changing():
-        bag = register.bag_at(path)
+        bag = register.kept_at(path)
         forget(register, bag)
         register.alter("bags", bag, **values)
-        register.note("accepted", bag["id"], **said, **values)
+        register.note("accepted", bag["id"], **said, **values, **after)
     print(f"{encoded(path)} is accepted, with the seal {values['seal']}")
     return 0
 
@@ -209,7 +223,7 @@ def retire(register: Register, asked: Namespace, paths: List[bytes]) -> int:
 
 def moved(register: Register, asked: Namespace, paths: List[bytes]) -> int:
     """Notes that a bag is at another place, by a full check of it there."""
-    said, bag = who_of(asked), register.bag_at(paths[0])
+    said, bag = who_of(asked), register.kept_at(paths[0])
     old, new = map(encoded, paths)
     if os.path.lexists(paths[0]):
         raise Refused(f"{old} is still there", 3)
@@ -222,8 +236,9 @@ def moved(register: Register, asked: Namespace, paths: List[bytes]) -> int:
     if values["seal"] != bag["seal"]:
         raise Refused(f"{new} is another bag: its seal is another one", 3)
     with register.changing():
-        bag = register.bag_at(paths[0])
+        bag = register.kept_at(paths[0])
         forget(register, bag)
+        forget_new(register, text_of(paths[1]))
         register.alter("bags", bag, path=text_of(paths[1]), **values)
         register.note(
             "moved", bag["id"], old=text_of(paths[0]), new=text_of(paths[1]),

@@ -2,6 +2,7 @@
 import os
 import time
 from contextlib import suppress
+from datetime import datetime
 from typing import Union
 
 from .lines import encoded
@@ -25,6 +26,14 @@ def shown(path: Union[str, bytes]) -> str:
 def now() -> str:
     """The time in UTC."""
     return time.strftime("%Y-%m-%dT%H:%M:%SZ", time.gmtime())
+
+
+def is_time(text: str) -> bool:
+    """Whether a text is a time as `now` gives it."""
+    with suppress(ValueError):
+        datetime.fromisoformat(text[:-1])
+        return text[-1:] == "Z"
+    return False
 
 
 def printable(text: str) -> str:

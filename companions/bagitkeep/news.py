@@ -27,6 +27,9 @@ KINDS = {
 }
 """What is found, and how it is counted in a first line."""
 
+UNREAD = {"missing", "unread"}
+"""What is found of a bag of which nothing else is known."""
+
 OF_PATHS = {"new": "", "receipt": "was altered, or isn't there"}
 """What is found at paths that are no bag's, and what is said of it."""
 
@@ -97,11 +100,14 @@ def lose(register: Register, row: Row) -> None:
 
 def settle(register: Register, bag: Row, found: Found) -> None:
     """Has the register say that this is what is found of a bag now, but for
-    what is overdue."""
+    what is overdue. Of a bag that wasn't read, what was found before stands:
+    nothing says that it is gone."""
     there = register.rows("findings", "bag = ?", bag["id"])
+    is_read = UNREAD.isdisjoint(kind for kind, _ in found)
     for row in there:
-        what = (row["kind"], row["text"])
-        if what not in found and row["kind"] != "overdue":
+        what, kind = (row["kind"], row["text"]), row["kind"]
+        stands = kind == "overdue" or not (is_read or kind in UNREAD)
+        if what not in found and not stands:
             lose(register, row)
     known = {(row["kind"], row["text"]) for row in there}
     for kind, text in sorted(found - known):

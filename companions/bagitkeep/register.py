@@ -50,6 +50,16 @@ UNIQUE = {
     "rounds": "name",
 }
 
+LOST = """
+SELECT 'events' WHERE (SELECT count(*) <> max(id) FROM events)
+UNION SELECT 'events' FROM bags WHERE NOT EXISTS (SELECT 1 FROM events)
+UNION SELECT 'bags' FROM events
+    WHERE bag IS NOT NULL AND bag NOT IN (SELECT id FROM bags)
+UNION SELECT 'settings' WHERE EXISTS (SELECT 1 FROM events)
+    AND (SELECT count(*) FROM settings WHERE name IN ('stores', 'every')) < 2
+"""
+"""Tables that lack a row: no event or bag is ever removed."""
+
 ENCODER = json.JSONEncoder(default=repr)
 
 Row = Dict[str, Any]
@@ -105,6 +115,10 @@ class Register:
             raise self.altered(str(found[0]))
         if {it[0] for it in tables} != set(statements()):
             raise self.altered("its tables are others")
+        with self.reading():
+            lost = self._base.execute(LOST).fetchone()
+        if lost is not None:
+            raise self.altered(f"a row of {lost[0]} was removed")
 
     def altered(self, why: str) -> Refused:
         where = encoded(self.path)
@@ -203,6 +217,14 @@ class Register:
             raise Refused(f"the register has no bag {encoded(path)}")
         return found[0]
 
+    def kept_at(self, path: bytes) -> Row:
+        """The bag at a path, which has to be one that is kept."""
+        bag = self.bag_at(path)
+        if not bag["is_kept"]:
+            text = f"{encoded(path)} is retired: adopt takes it again"
+            raise Refused(text)
+        return bag
+
     def setting(self, name: str) -> Any:
         found = self.rows("settings", "name = ?", name)
         return json.loads(found[0]["value"]) if found else None
@@ -236,12 +258,17 @@ class Register:
         sync_folder(self.folder)
 
 
-def take(register: Register, path: str, **values: Any) -> int:
-    """Takes a bag into the register, also one that was retired; gives its
-    number."""
+def forget_new(register: Register, path: str) -> None:
+    """Has it say that no new bag is found at this path any more."""
     for row in register.rows("findings", "kind = 'new' AND text = ?", path):
         register.remove("findings", row)
         register.note("gone", None, of="new", text=path)
+
+
+def take(register: Register, path: str, **values: Any) -> int:
+    """Takes a bag into the register, also one that was retired; gives its
+    number."""
+    forget_new(register, path)
     row_now = {**values, "path": path, "is_kept": 1, "adopted": now()}
     ours = register.rows("bags", "path = ?", path)
     if ours:

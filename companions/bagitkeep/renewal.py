@@ -99,7 +99,7 @@ def standing(bag: str, words: Sequence[str]) -> Standing:
 
 def renew(register: Register, path: bytes, words: List[str]) -> int:
     """Renews a bag that is as the register has it, and accepts it."""
-    row, bag = register.bag_at(path), os.fsdecode(path)
+    row, bag = register.kept_at(path), os.fsdecode(path)
     before = standing(bag, words)
     if before.seal != row["seal"]:
         raise BagError("it isn't as the register has it")

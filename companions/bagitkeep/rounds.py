@@ -33,10 +33,11 @@ from .files import (
     naming, read_bytes, sha256_of, sync_folder, text_of, whole, write_synced,
 )
 from .lines import VERDICTS, Report, encoded, report_of
-from .messages import Refused
+from .messages import Refused, is_time
 from .program import Asked, Ended, Verdict, named, verdict_of
 
 FORMAT = 2
+OPTIONS = {"format", "bags", "depth", "clashes", "profile"}
 ALTERED = "its record or report was altered: remove it"
 
 
@@ -82,7 +83,7 @@ def record_of(line: bytes) -> Optional[Record]:
         is_left_out = value is None and "Optional" in kind
         if not is_left_out and type(value) is not wanted:
             return None
-    return record
+    return record if is_time(record.begun) and is_time(record.ended) else None
 
 
 @dataclass(frozen=True)
@@ -183,6 +184,11 @@ class Round:
             text = f"checked at {last.ended}; its report is not there"
         return Row(3, last.why or text, bag, record=last)
 
+    def bags_read(self) -> Set[bytes]:
+        """The bags of which a check has ended."""
+        known = range(1, len(self.directories) + 1)
+        return {self.directories[it - 1] for it in known if it in self.records}
+
     def rows(self) -> List[Row]:
         """The rows of all bags, in their order."""
         return [self.row(it + 1) for it in range(len(self.directories))]
@@ -235,7 +241,8 @@ def load(folder: bytes) -> Round:
     if not isinstance(found, dict) or found.get("format") != FORMAT:
         raise Refused(f"{encoded(folder)} is a round of another program", 3)
     directories = listed.split(b"\0")[:-1]
-    if found["bags"] != len(directories) or found["depth"] not in VERDICTS:
+    is_same = found.keys() == OPTIONS and found["bags"] == len(directories)
+    if not is_same or found["depth"] not in list(VERDICTS):
         raise Refused(f"the list of {encoded(folder)} was altered", 3)
     profile = join(folder, b"list/profile.json")
     asked = Asked(
@@ -259,9 +266,9 @@ def read_pruned(folder: bytes) -> Set[int]:
     return set()
 
 
-def prune(folder: bytes) -> None:
-    """Removes the reports of the bags of a round without faults. That they
-    were there is noted before."""
+def prune(folder: bytes) -> int:
+    """Removes the reports of the bags of a round without faults, and says how
+    many. That they were there is noted before."""
     a_round = load(folder)
     numbers = range(1, len(a_round.directories) + 1)
     good = [it for it in numbers if a_round.row(it).status == 0]
@@ -276,6 +283,7 @@ def prune(folder: bytes) -> None:
     for number in good:
         with suppress(FileNotFoundError):
             os.unlink(a_round.report_path(number))
+    return len(good)
 
 
 def options_of(

@@ -24,7 +24,8 @@ class OfRegister(unittest.TestCase):
         (self.room / "link").symlink_to("store")
         self.folder = str(self.room / "register")
         stores = [str(self.room / "link")]
-        register.make(os.fsencode(self.folder), {"stores": stores})
+        settings = {"stores": stores, "every": 90}
+        register.make(os.fsencode(self.folder), settings)
 
     def receipt(self, number: str, name: str = "", seal: str = SEAL) -> bytes:
         receipt: Dict[str, Any] = {

@@ -210,13 +210,28 @@ class OfRegister(unittest.TestCase):
         opened = self.open()
         with opened.changing():
             news.settle(opened, bag(1, None), {("fault", "x")})
-            both = {("fault", "x"), ("missing", "")}
+            both = {("fault", "x"), ("altered", "")}
             news.settle(opened, bag(1, None), both)
-            news.settle(opened, bag(1, None), {("missing", "")})
+            news.settle(opened, bag(1, None), {("altered", "")})
         found = [row["kind"] for row in opened.rows("findings")]
-        self.assertEqual(["missing"], found)
+        self.assertEqual(["altered"], found)
         kinds = [row["kind"] for row in opened.rows("events")]
         self.assertEqual(["init", "found", "found", "gone"], kinds)
+
+    def test_what_was_found_stands_where_nothing_was_read(self) -> None:
+        opened = self.open()
+        fault = "fault", "x"
+        for found, wanted in (
+            ({fault}, {fault}),
+            ({("unread", "y")}, {fault, ("unread", "y")}),
+            ({("missing", "")}, {fault, ("missing", "")}),
+            ({("unread", "z")}, {fault, ("unread", "z")}),
+            (set(), set()),
+        ):
+            with opened.changing():
+                news.settle(opened, bag(1, None), found)
+            rows = opened.rows("findings")
+            self.assertEqual(wanted, {(it["kind"], it["text"]) for it in rows})
 
     def test_another_bag_at_the_path_of_a_retired_one(self) -> None:
         store = os.path.join(os.path.dirname(self.folder), b"store")

@@ -15,17 +15,18 @@ from bagitkeep.program import Asked
 from bagitkeep.rounds import Record, Row, begin, load, prune, record_of
 from bagitkeep.table import change_of, table_of
 
+TIME = "2026-01-01T00:00:00Z"
 VALID, FAULTY = b"/b/a is valid\n", b"/b/a has faults: 1\n"
 MISSING = b"601 payload-file-missing data/a md5 - -\n"
 
 
 def a_record(report: bytes) -> Record:
     digest = hashlib.sha256(report).hexdigest()
-    return Record(1, "/b/a", "/b/a", "x", "y", 1, report_sha256=digest)
+    return Record(1, "/b/a", "/b/a", TIME, TIME, 1, report_sha256=digest)
 
 
 class Records(unittest.TestCase):
-    RECORD = Record(1, "a", "b", "c", "d", 5, seal="e", files=0, size=0)
+    RECORD = Record(1, "a", "b", TIME, TIME, 5, seal="e", files=0, size=0)
 
     def test_a_record_comes_back(self) -> None:
         self.assertEqual(record_of(self.RECORD.line()), self.RECORD)
@@ -42,6 +43,10 @@ class Records(unittest.TestCase):
                 if record is not None:
                     kept = getattr(record, name)
                     self.assertEqual(type(kept), type(value), name)
+        for time in "2026-19-01T00:00:00Z", "2p26-01-01T00:00:00Z", TIME[:-1]:
+            for name in "begun", "ended":
+                line = json.dumps({**fields, name: time}).encode()
+                self.assertIsNone(record_of(line))
         others = b"", b"\n", b"[]", b"{}", b"1", b"\xff", b"[" * 100000
         for text in others:
             self.assertIsNone(record_of(text))
@@ -128,16 +133,16 @@ class Rounds(unittest.TestCase):
             row = load(name).row(1)
             self.assertEqual(
                 (row.status, row.result, row.is_pruned),
-                (3, "read whole at y; its report was pruned", True),
+                (3, f"read whole at {TIME}; its report was pruned", True),
             )
             site = page.site_of_round(name)
             self.assertEqual("0 of 1 bags have news", site.first_line)
             self.assertEqual(row.result, site.bags[0].how)
-            self.assertEqual("y", site.bags[0].read)
+            self.assertEqual(TIME, site.bags[0].read)
             self.assertFalse(site.bags[0].is_certified)
         (self.round / "pruned").unlink()
         row = load(name).row(1)
-        says = "checked at y; its report is not there"
+        says = f"checked at {TIME}; its report is not there"
         self.assertEqual((row.result, row.is_pruned), (says, False))
         (self.round / "tries" / "000001-a.00.txt").write_bytes(b"")
         self.assertEqual("not ended", load(name).row(1).result)
