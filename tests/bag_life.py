@@ -970,6 +970,20 @@ class EachAlone(Life):
                 self.refused(1, "restore", "d", "--from", "less")
             Path("d", path).write_bytes(old)
 
+    def test_a_copy_made_again_of_damaged_files_certifies_nothing(self):
+        """Its payload manifests came into the bag; the tag manifests of the bag still tell it."""
+        files = self.new_bag("d", ["x"])
+        others = {path: it for path, it in files.items() if "manifest-" not in path}
+        self.write("again", {**others, "data/x": b"damaged"})
+        for manifest in "manifest-md5.txt", "manifest-sha256.txt":
+            Path("d", manifest).write_bytes(Path("again", manifest).read_bytes())
+        said = self.refused(1, "restore", "d", "--from", "again").said
+        self.assertIn("no file is replaced that differs by manifest-sha256.txt alone: restore manifest-sha256.txt first", said)
+        Path("d/data/x").write_bytes(b"damaged")
+        self.refused(1, "restore", "d", "--from", "again")
+        Path("d/tagmanifest-md5.txt").unlink()
+        self.refused(1, "restore", "d", "--from", "again")
+
     def test_says_how_a_valid_bag_differs_from_copies(self):
         files = self.new_bag("d", ["x"])
         shutil.copytree("d", "copy")

@@ -26,10 +26,21 @@ Found = Dict[str, Tuple[str, str]]
 """New files, and of which copy each is, by their paths in the bag."""
 
 
+def in_doubt(report: BagReport) -> Set[Fault]:
+    """Faults of payload files by a manifest that isn't what a tag manifest
+    gives: it can be the manifest that is wrong, and not the file."""
+    wrong = {it.path for it in report.faults if it.code == 702}
+    return {
+        it for it in report.faults
+        if it.code == 701 and f"manifest-{it.algorithm}.txt" in wrong
+    }
+
+
 def wanted_of(bag: str, report: BagReport, is_tag: bool) -> Dict[str, Sums]:
     """The files of one kind that are to be restored, with their digests."""
     codes = (602, 702) if is_tag else (601, 701)
-    paths = {it.path for it in report.faults if it.code in codes}
+    sure = set(report.faults) - in_doubt(report)
+    paths = {it.path for it in sure if it.code in codes}
     if report.unread is not None:
         paths.add(report.unread.path)
     if not paths:
@@ -201,8 +212,14 @@ def restored(
             count, missing = by_digests(place, report, copies, kept, done)
             if count or by_tag_manifest(place, report, copies, kept, done):
                 continue
+            doubts = {it.algorithm for it in in_doubt(report)}
             for path in missing:
                 say_missing(path, copies, is_whole)
+            for name in sorted(f"manifest-{it}.txt" for it in doubts):
+                say(
+                    f"no file is replaced that differs by {name} alone:"
+                    f" restore {name} first"
+                )
             if report.status == 0:
                 say_differences(bag, copies)
             return report, missing

@@ -132,7 +132,9 @@ class Fits(InAFolder):
         self.at("bag/b", b"")
         a, b, good = f"{A}  a\n", f"{EMPTY}  b\n", f"{A}  a\n{EMPTY}  b\n"
         for was, becomes, is_fit in (
-            (f"{EMPTY}  a\n{b}", good, True),
+            (f"{EMPTY}  a\n{b}", good, False),
+            (f"{EMPTY[:20]}{A[20:]}  a\n{b}", good, False),
+            (f"{EMPTY[:14]}{A[14:]}  a\n{b}", good, True),
             (f"{A}  c\n{b}", good, True),
             (f"x{A}  a\n{b}", good, True),
             ("", good, True),
