@@ -1068,6 +1068,7 @@ class EachAlone(Life):
         os.chmod("copy/data/x", 0)
         said = self.ends(3, "restore", "d", "--from", "copy", user=NOBODY).said
         self.assertIn("copy: data/x isn't read: ", said)
+        self.assertIn("/d/data/x: permission denied\n", said)
         self.assertNotIn("no copy has", said)
         os.chmod("copy/data/x", 0o644)
         os.mkdir("closed", 0)

@@ -262,6 +262,8 @@ def replaced(
 
 def show(report: BagReport) -> int:
     """Writes a report as `bagit` did, and says its status."""
+    if report.unread is not None and report.message:
+        say(report.message)
     lines = [*map(str, report.faults), report.result]
     sys.stdout.write("".join(f"{line}\n" for line in lines))
     return report.status
