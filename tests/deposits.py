@@ -423,6 +423,10 @@ def cut_off():
         else:
             accepted(HERE / "cut.tar", bag)
             assert by_gnu_tar("cut.tar", bag)
+    (HERE / "cut.tar").write_bytes(whole)
+    pack("gzip", "-kf", "cut.tar")
+    (HERE / "cut.tar.gz").write_bytes((HERE / "cut.tar.gz").read_bytes()[:-9])
+    refused(HERE / "cut.tar.gz", "unexpected end of file")
     (HERE / "cut.tar").write_bytes(whole + bytes(700))
     accepted(HERE / "cut.tar", bag)
     for added in b"x", bytes(511) + b"x", whole:

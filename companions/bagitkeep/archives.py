@@ -175,6 +175,8 @@ def zip_content(
     file: IO[bytes], size: int, names: Optional[str], limits: Limits
 ) -> Content:
     """What a .zip has."""
+    if not zipfile.is_zipfile(file):
+        raise Unfit("it is cut off, or its end is damaged")
     packed = zipfile.ZipFile(file)
     file.seek(-22 - len(packed.comment), os.SEEK_END)
     if file.read(4) != b"PK\5\6":

@@ -226,7 +226,7 @@ def restored(
     finally:
         place.clear()
         if lexists(kept):
-            say(f"what was replaced is in {shown(kept)}")
+            say(f"what was there is kept in {shown(kept)}")
 
 
 def run(words: Sequence[str]) -> int:

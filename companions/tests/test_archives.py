@@ -51,7 +51,7 @@ class Paths(unittest.TestCase):
             refuse_path(path)
         long = "/".join(["d"] * 300)
         bad = "", "/a", "a//b", "a/", "./a", "a/../b", "..", "\0", "\udce9"
-        for path in *bad, long, "n" * 5000:
+        for path in *bad, long, "n" * 5000, "é" * 128 + "/a":
             with self.assertRaises(Unfit):
                 refuse_path(path)
 
@@ -139,6 +139,8 @@ class Zips(unittest.TestCase):
             for before in whole, out.getvalue(), b"x":
                 with self.assertRaisesRegex(Unfit, "before the archive"):
                     found(before + whole)
+            with self.assertRaisesRegex(Unfit, "cut off"):
+                found(whole[:-5])
 
 
 class Others(unittest.TestCase):
