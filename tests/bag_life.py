@@ -1006,6 +1006,19 @@ class EachAlone(Life):
         said = self.refused(0, "restore", "d", "--from", "damaged.tar").said
         self.assertEqual((said.count("\n"), "isn't read whole" in said), (1, True), said)
 
+    @unittest.skipUnless(os.environ.get("SMALL_DISK"), "there is no small disk")
+    def test_restores_nothing_where_a_disk_is_mounted(self):
+        self.new_bag("copy", ["x"])
+        disk = os.environ["SMALL_DISK"]
+        shutil.copytree("copy", disk, dirs_exist_ok=True)
+        Path(disk, "data/x").write_bytes(b"damaged")
+        said = self.refused(3, "restore", disk, "--from", "copy").said
+        self.assertIn("is where a disk is mounted", said)
+        self.assertEqual([it for it in os.listdir(os.path.dirname(disk)) if ".kept" in it or ".new" in it], [])
+        for name in os.listdir(disk):
+            path = join(disk, name)
+            shutil.rmtree(path) if os.path.isdir(path) else os.unlink(path)
+
     def test_restores_out_of_the_copies_that_can_be_read(self):
         before = self.new_bag("d", ["x", "y"])
         for copy in "copy", "less":

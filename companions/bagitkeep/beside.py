@@ -232,6 +232,12 @@ def folder_of(word: str) -> str:
     return bag
 
 
+def refuse_mount(bag: str) -> None:
+    """Refuses a bag into which nothing beside it can be renamed."""
+    if os.path.ismount(bag):
+        raise BagError(f"{shown(bag)} is where a disk is mounted")
+
+
 def replaced(
     bag: str,
     command: str,
@@ -243,8 +249,7 @@ def replaced(
     was built. The status is that of the last check, whose report is
     written."""
     place = Beside(bag, command)
-    if os.path.ismount(bag):
-        raise BagError(f"{shown(bag)} is where a disk is mounted")
+    refuse_mount(bag)
     with alone(bag if lexists(bag) else place.work, bag):
         try:
             if place.is_done(words):

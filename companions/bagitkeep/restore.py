@@ -7,7 +7,9 @@ from os.path import basename, dirname, join, lexists
 from typing import Dict, Iterator, List, Sequence, Set, Tuple
 
 from .bagit import content_of, entries_in, manifests_in, reading
-from .beside import Beside, Faulty, checked, folder_of, kept_of, show
+from .beside import (
+    Beside, Faulty, checked, folder_of, kept_of, refuse_mount, show,
+)
 from .copies import Copy, Sums, copies_at, say_differences
 from .errors import BagError
 from .files import sync_folder, write_synced
@@ -16,7 +18,7 @@ from .mending import fits, is_old
 from .messages import Refused, explained, say, shown
 from .program import Asked
 from .runs import BagReport, alone, check
-from .trees import dress, link_tree, make_folders
+from .trees import dress, link_tree, make_folders, prune
 from .usage import read
 
 OLD = "BagIt-Version: 0.97\nTag-File-Character-Encoding: UTF-8\n"
@@ -225,6 +227,7 @@ def restored(
             return report, missing
     finally:
         place.clear()
+        prune(kept)
         if lexists(kept):
             say(f"what was there is kept in {shown(kept)}")
 
@@ -240,6 +243,7 @@ def run(words: Sequence[str]) -> int:
         if os.path.realpath(name) == bag:
             raise Refused(f"{shown(name)} is the bag itself")
     with reading(bag), ExitStack() as stack:
+        refuse_mount(bag)
         Beside(bag, "restore").left()
         copies = copies_at(names, stack)
         if not copies:
