@@ -683,6 +683,9 @@ def sending():
     ends(3, "send", bag, "there.tar", says="is there already")
     assert Path("there.tar").read_text() == "mine"
     ends(3, "send", "nowhere", "x.tar")
+    os.rename(bag, "\udcff")
+    ends(3, "send", "\udcff", "x.tar", says="%FF: the bag's name isn't UTF-8")
+    os.rename("\udcff", bag)
     ends(3, "send", bag, "nowhere/x.tar")
     (bag / "data/a").write_bytes(b"b")
     ends(1, "send", bag, "x.tar", says="701 payload-sum-differs data/a")
