@@ -1082,6 +1082,7 @@ class EachAlone(Life):
         said = self.ends(3, "restore", "d", "--from", "copy", user=NOBODY).said
         self.assertIn("copy: data/x isn't read: ", said)
         self.assertIn("/d/data/x: permission denied\n", said)
+        self.assertIn("data/x can't be read, and what comes after it isn't checked: move it away", said)
         self.assertNotIn("no copy has", said)
         os.chmod("copy/data/x", 0o644)
         os.mkdir("closed", 0)

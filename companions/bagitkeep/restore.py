@@ -222,6 +222,12 @@ def restored(
                     f"no file is replaced that differs by {name} alone:"
                     f" restore {name} first"
                 )
+            if report.unread is not None and report.unread.path in missing:
+                say(
+                    f"{encoded(report.unread.path)} can't be read, and what"
+                    " comes after it isn't checked: move it away, and give"
+                    " the same command again"
+                )
             if report.status == 0:
                 say_differences(bag, copies)
             return report, missing
