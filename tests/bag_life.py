@@ -970,6 +970,20 @@ class EachAlone(Life):
                 self.refused(1, "restore", "d", "--from", "less")
             Path("d", path).write_bytes(old)
 
+    def test_a_copy_made_again_of_damaged_files_certifies_nothing(self):
+        """Its payload manifests came into the bag; the tag manifests of the bag still tell it."""
+        files = self.new_bag("d", ["x"])
+        others = {path: it for path, it in files.items() if "manifest-" not in path}
+        self.write("again", {**others, "data/x": b"damaged"})
+        for manifest in "manifest-md5.txt", "manifest-sha256.txt":
+            Path("d", manifest).write_bytes(Path("again", manifest).read_bytes())
+        said = self.refused(1, "restore", "d", "--from", "again").said
+        self.assertIn("no file is replaced that differs by manifest-sha256.txt alone: restore manifest-sha256.txt first", said)
+        Path("d/data/x").write_bytes(b"damaged")
+        self.refused(1, "restore", "d", "--from", "again")
+        Path("d/tagmanifest-md5.txt").unlink()
+        self.refused(1, "restore", "d", "--from", "again")
+
     def test_says_how_a_valid_bag_differs_from_copies(self):
         files = self.new_bag("d", ["x"])
         shutil.copytree("d", "copy")
@@ -991,6 +1005,19 @@ class EachAlone(Life):
         Path("damaged.tar").write_bytes(Path("damaged.tar").read_bytes().rstrip(b"\0"))
         said = self.refused(0, "restore", "d", "--from", "damaged.tar").said
         self.assertEqual((said.count("\n"), "isn't read whole" in said), (1, True), said)
+
+    @unittest.skipUnless(os.environ.get("SMALL_DISK"), "there is no small disk")
+    def test_restores_nothing_where_a_disk_is_mounted(self):
+        self.new_bag("copy", ["x"])
+        disk = os.environ["SMALL_DISK"]
+        shutil.copytree("copy", disk, dirs_exist_ok=True)
+        Path(disk, "data/x").write_bytes(b"damaged")
+        said = self.refused(3, "restore", disk, "--from", "copy").said
+        self.assertIn("is where a disk is mounted", said)
+        self.assertEqual([it for it in os.listdir(os.path.dirname(disk)) if ".kept" in it or ".new" in it], [])
+        for name in os.listdir(disk):
+            path = join(disk, name)
+            shutil.rmtree(path) if os.path.isdir(path) else os.unlink(path)
 
     def test_restores_out_of_the_copies_that_can_be_read(self):
         before = self.new_bag("d", ["x", "y"])
@@ -1054,6 +1081,8 @@ class EachAlone(Life):
         os.chmod("copy/data/x", 0)
         said = self.ends(3, "restore", "d", "--from", "copy", user=NOBODY).said
         self.assertIn("copy: data/x isn't read: ", said)
+        self.assertIn("/d/data/x: permission denied\n", said)
+        self.assertIn("data/x can't be read, and what comes after it isn't checked: move it away", said)
         self.assertNotIn("no copy has", said)
         os.chmod("copy/data/x", 0o644)
         os.mkdir("closed", 0)

@@ -423,6 +423,10 @@ def cut_off():
         else:
             accepted(HERE / "cut.tar", bag)
             assert by_gnu_tar("cut.tar", bag)
+    (HERE / "cut.tar").write_bytes(whole)
+    pack("gzip", "-kf", "cut.tar")
+    (HERE / "cut.tar.gz").write_bytes((HERE / "cut.tar.gz").read_bytes()[:-9])
+    refused(HERE / "cut.tar.gz", "unexpected end of file")
     (HERE / "cut.tar").write_bytes(whole + bytes(700))
     accepted(HERE / "cut.tar", bag)
     for added in b"x", bytes(511) + b"x", whole:
@@ -679,6 +683,9 @@ def sending():
     ends(3, "send", bag, "there.tar", says="is there already")
     assert Path("there.tar").read_text() == "mine"
     ends(3, "send", "nowhere", "x.tar")
+    os.rename(bag, "\udcff")
+    ends(3, "send", "\udcff", "x.tar", says="%FF: the bag's name isn't UTF-8")
+    os.rename("\udcff", bag)
     ends(3, "send", bag, "nowhere/x.tar")
     (bag / "data/a").write_bytes(b"b")
     ends(1, "send", bag, "x.tar", says="701 payload-sum-differs data/a")

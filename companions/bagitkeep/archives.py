@@ -22,6 +22,7 @@ from .messages import first_line
 
 MOST_TIMES = 1000
 TOO_DENSE = f"it is compressed more than {MOST_TIMES:,} times"
+TOO_BIG = "it and its files, unpacked, have more bytes than there may be"
 AFTER_END = "something comes after its end"
 BEFORE_BEGIN = "something stands before the archive's first member"
 OTHER = "it is not a folder, .tar or .zip"
@@ -114,13 +115,19 @@ def run_into(
     return said.decode("utf-8", "replace")
 
 
-def decompress(form: str, file: IO[bytes], size: int, to: str) -> None:
-    """Writes the .tar that a file of this form and size has."""
+def decompress(
+    form: str, file: IO[bytes], size: int, to: str, room: int
+) -> None:
+    """Writes the .tar that a file of this form and size has. That takes half
+    of the room at most, as its files have to fit beside it."""
+    most, why = size * MOST_TIMES, TOO_DENSE
+    if room // 2 < most:
+        most, why = room // 2, TOO_BIG
     number = file.fileno()
     os.lseek(number, 0, os.SEEK_SET)
     with open(to, "xb") as tar:
         words = [TOOLS[form], "-dqc"]
-        run_into(words, tar, size * MOST_TIMES, number, TOO_DENSE)
+        run_into(words, tar, most, number, why)
 
 
 def tar_content(file: IO[bytes], limits: Limits) -> Content:
@@ -175,6 +182,8 @@ def zip_content(
     file: IO[bytes], size: int, names: Optional[str], limits: Limits
 ) -> Content:
     """What a .zip has."""
+    if not zipfile.is_zipfile(file):
+        raise Unfit("it is cut off, or its end is damaged")
     packed = zipfile.ZipFile(file)
     file.seek(-22 - len(packed.comment), os.SEEK_END)
     if file.read(4) != b"PK\5\6":

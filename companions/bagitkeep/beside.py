@@ -232,6 +232,12 @@ def folder_of(word: str) -> str:
     return bag
 
 
+def refuse_mount(bag: str) -> None:
+    """Refuses a bag into which nothing beside it can be renamed."""
+    if os.path.ismount(bag):
+        raise BagError(f"{shown(bag)} is where a disk is mounted")
+
+
 def replaced(
     bag: str,
     command: str,
@@ -243,8 +249,7 @@ def replaced(
     was built. The status is that of the last check, whose report is
     written."""
     place = Beside(bag, command)
-    if os.path.ismount(bag):
-        raise BagError(f"{shown(bag)} is where a disk is mounted")
+    refuse_mount(bag)
     with alone(bag if lexists(bag) else place.work, bag):
         try:
             if place.is_done(words):
@@ -262,6 +267,8 @@ def replaced(
 
 def show(report: BagReport) -> int:
     """Writes a report as `bagit` did, and says its status."""
+    if report.unread is not None and report.message:
+        say(report.message)
     lines = [*map(str, report.faults), report.result]
     sys.stdout.write("".join(f"{line}\n" for line in lines))
     return report.status

@@ -144,7 +144,10 @@ def copy_at(path: str) -> Iterator[Copy]:
             copy.members, copy.why = members_of(tar, file)
             names = {it.partition("/")[0] for it in copy.members}
         if not names & {"bagit.txt", "data"}:
-            raise BagError(copy.why or "it has neither bagit.txt nor data")
+            why = "it has neither bagit.txt nor data"
+            if copy.tar is not None:
+                why += " in a folder at its top: unpack it, and give that bag"
+            raise BagError(copy.why or why)
         yield copy
 
 

@@ -17,6 +17,7 @@ from .messages import Refused
 
 DEEPEST = 256
 LONGEST = 4000
+LONGEST_NAME = 255
 MANY = 1 << 62
 ANY_BYTES = "surrogateescape"
 
@@ -117,7 +118,9 @@ def refuse_path(path: str) -> None:
         why = "has a byte of 0"
     elif any("\ud800" <= it <= "\udfff" for it in path):
         why = "isn't UTF-8; of a .zip --names says what it is"
-    elif len(parts) > DEEPEST or len(path.encode("utf-8")) > LONGEST:
+    elif len(parts) > DEEPEST or len(path.encode("utf-8")) > LONGEST or any(
+        len(it.encode("utf-8")) > LONGEST_NAME for it in parts
+    ):
         why = "is too long"
     if why is not None:
         raise Unfit(f"the path {encoded(path)} {why}")

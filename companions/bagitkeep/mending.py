@@ -187,14 +187,25 @@ def untold(bag: str, new: str) -> Iterator[Entry]:
                 yield path, algorithm
 
 
+def alike(one: str, other: str) -> bool:
+    """Whether one digest can be the other, damaged: those of other bytes
+    differ in nearly all digits, and not in less than half."""
+    return 2 * sum(a != b for a, b in zip(one, other)) < len(one)
+
+
 def fits(
     bag: str, algorithm: str, was: bytes, becomes: bytes, old: bool
 ) -> bool:
     """Whether the tag files of a bag have the digests of a tag manifest that
-    isn't its own, which names all that its own does, also by other digests."""
+    isn't its own, which names all that its own does. Where its own gives
+    another digest, this has to be alike: else it tells of other bytes."""
     named, new = (given(it, algorithm, True, old) for it in (was, becomes))
     for path, digests in new.items():
         if not has_one(join(bag, path), algorithm, digests):
+            return False
+        if not any(
+            alike(a, b) for a in named.get(path, digests) for b in digests
+        ):
             return False
     return not any(lost(named, new, lambda path, digests: path in new))
 

@@ -47,8 +47,9 @@ def printable(text: str) -> str:
 
 
 def first_line(messages: bytes) -> str:
-    """The first line of messages, with no character that a terminal obeys."""
-    line = messages.partition(b"\n")[0][:LONGEST_MESSAGE]
+    """The first line of messages, with no character that a terminal obeys;
+    gzip begins with an empty one."""
+    line = messages.lstrip(b"\n").partition(b"\n")[0][:LONGEST_MESSAGE]
     return encoded(line).replace("%20", " ") if line else ""
 
 

@@ -124,13 +124,15 @@ class Verdict:
 
     `result` is the closing line, or says why there is none; `closing` is that
     line where the status belongs to it. `faults` are those of the report, so
-    of status 3 those that were found before.
+    of status 3 those that were found before. `message` is what `bagit` wrote
+    on its standard error.
     """
 
     status: int
     result: str
     faults: int
     closing: Optional[Closing] = field(default=None, compare=False)
+    message: str = field(default="", compare=False)
 
 
 def verdict_of(
@@ -144,7 +146,10 @@ def verdict_of(
         and asked.is_answered(closing)
         and closing.status == ended.status
     ):
-        return Verdict(closing.status, str(closing), report.faults, closing)
+        text = str(closing)
+        return Verdict(
+            closing.status, text, report.faults, closing, ended.message
+        )
     return Verdict(3, ended.described(), report.faults)
 
 

@@ -184,7 +184,11 @@ def content_of(case: Case, work: Work, limits: Limits) -> Content:
         if case.form == "tar":
             os.symlink(case.path, tar)
         else:
-            decompress(case.form, case.file, size, tar)
+            room = room_in(case.store, None, None).bytes
+            decompress(case.form, case.file, size, tar, room)
+            limits.bytes = min(
+                limits.bytes, room_in(case.store, None, None).bytes
+            )
         file = case.files.enter_context(open(tar, "rb"))
         is_named = case.form == "tar" and case.path.endswith(".tar")
         if not (is_named or may_be_tar(file)):

@@ -7,7 +7,9 @@ from os.path import basename, dirname, join, lexists
 from typing import Dict, Iterator, List, Sequence, Set, Tuple
 
 from .bagit import content_of, entries_in, manifests_in, reading
-from .beside import Beside, Faulty, checked, folder_of, kept_of, show
+from .beside import (
+    Beside, Faulty, checked, folder_of, kept_of, refuse_mount, show,
+)
 from .copies import Copy, Sums, copies_at, say_differences
 from .errors import BagError
 from .files import sync_folder, write_synced
@@ -16,7 +18,7 @@ from .mending import fits, is_old
 from .messages import Refused, explained, say, shown
 from .program import Asked
 from .runs import BagReport, alone, check
-from .trees import dress, link_tree, make_folders
+from .trees import dress, link_tree, make_folders, prune
 from .usage import read
 
 OLD = "BagIt-Version: 0.97\nTag-File-Character-Encoding: UTF-8\n"
@@ -26,10 +28,21 @@ Found = Dict[str, Tuple[str, str]]
 """New files, and of which copy each is, by their paths in the bag."""
 
 
+def in_doubt(report: BagReport) -> Set[Fault]:
+    """Faults of payload files by a manifest that isn't what a tag manifest
+    gives: it can be the manifest that is wrong, and not the file."""
+    wrong = {it.path for it in report.faults if it.code == 702}
+    return {
+        it for it in report.faults
+        if it.code == 701 and f"manifest-{it.algorithm}.txt" in wrong
+    }
+
+
 def wanted_of(bag: str, report: BagReport, is_tag: bool) -> Dict[str, Sums]:
     """The files of one kind that are to be restored, with their digests."""
     codes = (602, 702) if is_tag else (601, 701)
-    paths = {it.path for it in report.faults if it.code in codes}
+    sure = set(report.faults) - in_doubt(report)
+    paths = {it.path for it in sure if it.code in codes}
     if report.unread is not None:
         paths.add(report.unread.path)
     if not paths:
@@ -201,15 +214,28 @@ def restored(
             count, missing = by_digests(place, report, copies, kept, done)
             if count or by_tag_manifest(place, report, copies, kept, done):
                 continue
+            doubts = {it.algorithm for it in in_doubt(report)}
             for path in missing:
                 say_missing(path, copies, is_whole)
+            for name in sorted(f"manifest-{it}.txt" for it in doubts):
+                say(
+                    f"no file is replaced that differs by {name} alone:"
+                    f" restore {name} first"
+                )
+            if report.unread is not None and report.unread.path in missing:
+                say(
+                    f"{encoded(report.unread.path)} can't be read, and what"
+                    " comes after it isn't checked: move it away, and give"
+                    " the same command again"
+                )
             if report.status == 0:
                 say_differences(bag, copies)
             return report, missing
     finally:
         place.clear()
+        prune(kept)
         if lexists(kept):
-            say(f"what was replaced is in {shown(kept)}")
+            say(f"what was there is kept in {shown(kept)}")
 
 
 def run(words: Sequence[str]) -> int:
@@ -223,6 +249,7 @@ def run(words: Sequence[str]) -> int:
         if os.path.realpath(name) == bag:
             raise Refused(f"{shown(name)} is the bag itself")
     with reading(bag), ExitStack() as stack:
+        refuse_mount(bag)
         Beside(bag, "restore").left()
         copies = copies_at(names, stack)
         if not copies:

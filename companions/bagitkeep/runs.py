@@ -27,7 +27,8 @@ class BagReport:
 
     `status` is 0 without faults, 1 with faults, and 3 where something is
     `unread`: then the faults are those that were found before. `result` is
-    the closing line, and `unchecked` are keys of a profile.
+    the closing line, and `unchecked` are keys of a profile. `message` names
+    what the system refused.
     """
 
     status: int
@@ -35,6 +36,7 @@ class BagReport:
     faults: List[Fault] = field(default_factory=list)
     unread: Optional[Unread] = None
     unchecked: List[str] = field(default_factory=list)
+    message: str = ""
 
 
 def report_from(verdict: Verdict, out: IO[bytes]) -> BagReport:
@@ -53,6 +55,7 @@ def report_from(verdict: Verdict, out: IO[bytes]) -> BagReport:
         [line for line in lines if isinstance(line, Fault)],
         unread,
         [line.key for line in lines if isinstance(line, Unchecked)],
+        verdict.message.removeprefix("bagit: "),
     )
 
 

@@ -10,7 +10,7 @@ from .bagit import absolute
 from .beside import show
 from .files import digests_of, place, settle
 from .members import ANY_BYTES, Unfit, folder_content, refuse_twice
-from .messages import Refused, printable, say
+from .messages import Refused, printable, say, shown
 from .places import refuse_there, work_at, work_path
 from .program import read_profile
 from .runs import check
@@ -114,6 +114,8 @@ def run(words: Sequence[str]) -> int:
         raise Refused("it takes a bag, and a file whose name ends with .tar")
     bag = realpath(asked.operands[0])
     path = absolute(asked.operands[1])
+    if any("\ud800" <= it <= "\udfff" for it in basename(bag)):
+        raise Refused(f"{shown(bag)}: the bag's name isn't UTF-8", 3)
     if f"{realpath(path)}/".startswith(f"{bag}/"):
         raise Refused("the file would be in the bag")
     return send(bag, path, read_profile(asked.profile))

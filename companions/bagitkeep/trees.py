@@ -3,6 +3,7 @@ import hashlib
 import os
 import shutil
 import stat
+from contextlib import suppress
 from os.path import dirname, isdir, join
 from typing import IO, Callable, Dict, Iterable, Optional
 
@@ -67,6 +68,13 @@ def make_folders(folder: str, like: str) -> None:
         os.mkdir(folder)
         dress(folder, like)
         sync_folder(dirname(folder))
+
+
+def prune(folder: str) -> None:
+    """Removes a folder, and those below it, where there is no file."""
+    for path, _, _ in os.walk(folder, topdown=False):
+        with suppress(OSError):
+            os.rmdir(path)
 
 
 def link_tree(source: str, to: str, place_of: PlaceOf) -> None:

@@ -1,14 +1,17 @@
 """What of an archive file is taken, and what is refused by its name."""
+import gzip
 import io
 import tarfile
 import tempfile
 import unittest
 import zipfile
+from contextlib import ExitStack
 from pathlib import Path
 from typing import Dict, List, Optional
 
 from bagitkeep.archives import (
     bare,
+    decompress,
     form_of,
     may_be_tar,
     tar_content,
@@ -51,7 +54,7 @@ class Paths(unittest.TestCase):
             refuse_path(path)
         long = "/".join(["d"] * 300)
         bad = "", "/a", "a//b", "a/", "./a", "a/../b", "..", "\0", "\udce9"
-        for path in *bad, long, "n" * 5000:
+        for path in *bad, long, "n" * 5000, "é" * 128 + "/a":
             with self.assertRaises(Unfit):
                 refuse_path(path)
 
@@ -139,6 +142,24 @@ class Zips(unittest.TestCase):
             for before in whole, out.getvalue(), b"x":
                 with self.assertRaisesRegex(Unfit, "before the archive"):
                     found(before + whole)
+            with self.assertRaisesRegex(Unfit, "cut off"):
+                found(whole[:-5])
+
+
+class Compressed(unittest.TestCase):
+    def test_it_has_to_fit_twice(self) -> None:
+        with tempfile.TemporaryDirectory() as folder:
+            path = Path(folder, "a.gz")
+            path.write_bytes(gzip.compress(bytes(1000)))
+            with path.open("rb") as file:
+                for number, room in enumerate((2000, 1998)):
+                    to = f"{folder}/{number}"
+                    with ExitStack() as stack:
+                        if room < 2000:
+                            stack.enter_context(
+                                self.assertRaisesRegex(Unfit, "more bytes")
+                            )
+                        decompress("tar.gz", file, 100, to, room)
 
 
 class Others(unittest.TestCase):

@@ -16,7 +16,7 @@ from bagitkeep.mending import (
 from bagitkeep.messages import Refused
 from bagitkeep.repack import OXUM, change_of, is_at
 from bagitkeep.files import opened
-from bagitkeep.trees import copied, dress, link_tree
+from bagitkeep.trees import copied, dress, link_tree, prune
 
 A = "0cc175b9c0f1b6a831c399e269772661"
 """The MD5 of `a` (RFC 1321, A.5)."""
@@ -132,7 +132,9 @@ class Fits(InAFolder):
         self.at("bag/b", b"")
         a, b, good = f"{A}  a\n", f"{EMPTY}  b\n", f"{A}  a\n{EMPTY}  b\n"
         for was, becomes, is_fit in (
-            (f"{EMPTY}  a\n{b}", good, True),
+            (f"{EMPTY}  a\n{b}", good, False),
+            (f"{EMPTY[:20]}{A[20:]}  a\n{b}", good, False),
+            (f"{EMPTY[:14]}{A[14:]}  a\n{b}", good, True),
             (f"{A}  c\n{b}", good, True),
             (f"x{A}  a\n{b}", good, True),
             ("", good, True),
@@ -389,6 +391,18 @@ class Files(InAFolder):
         os.symlink("x", self.at("d/in/link"))
         with self.assertRaises(BagError):
             link_tree(self.at("d"), self.at("to"), lambda it: f"z/{it}")
+
+
+class Kept(InAFolder):
+    def test_folders_without_files_go(self) -> None:
+        self.at("kept/a/b", b"")
+        os.makedirs(self.at("kept/c/d"))
+        prune(self.folder)
+        self.assertEqual(os.listdir(self.at("kept")), ["a"])
+        os.unlink(self.at("kept/a/b"))
+        prune(self.at("kept"))
+        prune(self.at("kept"))
+        self.assertEqual(os.listdir(self.folder), [])
 
 
 class Notes(InAFolder):

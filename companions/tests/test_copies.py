@@ -83,6 +83,8 @@ class Copies(InAFolder):
         names = [it.split(" isn't used: ")[0] for it in self.said]
         said = list(map(os.path.basename, names))
         self.assertEqual(said, ["folder", "pipe", "no", "b.tar", "a.pdf"])
+        self.assertIn("in a folder at its top", self.said[3])
+        self.assertNotIn("in a folder at its top", self.said[0])
 
     def test_how_far_a_tar_is_read(self) -> None:
         whole = tar_of({"bagit.txt": b"", "data/a": b"a", "data/b": b"b"})
