@@ -279,8 +279,8 @@ rm d/data/link
 echo x >"d/data/$(printf '\xe9')"
 leaves renews 3 d <<<'d not renewed: read - name'
 rm d/data/?
-for why in nowhere:\ not\ there d/data/first.txt:\ not\ a\ folder ''; do
-    name=${why%%:*}
+for why in nowhere:\ not\ there d/data/first.txt:\ not\ a\ folder -:\ not\ there; do
+    name=${why%%:*} name=${name#-}
     complaint=$why renews 3 "$name" < <(echo "${name:--} not renewed: read - device")
 done
 valid d
