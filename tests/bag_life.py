@@ -984,6 +984,18 @@ class EachAlone(Life):
         Path("d/tagmanifest-md5.txt").unlink()
         self.refused(1, "restore", "d", "--from", "again")
 
+    def test_takes_no_tag_manifest_that_is_damaged(self):
+        """That of the first copy is cut off, and the bag with it has fewer faults; that of the second is whole."""
+        files = self.new_bag("d", ["x"])
+        for copy in "cut", "copy":
+            shutil.copytree("d", copy)
+        name = "tagmanifest-sha256.txt"
+        Path("d", name).write_bytes(b"no\nmanifest\n")
+        Path("cut", name).write_bytes(files[name][:60])
+        self.refused(1, "restore", "d", "--from", "cut")
+        self.assertIn(f"{name} is now that of copy\n", self.ends(0, "restore", "d", "--from", "cut", "--from", "copy").said)
+        self.assertEqual(content_of("d"), files)
+
     def test_says_how_a_valid_bag_differs_from_copies(self):
         files = self.new_bag("d", ["x"])
         shutil.copytree("d", "copy")

@@ -164,7 +164,7 @@ def by_tag_manifest(
     done: Set[str],
 ) -> bool:
     """Takes a tag manifest of a copy, if a full check of the bag with it
-    finds fewer faults. Each is taken once."""
+    finds fewer faults, and none of its own. Each is taken once."""
     if report.status != 1:
         return False
     for name, copy, content, time in tag_manifests(
@@ -180,7 +180,11 @@ def by_tag_manifest(
         write_synced(new, content)
         os.utime(new, (time, time))
         tried = check(place.work, Asked())
-        if tried.unread is None and len(tried.faults) < len(report.faults):
+        if tried.unread is not None or any(
+            it.path == name for it in tried.faults
+        ):
+            continue
+        if len(tried.faults) < len(report.faults):
             done.add(name)
             return put_all(place.bag, {name: (new, copy.path)}, kept) > 0
     return False
