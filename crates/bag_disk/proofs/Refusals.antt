@@ -1,11 +1,12 @@
 -- When a refusal of the disk is due.
 use Rattle.std.proofs.Common.{arith}
 use Rattle.bag_disk.proofs.Common.{◌≡◌, ℕ, false, Result, IfErr, DiskState}
-use Rattle.bag_disk.specs.Refusal.{IsCounted, IsDue, IsDueInListing, IsDueInMove, IsDueInStep, IsNoFailure, at_known}
-use Rattle.bag_disk.specs.Refusal.{failures_after, is_device, refusal_at_path, of_name}
+use Rattle.bag_disk.specs.Refusal.{IsCounted, IsDue, IsDueInListing, IsDueInMove, IsDueInStep, IsDueOnly, IsNoFailure}
+use Rattle.bag_disk.specs.Refusal.{at_known, failures_after, is_device, refusal_at_path, of_name}
 use Rattle.bag_disk.specs.declared.disk.DiskFault.{DiskFault}
 use Rattle.bag_disk.specs.declared.disk.DiskFault.TheVariants as disk
 use Rattle.bag_disk.specs.declared.refusal.Refusal.{Refusal}
+use Rattle.bag_disk.specs.declared.refusal.Refusal.TheVariants.{Contradicts, Special}
 
 -- a refusal is due for what follows, too
 pub due_for : (special unnamed absent many special' unnamed' absent' many' : Type 0) (r : Refusal)
@@ -13,10 +14,19 @@ pub due_for : (special unnamed absent many special' unnamed' absent' many' : Typ
     → IsDue special unnamed absent many r → IsDue special' unnamed' absent' many' r
 due_for special unnamed absent many special' unnamed' absent' many' r e f g h due = grind (arith, due)
 
-pub due_for_err : {T : Type 0} (special unnamed absent many special' unnamed' absent' many' : Type 0)
-    (result : Result T Refusal) → (special → special') → (unnamed → unnamed') → (absent → absent') → (many → many')
-    → IfErr result (IsDue special unnamed absent many) → IfErr result (IsDue special' unnamed' absent' many')
-due_for_err special unnamed absent many special' unnamed' absent' many' result e f g h due = grind (arith, due)
+-- a refusal for one cause alone is due for what follows, too
+pub only_for : (cause : Refusal) (due due' : Type 0) (r : Refusal) → (due → due') → IsDueOnly cause due r
+    → IsDueOnly cause due' r
+only_for cause due due' r f refused = grind (arith, refused)
+
+pub only_for_err : {T : Type 0} (cause : Refusal) (due due' : Type 0) (result : Result T Refusal) → (due → due')
+    → IfErr result (IsDueOnly cause due) → IfErr result (IsDueOnly cause due')
+only_for_err cause due due' result f refused = grind (arith, refused)
+
+-- and among other causes
+pub due_for_special : (special special' unnamed absent many : Type 0) (r : Refusal) → (special → special')
+    → IsDueOnly Special special r → IsDue special' unnamed absent many r
+due_for_special special special' unnamed absent many r f due = grind (arith, due)
 
 -- at the path of a file
 pub due_of_path : (special unnamed absent many : Type 0) (f : DiskFault) (r : Refusal) → r ≡ refusal_at_path f
@@ -37,6 +47,11 @@ due_of_name special unnamed absent many f r is wrong = grind arith
 pub due_in_step : (special absent special' absent' taken : Type 0) (r : Refusal) → (special → special')
     → (absent → absent') → IsDue special ⊥ absent ⊥ r → IsDueInStep special' absent' taken r
 due_in_step special absent special' absent' taken r f g due = grind (arith, due)
+
+-- or at what is no file and no folder
+pub special_in_step : (special special' absent taken : Type 0) (r : Refusal) → (special → special')
+    → IsDueOnly Special special r → IsDueInStep special' absent taken r
+special_in_step special special' absent taken r f due = grind (arith, due)
 
 pub step_due_for : (special absent taken special' absent' taken' : Type 0) (r : Refusal) → (special → special')
     → (absent → absent') → (taken → taken') → IsDueInStep special absent taken r → IsDueInStep special' absent' taken' r
@@ -60,7 +75,7 @@ due_in_listing special unnamed many contradiction r due = grind (arith, due)
 
 -- a listing of what a walk found is refused as it may be
 pub listed_for_err : {T : Type 0} (special unnamed many contradiction contradiction' : Type 0)
-    (result : Result T Refusal) → (contradiction → contradiction') → IfErr result (IsDueInListing ⊥ ⊥ ⊥ contradiction)
+    (result : Result T Refusal) → (contradiction → contradiction') → IfErr result (IsDueOnly Contradicts contradiction)
     → IfErr result (IsDueInListing special unnamed many contradiction')
 listed_for_err special unnamed many contradiction contradiction' result f due = grind (arith, due)
 

@@ -8,7 +8,9 @@ use Rattle.bag_disk.specs.Location.{path_in}
 use Rattle.bag_disk.specs.Disk.{DiskState, Nodes, entry_count}
 use Rattle.bag_disk.specs.DiskNodes.{node, Has, HasSpecial, HasUnnamedPath, IsFolder}
 use Rattle.bag_disk.specs.DiskNodes.{is_plain_found}
-use Rattle.bag_disk.specs.Refusal.{IsDue, IsDueInListing, MeetsSpecial, MeetsUnnamed}
+use Rattle.bag_disk.specs.Refusal.{IsDue, IsDueInListing, IsDueOnly, MeetsSpecial}
+use Rattle.bag_disk.specs.Refusal.{MeetsUnnamed}
+use Rattle.bag_disk.specs.declared.refusal.Refusal.TheVariants.{Special}
 use Rattle.bag_disk.specs.declared.folder_walk.FolderWalk.{FolderWalk}
 use Rattle.bag_disk.specs.declared.refusal.Refusal.{Refusal}
 use Rattle.bag_tree.specs.Tree.{most_entries}
@@ -162,7 +164,7 @@ FindsPath disk old new path = IsTrue disk.honest → Has disk.nodes path
 -- the disk may refuse a path so
 abbrev pub MayRefusePath : DiskState → List ℕ → Refusal → Type 0
 MayRefusePath disk path =
-    IsDue (IsTrue disk.honest → Has disk.nodes path → HasSpecial disk.nodes) ⊥ ⊥ ⊥
+    IsDueOnly Special (IsTrue disk.honest → Has disk.nodes path → HasSpecial disk.nodes)
 
 -- no listing is to be had of what was found: two files have one path
 pub record IsUnlistable (files : List FileEntry) : Type 0 where

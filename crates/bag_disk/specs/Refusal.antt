@@ -31,6 +31,13 @@ IsDue special unnamed absent many Exists = ⊥
 IsDue special unnamed absent many Contradicts = ⊥
 IsDue special unnamed absent many InTheWay = ⊥
 
+-- The disk may refuse only so: by its device, when out of memory, and for one cause more, of which
+-- `due` says when.
+abbrev pub IsDueOnly : Refusal → Type 0 → Refusal → Type 0
+IsDueOnly cause due Device = ⊤
+IsDueOnly cause due Memory = ⊤
+IsDueOnly cause due refusal = (refusal ≡ cause) × due
+
 -- A listing may be refused so: `contradiction` says when the disk's answers contradict one another.
 abbrev pub IsDueInListing : Type 0 → Type 0 → Type 0 → Type 0 → Refusal → Type 0
 IsDueInListing special unnamed many contradiction Contradicts = contradiction

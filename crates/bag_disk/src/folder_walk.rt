@@ -7,7 +7,8 @@ ghost use Rattle.bag_disk.specs.FolderWalk.{ListsNames, MayRefuseFolder, MayRefu
 ghost use Rattle.bag_disk.specs.FolderWalk.{MayRefusePath, files_with, folders_with, turns_left};
 ghost use Rattle.bag_disk.specs.Location.{path_in};
 ghost use Rattle.bag_disk.specs.declared.disk.Entry.TheVariants.{Other};
-ghost use Rattle.bag_disk.specs.Refusal.{IsCounted, IsDue, IsNoFailure};
+ghost use Rattle.bag_disk.specs.Refusal.{IsCounted, IsDueOnly, IsNoFailure};
+ghost use Rattle.bag_disk.specs.declared.refusal.Refusal.TheVariants.{Special};
 ghost use Rattle.bag_text.specs.Path.{is_path};
 
 use crate::refusal::Refusal;
@@ -133,7 +134,7 @@ impl FolderWalk {
             (self.new.folders.items ≡ folders_with self.old.folders.items path entry) }
         ensures listed { self.new.listed.items ≡ self.old.listed.items }
         ensures other { OnOk result (entry ≡ Other → ⊥) }
-        ensures refused { IfErr result (IsDue (entry ≡ Other) ⊥ ⊥ ⊥) }
+        ensures refused { IfErr result (IsDueOnly Special (entry ≡ Other)) }
         ensures quiet { IsNoFailure result }
         ensures left { OnOk result (vec_len self.new.folders ≤ vec_len self.old.folders + 1) }
         ensures room { self.new.room ≡ self.old.room }

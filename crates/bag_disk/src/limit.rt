@@ -3,7 +3,8 @@ ghost use Rattle.std.specs.Prelude.{◌≡◌, ◌<◌, IfOk, IsTrue, false};
 ghost use Rattle.bag_tree.specs.Tree.{most_entries};
 ghost use Rattle.bag_disk.specs.Disk.{Nodes, entry_count};
 ghost use Rattle.bag_disk.specs.FolderWalk.{AreFolders, AreThere, HasFound, IsTooMuch};
-ghost use Rattle.bag_disk.specs.Refusal.{IsDue, is_device};
+ghost use Rattle.bag_disk.specs.Refusal.{IsDueOnly, is_device};
+ghost use Rattle.bag_disk.specs.declared.refusal.Refusal.TheVariants.{TooMany};
 
 use crate::folder_walk::{FolderWalk, MOST_ENTRIES};
 use crate::path_order::{all_differ, sort_in_place};
@@ -16,7 +17,7 @@ use std::alloc::AllocError;
 /// twice, out of memory.
 pub(crate) fn no_room(walk: FolderWalk) -> Refusal
     ensures quiet { is_device result ≡ false }
-    ensures due { IsDue ⊥ ⊥ ⊥ (IsTooMuch walk) result }
+    ensures due { IsDueOnly TooMany (IsTooMuch walk) result }
 {
     match all_found(walk) {
         Ok(found) => {

@@ -7,7 +7,8 @@ ghost use Rattle.bag_disk.specs.DiskNodes.{OnlyLooks};
 ghost use Rattle.bag_disk.specs.DiskBag.{bag_of};
 ghost use Rattle.bag_disk.specs.FolderWalk.{ArePaths, IsUnlistable, MayRefuseWholeListing};
 ghost use Rattle.bag_disk.specs.FolderWalk.{MayRefuseWalk, Walked};
-ghost use Rattle.bag_disk.specs.Refusal.{IsCounted, IsDueInListing, IsNoFailure};
+ghost use Rattle.bag_disk.specs.Refusal.{IsCounted, IsDueOnly, IsNoFailure};
+ghost use Rattle.bag_disk.specs.declared.refusal.Refusal.TheVariants.{Contradicts};
 
 use crate::Disk;
 use crate::folder_walk::FolderWalk;
@@ -58,7 +59,7 @@ fn listing_of(alloc: Global, walk: FolderWalk) -> Result<Listing, Refusal>
     requires { ArePaths walk.files.items }
     ensures ordered { IfOk result (λ listing. IsOrdered listing.files) }
     ensures files { IfOk result (λ listing. IsPermutation walk.files.items listing.files) }
-    ensures refused { IfErr result (IsDueInListing ⊥ ⊥ ⊥ (IsUnlistable walk.files.items)) }
+    ensures refused { IfErr result (IsDueOnly Contradicts (IsUnlistable walk.files.items)) }
     ensures quiet { IsNoFailure result }
     ensures has_data { IfOk result (λ listing.
         IsTrue listing.has_data ↔ Any (λ folder. folder ≡ codes "data") walk.listed.items) }

@@ -15,8 +15,8 @@ pub use Rattle.bag_disk.proofs.DiskSteps.{looks_on}
 pub use Rattle.bag_disk.proofs.Looked.{had_before}
 pub use Rattle.bag_disk.proofs.Moving.{nodes_move}
 pub use Rattle.bag_disk.proofs.Plain.{all_plain, other_not_plain, other_seen, special_not_plain, unnamed_not_plain}
-pub use Rattle.bag_disk.proofs.Refusals.{counted_since, due_at_known, due_for, due_in_move, due_in_step, move_due_for}
-pub use Rattle.bag_disk.proofs.Refusals.{step_due_for}
+pub use Rattle.bag_disk.proofs.Refusals.{counted_since, due_at_known, due_for_special, due_in_move, due_in_step, move_due_for}
+pub use Rattle.bag_disk.proofs.Refusals.{only_for, special_in_step, step_due_for}
 pub use Rattle.bag_disk.specs.BagBelow.{bag_is_what_stands, bag_of_disk, file_of_disk, folder_of_disk}
 pub use Rattle.bag_disk.specs.Disk.{DiskState, Node, Nodes, bytes_of}
 pub use Rattle.bag_disk.specs.DiskNodes.{HasSpecial, IsDisk, IsReachedByFolders, OnlyLooks, node}

@@ -2,8 +2,9 @@
 use Rattle.std.specs.Prelude.{ℕ, ◌≡◌, true, IsTrue, List}
 use Rattle.bag_disk.specs.Disk.{DiskState}
 use Rattle.bag_disk.specs.DiskBag.{bag_of}
-use Rattle.bag_disk.specs.Refusal.{IsDue, IsDueInMove, IsDueInStep, MeetsSpecial}
+use Rattle.bag_disk.specs.Refusal.{IsDue, IsDueInMove, IsDueInStep, IsDueOnly, MeetsSpecial}
 use Rattle.bag_disk.specs.declared.refusal.Refusal.{Refusal}
+use Rattle.bag_disk.specs.declared.refusal.Refusal.TheVariants.{Special}
 use Rattle.bag_tree.specs.Steps.{has_within}
 
 -- a write or a sync: the device refused, or memory did
@@ -12,7 +13,7 @@ IsDueToDevice = IsDueInStep ⊥ ⊥ ⊥
 
 -- a look at a path: `special` says when over something that is no file and no folder
 abbrev pub IsDueInLook : Type 0 → Refusal → Type 0
-IsDueInLook special = IsDue special ⊥ ⊥ ⊥
+IsDueInLook = IsDueOnly Special
 
 -- a look at what has to be there: `absent` says when it isn't
 abbrev pub IsDueInFinding : DiskState → Type 0 → Refusal → Type 0

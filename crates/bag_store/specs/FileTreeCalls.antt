@@ -32,6 +32,10 @@ ReportsDisk reason old new NoneOpen = ⊤
 ReportsDisk reason old new Memory = ⊤
 ReportsDisk reason old new Exists = ⊤
 
+-- what a refusal says of its disk where the tree reports no failure of its own
+abbrev pub ReportsDiskOnly : DiskState → DiskState → TreeFault → Type 0
+ReportsDiskOnly = ReportsDisk ⊥
+
 -- That a name is taken is answered only where it was seen after the folder and the base folder were
 -- synced.
 abbrev pub AnswersTakenLast : List ℕ → DiskState → DiskState → TreeFault → Type 0

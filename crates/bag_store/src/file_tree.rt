@@ -67,7 +67,7 @@ impl<D: Disk + Drop> Tree for FileTree<D> {
     ghost use Rattle.bag_disk.specs.BagBelow.{bag_of_disk};
     ghost use Rattle.bag_disk.specs.FolderWalk.{Contradiction};
     ghost use Rattle.bag_tree.specs.TreeCalls.{ListCall, OpenCall, ReadCall};
-    ghost use Rattle.bag_store.specs.FileTreeCalls.{ReportsDisk, disk_of, state_of};
+    ghost use Rattle.bag_store.specs.FileTreeCalls.{ReportsDisk, ReportsDiskOnly, disk_of, state_of};
 
     ghost state = { state_of D.state };
 
@@ -89,7 +89,7 @@ impl<D: Disk + Drop> Tree for FileTree<D> {
         ensures call { OpenCall (state_of D.state self.old) (state_of D.state self.new) path.now
             result }
         ensures cause { IfErr result (
-            ReportsDisk ⊥ (D.state (disk_of self.old)) (D.state (disk_of self.new))) }
+            ReportsDiskOnly (D.state (disk_of self.old)) (D.state (disk_of self.new))) }
     {
         self.disk.close();
         match open_at(&mut self.disk, path) {
@@ -106,7 +106,7 @@ impl<D: Disk + Drop> Tree for FileTree<D> {
         ensures call { ReadCall (state_of D.state self.old) (state_of D.state self.new)
             (length buffer.old) buffer.new result }
         ensures cause { IfErr result (
-            ReportsDisk ⊥ (D.state (disk_of self.old)) (D.state (disk_of self.new))) }
+            ReportsDiskOnly (D.state (disk_of self.old)) (D.state (disk_of self.new))) }
     {
         if !self.disk.is_open() {
             return Err(self.answered.note(TreeFault::NoneOpen));
@@ -128,7 +128,7 @@ impl<D: WritableDisk + Drop> WriteTree for FileTree<D> {
     ghost use Rattle.bag_text.specs.Path.{is_base_name};
     ghost use Rattle.bag_tree.specs.ChangeCalls.{Creates, MakesFolder, MovesIn, RenamesFolder};
     ghost use Rattle.bag_store.specs.Changing.{HasFolderInTheWay};
-    ghost use Rattle.bag_store.specs.FileTreeCalls.{AnswersTakenLast, ReportsDisk};
+    ghost use Rattle.bag_store.specs.FileTreeCalls.{AnswersTakenLast, ReportsDisk, ReportsDiskOnly};
     ghost use Rattle.bag_store.specs.FileTreeCalls.{disk_of, state_of};
 
     fn make_folder(&mut self, name: &str) -> Result<(), TreeFault>
@@ -136,7 +136,7 @@ impl<D: WritableDisk + Drop> WriteTree for FileTree<D> {
         ensures makes { MakesFolder name.now (state_of D.state self.old) (state_of D.state self.new)
             result }
         ensures cause { IfErr result (
-            ReportsDisk ⊥ (D.state (disk_of self.old)) (D.state (disk_of self.new))) }
+            ReportsDiskOnly (D.state (disk_of self.old)) (D.state (disk_of self.new))) }
     {
         self.is_synced = false;
         let done = changing::make_folder(&mut self.disk, name);
@@ -169,7 +169,7 @@ impl<D: WritableDisk + Drop> WriteTree for FileTree<D> {
         ensures renames { RenamesFolder from.now to.now
             (state_of D.state self.old) (state_of D.state self.new) result }
         ensures cause { IfErr result (
-            ReportsDisk ⊥ (D.state (disk_of self.old)) (D.state (disk_of self.new))) }
+            ReportsDiskOnly (D.state (disk_of self.old)) (D.state (disk_of self.new))) }
         ensures looks_last { IfErr result (
             AnswersTakenLast from.now (D.state (disk_of self.old)) (D.state (disk_of self.new))) }
     {
@@ -185,7 +185,7 @@ impl<D: WritableDisk + Drop> WriteTree for FileTree<D> {
         ensures creates { Creates name.now bytes.now
             (state_of D.state self.old) (state_of D.state self.new) result }
         ensures cause { IfErr result (
-            ReportsDisk ⊥ (D.state (disk_of self.old)) (D.state (disk_of self.new))) }
+            ReportsDiskOnly (D.state (disk_of self.old)) (D.state (disk_of self.new))) }
     {
         let done = writing::create(&mut self.disk, name, bytes);
         self.answered.to(done)
@@ -196,7 +196,7 @@ impl<D: ReplaceDisk + Drop> ReplaceTree for FileTree<D> {
     ghost use Rattle.std.specs.Prelude.{◌≢◌, IsTrue, IfErr};
     ghost use Rattle.bag_text.specs.Path.{is_base_name};
     ghost use Rattle.bag_tree.specs.ReplaceCalls.{LooksForFolder, Removes, Replaces};
-    ghost use Rattle.bag_store.specs.FileTreeCalls.{ReportsDisk, disk_of, state_of};
+    ghost use Rattle.bag_store.specs.FileTreeCalls.{ReportsDiskOnly, disk_of, state_of};
     ghost use Rattle.bag_store.specs.Writing.{LooksFirst};
 
     /// Whether a folder has a name in the base folder. What is no file and no folder is `Special`.
@@ -205,7 +205,7 @@ impl<D: ReplaceDisk + Drop> ReplaceTree for FileTree<D> {
         ensures looks { LooksForFolder name.now (state_of D.state self.old)
             (state_of D.state self.new) result }
         ensures cause { IfErr result (
-            ReportsDisk ⊥ (D.state (disk_of self.old)) (D.state (disk_of self.new))) }
+            ReportsDiskOnly (D.state (disk_of self.old)) (D.state (disk_of self.new))) }
     {
         match has_folder_named(&mut self.disk, name) {
             Ok(is_there) => {
@@ -223,7 +223,7 @@ impl<D: ReplaceDisk + Drop> ReplaceTree for FileTree<D> {
         ensures replaces { Replaces beside.now name.now bytes.now
             (state_of D.state self.old) (state_of D.state self.new) result }
         ensures cause { IfErr result (
-            ReportsDisk ⊥ (D.state (disk_of self.old)) (D.state (disk_of self.new))) }
+            ReportsDiskOnly (D.state (disk_of self.old)) (D.state (disk_of self.new))) }
         ensures looks_first { LooksFirst (D.state (disk_of self.old)) (D.state (disk_of self.new)) name.now }
     {
         self.is_synced = false;
@@ -236,7 +236,7 @@ impl<D: ReplaceDisk + Drop> ReplaceTree for FileTree<D> {
         ensures removes { Removes name.now (state_of D.state self.old) (state_of D.state self.new)
             result }
         ensures cause { IfErr result (
-            ReportsDisk ⊥ (D.state (disk_of self.old)) (D.state (disk_of self.new))) }
+            ReportsDiskOnly (D.state (disk_of self.old)) (D.state (disk_of self.new))) }
     {
         self.is_synced = false;
         let done = replacing::remove(&mut self.disk, name);

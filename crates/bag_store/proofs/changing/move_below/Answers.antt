@@ -1,5 +1,5 @@
 use Rattle.bag_store.proofs.Common.{arith, ◌≡◌, ◌∙◌, true, false, has_within, bag_of, looks_on, had_before, due_in_move}
-use Rattle.bag_store.proofs.Common.{due_in_step, err_from_is_err_and, move_due_for, Folder, HasSpecial, IsTrue}
+use Rattle.bag_store.proofs.Common.{due_in_step, err_from_is_err_and, move_due_for, special_in_step, Folder, HasSpecial, IsTrue}
 use Rattle.bag_store.proofs.Common.{IsReachedByFolders, MeetsSpecial, Some, is_taken, node}
 use Rattle.bag_store.proofs.BagSteps.{special_met, file_in_target, folder_in_target, lacks_place, lacks_top, moved_into}
 use Rattle.bag_disk.specs.DiskNodes.{WhereReached}
@@ -61,12 +61,12 @@ returns-in_err-standing_at-clause-refused g c =
     let refusal = c.in_err-standing_at.field-0.0 in
     rw (p.1, p.2)
     (due_in_move _ _ _ _ refusal
-    (due_in_step
-    (IsTrue seen.honest → IsReachedByFolders seen.nodes c.as_str.result.now → HasSpecial seen.nodes) ⊥ _ _ _ refusal
+    (special_in_step
+    (IsTrue seen.honest → IsReachedByFolders seen.nodes c.as_str.result.now → HasSpecial seen.nodes) _ _ _ refusal
     (special_met _ (g.D.Disk.state c.check_is_folder.new.disk) seen c.args.folder.now
     c.args.top.now c.as_str.result.now c.in_ok-check_is_folder.ensures.looks c.in_ok-check_taken.ensures.looks
     c.requires.folder c.requires.top (c.as_str.ensures ∙ c.in_ok-target.ensures) c.in_ok-check_is_folder.ensures.folder)
-    (λ never. absurd never) c.in_err-standing_at.ensures.refused))
+    c.in_err-standing_at.ensures.refused))
 
 pub rename-requires-clause-to : goal.rename-requires-clause-to
 rename-requires-clause-to g c = grind (arith, target_is_path)

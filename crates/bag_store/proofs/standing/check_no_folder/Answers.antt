@@ -1,6 +1,6 @@
 use Rattle.bag_store.proofs.BagSteps.{folder_seen}
 use Rattle.bag_store.proofs.BaseNames.{base_reached}
-use Rattle.bag_store.proofs.Common.{HasSpecial, IsReachedByFolders, IsTrue, arith, due_in_step, err_from_is_err_and}
+use Rattle.bag_store.proofs.Common.{HasSpecial, IsReachedByFolders, IsTrue, arith, err_from_is_err_and, special_in_step}
 use Rattle.bag_store.proofs.standing.check_no_folder.Goals as goal
 
 pub returns-in_err-standing_at-clause-refused : goal.returns-in_err-standing_at-clause-refused
@@ -8,8 +8,8 @@ returns-in_err-standing_at-clause-refused g c =
     let p = err_from_is_err_and c.from_residual.result c.from_residual.ensures.1 in
     let old = g.D.Disk.state c.args.disk.now in
     rw (p.1, p.2)
-    (due_in_step (IsTrue old.honest → IsReachedByFolders old.nodes c.args.name.now → HasSpecial old.nodes) ⊥ _ _ _ _
-    (λ special honest. special honest (base_reached _ _ c.requires)) (λ never. never)
+    (special_in_step (IsTrue old.honest → IsReachedByFolders old.nodes c.args.name.now → HasSpecial old.nodes) _ _ _ _
+    (λ special honest. special honest (base_reached _ _ c.requires))
     c.in_err-standing_at.ensures.refused)
 
 pub returns-in-Some-Folder-clause-refused : goal.returns-in-Some-Folder-clause-refused

@@ -2,7 +2,7 @@ use Rattle.bag_disk.proofs.Common.{arith}
 use Rattle.bag_disk.proofs.DiskSteps.{name_added, on_ok3}
 use Rattle.bag_disk.proofs.FoundPaths.{path_found, path_in_folder}
 use Rattle.bag_disk.proofs.Plain.{name_is_other}
-use Rattle.bag_disk.proofs.Refusals.{counted_quietly, due_for_err}
+use Rattle.bag_disk.proofs.Refusals.{counted_quietly, only_for_err}
 use Rattle.bag_disk.proofs.folder_walk.FolderWalk.add.Goals as goal
 
 pub named_entry-requires : goal.named_entry-requires
@@ -26,12 +26,12 @@ returns-in-Ok-clause-walked g c =
 
 pub returns-in-Ok-clause-refused : goal.returns-in-Ok-clause-refused
 returns-in-Ok-clause-refused g c =
-    due_for_err _ _ _ _ _ _ _ _ c.put.result
+    only_for_err _ _ _ c.put.result
     (λ other honest has.
     name_is_other (g.D.Disk.state c.args.disk.now).nodes _ c.in_ok-path.path _ c.in-Ok.entry
     (g.met.D.Disk.is_disk c.args.disk.now) c.as_str.utf8 c.in_ok-path.ensures c.as_str.ensures
     (c.in-Ok.ensures.found honest) has other)
-    (λ never. never) (λ never. never) (λ never. never) c.put.ensures.refused
+    c.put.ensures.refused
 
 pub returns-in-Ok-clause-failures : goal.returns-in-Ok-clause-failures
 returns-in-Ok-clause-failures g c = counted_quietly c.put.result (g.D.Disk.state c.args.disk.now)

@@ -1,7 +1,7 @@
 use Rattle.bag_disk.proofs.Common.{◌∙◌, Err, IsTrue, ap, refl, arith, err_from_is_err_and, Has, HasSpecial, path_in}
 use Rattle.bag_disk.proofs.DiskSteps.{turn, next_there, folder_ended, looks_at_first, looks_on, all_stand}
 use Rattle.bag_disk.proofs.Plain.{unnamed_there}
-use Rattle.bag_disk.proofs.Refusals.{due_for, due_of_name}
+use Rattle.bag_disk.proofs.Refusals.{due_for_special, due_of_name}
 use Rattle.bag_disk.proofs.folder_walk.FolderWalk.list_names.Goals as goal
 
 pub loop-self-init : goal.loop-self-init
@@ -54,10 +54,10 @@ returns-in_err-add-in-Ok-Some-clause-refused g c =
     looks_on (g.D.Disk.state c.args.disk.now) _ (g.D.Disk.state c.next_name.new.self) c.loop-self.invariant.0
     c.in-Ok-Some.ensures.looks in
     let p = err_from_is_err_and c.from_residual.result c.from_residual.ensures.1 in
-    rw (p.1, p.2) (due_for
+    rw (p.1, p.2) (due_for_special
     (IsTrue (g.D.Disk.state c.next_name.new.self).honest
     → Has (g.D.Disk.state c.next_name.new.self).nodes (path_in c.args.folder.now c.as_str.result.now)
-    → HasSpecial (g.D.Disk.state c.next_name.new.self).nodes) ⊥ ⊥ ⊥ _ _ _ _ _
+    → HasSpecial (g.D.Disk.state c.next_name.new.self).nodes) _ _ _ _ _
     (λ special honest listed begun.
     rw looks.nodes at
     (special (looks.honest ∙ honest)
@@ -65,7 +65,7 @@ returns-in_err-add-in-Ok-Some-clause-refused g c =
     c.as_str.result.now
     c.loop-self.invariant.0 c.in-Ok-Some.ensures.looks c.in-Ok-Some.field-0-is c.in-Ok-Some.ensures.honest
     c.as_str.ensures honest (c.loop-self.invariant.1 honest listed begun))))
-    (λ never. absurd never) (λ never. never) (λ never. absurd never) c.in_err-add-in-Ok-Some.ensures.refused)
+    c.in_err-add-in-Ok-Some.ensures.refused)
 
 pub returns-in-Ok-None-clause-paths : goal.returns-in-Ok-None-clause-paths
 returns-in-Ok-None-clause-paths g c = c.loop-self.invariant.4
