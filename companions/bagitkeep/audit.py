@@ -88,7 +88,6 @@ class Timed(Checks):
         if self.until is None or time.monotonic() < self.until:
             super().begin(number)
         else:
-            self.done.append(number)
             self.late.append(self.round.directories[number - 1])
 
     @cached_property

@@ -7,8 +7,8 @@ import os
 import re
 import time
 from contextlib import contextmanager, suppress
-from dataclasses import asdict, dataclass, field, replace
-from functools import partial
+from dataclasses import asdict, dataclass, replace
+from itertools import groupby
 from typing import Iterator, List, Optional, Sequence, Tuple
 
 from . import usage
@@ -24,8 +24,7 @@ from .program import (
     LONGEST_WAIT, Asked, Program, Verdict, named, needed, read_profile,
     verdict_of,
 )
-from .progress import Far, read_by
-from .progress import shown as shown_while
+from .progress import Far, shown_while
 
 PART_BYTES = 4 << 30
 LISTING, OPENING, READING = 15e-6, 20e-6, 1e-9
@@ -105,16 +104,6 @@ class Parts:
             quiet=number > 1,
         )
 
-    def refuse_altered(self) -> None:
-        """Refuses a bag that isn't as it was when the check began."""
-        if fingerprint(self.head.bag).digest != self.head.fingerprint:
-            name = altered(self.head.bag, self.at("listing"))
-            raise Refused(
-                f"{name} was altered since the check began; remove"
-                f" {shown(self.folder)} to begin anew",
-                3,
-            )
-
     def remove(self, ours: "re.Pattern[str]") -> None:
         """Removes the files with such names."""
         for name in filter(ours.fullmatch, os.listdir(self.folder)):
@@ -173,7 +162,7 @@ def begin(folder: str, head: Head, profile: Optional[bytes]) -> None:
         with open(parts.at("listing"), "x", encoding="ascii") as file:
             found = fingerprint(head.bag, file)
             file.flush()
-            os.fsync(file.fileno())
+            os.fsync(file)
         head = replace(
             head,
             parts=head.parts or parts_for(found.files, found.size),
@@ -239,7 +228,7 @@ def alone(parts: Parts, number: Optional[int]) -> Iterator[None]:
 # ------------------------------------------------------------ the checks
 
 
-@dataclass
+@dataclass(frozen=True)
 class Work:
     """Parts that are checked: how often each is tried, with which rest after a
     failure, and whether files that can't be read are passed by."""
@@ -249,7 +238,6 @@ class Work:
     tries: int
     wait: int
     go_past: bool
-    at_work: List[int] = field(default_factory=list)
 
     def turns(self) -> Iterator[int]:
         """The turns in which something is tried, with how many are left."""
@@ -260,29 +248,31 @@ class Work:
 
     def check(self, number: int) -> None:
         """Checks a part. What isn't read is a message."""
-        self.at_work.append(number)
         asked: Optional[Asked] = self.parts.asked(number)
         while asked is not None:
             verdict, file = self.persist(number, asked)
-            at = verdict.closing
-            is_done = at is not None and at.cause is None
-            if is_done:
+            if verdict.status != 3:
                 self.look()
-            if is_done and asked.after is None:
-                self.keep(number, file)
-            elif is_done:
-                self.say(number, verdict, file)
-            asked = None if is_done else self.past(asked, at)
-        self.at_work.remove(number)
+                if asked.after is None:
+                    self.keep(number, file)
+                else:
+                    self.say(number, verdict, file)
+            asked = self.past(asked, verdict.closing)
 
     def past(self, asked: Asked, at: Optional[Closing]) -> Optional[Asked]:
         """What comes after the file that can't be read, if it is asked for."""
-        if not self.go_past or at is None or at.cause != "device":
+        path = at.path if at is not None and at.cause == "device" else None
+        if not self.go_past or not path or not path.startswith("data/"):
             return None
-        if at.path is None or not at.path.startswith("data/"):
-            return None
-        after = f"701 payload-sum-differs {encoded(at.path)}%00 - - -"
+        after = f"701 payload-sum-differs {encoded(path)}%00 - - -"
         return replace(asked, after=after, quiet=True)
+
+    def keep(self, number: int, file: str) -> None:
+        """Gives the report of a part its name, and removes what is left of
+        the part."""
+        with suppress(FileExistsError):
+            place(file, self.parts.part(number))
+            self.parts.remove(re.compile(rf"{number}\..*\.(try|past)"))
 
     def persist(self, number: int, asked: Asked) -> Tuple[Verdict, str]:
         """Tries a part until it is done, or can't be; gives the last try."""
@@ -291,11 +281,11 @@ class Work:
             file = self.parts.new(str(number), end)
             with open(file, "x+b") as out:
                 verdict = self.program.check(self.parts.head.bag, asked, out)
-                os.fsync(out.fileno())
+                os.fsync(out)
             if last:
                 os.unlink(last)
             last, at = file, verdict.closing
-            if at is not None and at.cause is None:
+            if verdict.status != 3:
                 break
             self.say(number, verdict, file)
             if at is not None and at.cause not in PASSING:
@@ -309,31 +299,23 @@ class Work:
         say(f"part {number} of {self.parts.head.parts}: {text}")
 
     def look(self) -> None:
-        """Refuses a bag that was altered. Where it can't be listed, this is
-        tried again, too."""
+        """Refuses a bag that isn't as it was when the check began. Where it
+        can't be listed, this is tried again, too."""
+        parts, bag = self.parts, self.parts.head.bag
         for left in self.turns():
             try:
-                return self.parts.refuse_altered()
+                if fingerprint(bag).digest == parts.head.fingerprint:
+                    return
+                raise Refused(
+                    f"{altered(bag, parts.at('listing'))} was altered since"
+                    f" the check began; remove {shown(parts.folder)} to begin"
+                    " anew",
+                    3,
+                )
             except OSError as error:
                 if not left:
                     raise
                 say(explained(error))
-
-    def keep(self, number: int, file: str) -> None:
-        """Gives the report of a part its name, and removes what is left of
-        the part."""
-        with suppress(FileExistsError):
-            place(file, self.parts.part(number))
-            self.parts.remove(re.compile(rf"{number}\..*\.(try|past)"))
-
-    def far(self, numbers: List[int]) -> Far:
-        """How far these parts are."""
-        size = self.parts.head.bytes // self.parts.head.parts
-        done = len(set(numbers) - set(self.parts.missing()))
-        at_work = [f"part {it}" for it in self.at_work]
-        read = done * size + read_by(self.program)
-        total = len(numbers) * size
-        return Far("parts", len(numbers), done, at_work, read, total)
 
     def join(self, report: str) -> int:
         """Has the parts joined, and gives what `bagit` has written of them
@@ -350,7 +332,7 @@ class Work:
             ended = self.program.run(words, out, parts.folder)
             out.seek(0)
             verdict = verdict_of(ended, report_of(out), name, Asked())
-            os.fsync(out.fileno())
+            os.fsync(out)
         if verdict.status == 3:
             os.unlink(file)
             text = f"{shown(parts.folder)} isn't joined: {verdict.result}"
@@ -365,13 +347,10 @@ class Work:
 
 def ranges_of(numbers: List[int]) -> str:
     """Numbers as a job array takes them, such as 2,5-7."""
-    ranges: List[List[int]] = []
-    for number in numbers:
-        if ranges and ranges[-1][-1] == number - 1:
-            ranges[-1][1:] = [number]
-        else:
-            ranges.append([number])
-    return ",".join("-".join(map(str, it)) for it in ranges)
+    runs = groupby(enumerate(numbers), lambda it: it[1] - it[0])
+    ranges = [[number for _, number in run] for _, run in runs]
+    ends = [dict.fromkeys((it[0], it[-1])) for it in ranges]
+    return ",".join("-".join(map(str, it)) for it in ends)
 
 
 def say_unchecked(path: str) -> None:
@@ -420,22 +399,23 @@ def run(words: Sequence[str]) -> int:
     bagit = needed()
     parts = opened(read, bagit, read_profile(read.profile))
     number = read.task and read.task[0]
-    wait = WAIT if read.wait is None else read.wait
+    tries, wait = read.tries or TRIES, WAIT if read.wait is None else read.wait
+    head = parts.head
     with alone(parts, number), Program(bagit) as program:
-        tries = read.tries or TRIES
         work = Work(parts, program, tries, wait, bool(read.go_past))
         left = [] if read.join else parts.missing()
         if number is not None:
             left = [it for it in left if it == number]
-        elif left and len(left) < parts.head.parts:
+        elif left and len(left) < head.parts:
             say(
-                f"goes on with the check that began at {parts.head.begun}:"
-                f" {parts.head.parts - len(left)} of {parts.head.parts} parts"
-                " are done"
+                f"goes on with the check that began at {head.begun}:"
+                f" {head.parts - len(left)} of {head.parts} parts are done"
             )
             work.look()
         if left:
-            with shown_while(partial(work.far, left), read.progress):
+            size = head.bytes // head.parts
+            far = Far(program, "parts", left, "part {}".format, lambda _: size)
+            with shown_while(far, read.progress):
                 program.each(work.check, left, read.jobs or 1)
         if number is not None:
             return task(parts, number)

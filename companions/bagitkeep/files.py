@@ -29,6 +29,10 @@ def text_of(path: bytes) -> str:
     return path.decode("utf-8", "surrogateescape")
 
 
+def random_name() -> bytes:
+    return os.urandom(8).hex().encode()
+
+
 @contextmanager
 def naming(path: Path) -> Iterator[None]:
     """Has an error say which file it is of."""
@@ -152,7 +156,7 @@ def whole(folder: bytes) -> Iterator[bytes]:
     """A folder that gets its name once it is whole. Of several processes that
     make it the first one's stands, as a folder isn't renamed onto one that
     isn't empty."""
-    draft = b"%s.%s" % (folder, os.urandom(8).hex().encode())
+    draft = b"%s.%s" % (folder, random_name())
     os.mkdir(draft)
     try:
         yield draft

@@ -3,12 +3,11 @@ import os
 import sys
 from argparse import Namespace
 from collections import Counter
-from os.path import join
 from typing import Dict, List, Optional, Sequence
 
 from . import rounds, usage
 from .beside import bag_beside, say_passed
-from .checks import Checks, random_name
+from .checks import Checks
 from .files import absolute, is_within, text_of
 from .lines import encoded
 from .messages import Refused, explained, printable, say
@@ -122,9 +121,7 @@ def set_aside(a_round: Round, number: int, row: Row) -> bool:
     if row.status == 3 or row.record is None or row.record.real == real:
         return False
     say(f"{encoded(row.bag)} names another folder now, and is checked again")
-    name = a_round.name_of(number) + b"." + random_name() + b".txt"
-    tried = join(a_round.folder, b"tries", name)
-    os.rename(a_round.report_path(number), tried)
+    os.rename(a_round.report_path(number), a_round.new_try(number))
     return True
 
 

@@ -18,7 +18,7 @@ import threading
 from concurrent.futures import FIRST_EXCEPTION, ThreadPoolExecutor, wait
 from contextlib import suppress
 from dataclasses import dataclass, field
-from typing import IO, Callable, List, Optional, Sequence, Set, Tuple, Union
+from typing import IO, Callable, List, Optional, Sequence, Set, Tuple
 
 from .files import Path, read_bytes
 from .lines import VERDICTS, Closing, Report, report_of
@@ -50,7 +50,6 @@ while is_found:
 """
 
 Process = subprocess.Popen  # of bytes
-Out = Union[int, IO[bytes]]
 
 
 class Stopped(Exception):
@@ -77,12 +76,13 @@ class Asked:
             "--clashes": self.clashes,
             "--quiet": self.quiet,
         }
+        options = {
+            "--profile": self.profile,
+            "--part": self.part and "{}/{}".format(*self.part),
+            "--after": self.after,
+        }
         words: List[Path] = ["--validate", *(it for it in flags if flags[it])]
-        part = self.part and "{}/{}".format(*self.part)
-        for option, value in (
-            ("--profile", self.profile), ("--part", part),
-            ("--after", self.after),
-        ):
+        for option, value in options.items():
             words += [option, value] if value else []
         return words
 
@@ -146,10 +146,8 @@ def verdict_of(
         and asked.is_answered(closing)
         and closing.status == ended.status
     ):
-        text = str(closing)
-        return Verdict(
-            closing.status, text, report.faults, closing, ended.message
-        )
+        status, text = closing.status, closing.text
+        return Verdict(status, text, report.faults, closing, ended.message)
     return Verdict(3, ended.described(), report.faults)
 
 
@@ -217,7 +215,7 @@ class Program:
 
     Several threads may run it at once. It is to be stopped in the end; in a
     `with` statement it is. Its processes hold an open file, too, such as a
-    lock.
+    lock. `at_work` and `done` are the numbers that `each` is at, and was at.
     """
 
     def __init__(self, path: Path, held: Optional[int] = None) -> None:
@@ -228,7 +226,8 @@ class Program:
         self._stopped = threading.Event()
         self._mark = os.urandom(16).hex()
         self._guard: Optional["Process[bytes]"] = None
-        self._pipe = -1
+        self.at_work: List[int] = []
+        self.done: List[int] = []
 
     def __enter__(self) -> "Program":
         return self
@@ -239,7 +238,7 @@ class Program:
     def run(
         self,
         words: Sequence[Path],
-        out: Out,
+        out: IO[bytes],
         folder: Optional[Path] = None,
         seconds: Optional[float] = None,
     ) -> Ended:
@@ -255,8 +254,7 @@ class Program:
             process = self._start(words, out, folder)
         except OSError as error:
             return Ended(None, f"couldn't be run: {error.strerror}")
-        if seconds is not None:
-            seconds = min(seconds, LONGEST_WAIT)
+        seconds = None if seconds is None else min(seconds, LONGEST_WAIT)
         with process:
             try:
                 _, messages = process.communicate(timeout=seconds)
@@ -267,7 +265,6 @@ class Program:
             finally:
                 if process.poll() is None:
                     kill(process)
-                    process.wait()
                 with self._lock:
                     self._running.discard(process)
 
@@ -303,16 +300,25 @@ class Program:
         """Does the work for these numbers, so many at a time. If it fails for
         one, or this is interrupted, all processes are killed, and no other is
         started."""
-        pool, is_done = ThreadPoolExecutor(min(jobs, len(numbers))), False
+
+        def do(number: int) -> None:
+            self.at_work.append(number)
+            try:
+                work(number)
+            finally:
+                self.at_work.remove(number)
+                self.done.append(number)
+
+        pool = ThreadPoolExecutor(min(jobs, len(numbers)))
         try:
-            begun = [pool.submit(work, it) for it in numbers]
+            begun = [pool.submit(do, it) for it in numbers]
             for it in wait(begun, return_when=FIRST_EXCEPTION).done:
                 it.result()
-            is_done = True
-        finally:
-            if not is_done:
-                self.stop()
-            pool.shutdown(is_done, cancel_futures=True)
+        except BaseException:
+            self.stop()
+            pool.shutdown(False, cancel_futures=True)
+            raise
+        pool.shutdown()
 
     def running(self) -> List[int]:
         """The numbers of the processes that are at work."""
@@ -327,13 +333,12 @@ class Program:
             for process in self._running:
                 kill(process)
             if self._guard is not None:
-                os.close(self._pipe)
                 with suppress(subprocess.TimeoutExpired):
-                    self._guard.wait(LONGEST_STOP)
+                    self._guard.communicate(timeout=LONGEST_STOP)
                 self._guard = None
 
     def _start(
-        self, words: Sequence[Path], out: Out, folder: Optional[Path]
+        self, words: Sequence[Path], out: IO[bytes], folder: Optional[Path]
     ) -> "Process[bytes]":
         with self._lock:
             if self.is_stopped:
@@ -354,17 +359,12 @@ class Program:
             return process
 
     def _begin_guard(self) -> "Process[bytes]":
-        end, self._pipe = os.pipe()
         python = sys.executable or "python3"
-        words = [python, "-IS", "-c", GUARD, f"{MARK}={self._mark}"]
-        try:
-            return subprocess.Popen(
-                words,
-                stdin=end,
-                stdout=subprocess.DEVNULL,
-                stderr=subprocess.DEVNULL,
-                cwd="/",
-                start_new_session=True,
-            )
-        finally:
-            os.close(end)
+        return subprocess.Popen(
+            [python, "-IS", "-c", GUARD, f"{MARK}={self._mark}"],
+            stdin=subprocess.PIPE,
+            stdout=subprocess.DEVNULL,
+            stderr=subprocess.DEVNULL,
+            cwd="/",
+            start_new_session=True,
+        )

@@ -27,10 +27,11 @@ import re
 from contextlib import suppress
 from dataclasses import asdict, dataclass, field, fields
 from os.path import join
-from typing import IO, Dict, Iterator, List, Optional, Set, Tuple
+from typing import IO, Dict, Iterator, List, Optional, Set, Tuple, get_args
 
 from .files import (
-    naming, read_bytes, sha256_of, sync_folder, text_of, whole, write_synced,
+    naming, random_name, read_bytes, sha256_of, sync_folder, text_of, whole,
+    write_synced,
 )
 from .lines import VERDICTS, Report, encoded, report_of
 from .messages import Refused, is_time
@@ -72,18 +73,15 @@ class Record:
 
 def record_of(line: bytes) -> Optional[Record]:
     """The record of a line; None where it isn't one, or was cut off."""
-    try:
-        found = json.loads(line)
-        record = Record(**found)
-    except (ValueError, TypeError, RecursionError):
-        return None
-    for it in fields(Record):
-        value, kind = found.get(it.name), str(it.type)
-        wanted = int if "int" in kind else str
-        is_left_out = value is None and "Optional" in kind
-        if not is_left_out and type(value) is not wanted:
-            return None
-    return record if is_time(record.begun) and is_time(record.ended) else None
+    with suppress(ValueError, TypeError, RecursionError):
+        record = Record(**json.loads(line))
+        for it in fields(Record):
+            kinds = get_args(it.type) or (it.type,)
+            if type(getattr(record, it.name)) not in kinds:
+                return None
+        if is_time(record.begun) and is_time(record.ended):
+            return record
+    return None
 
 
 @dataclass(frozen=True)
@@ -125,14 +123,16 @@ class Round:
     def report_path(self, number: int) -> bytes:
         return join(self.folder, b"reports", self.name_of(number) + b".txt")
 
+    def new_try(self, number: int) -> bytes:
+        """A name for the report of a check that hasn't come to its end."""
+        name = b"%s.%s.txt" % (self.name_of(number), random_name())
+        return join(self.folder, b"tries", name)
+
     def tries_of(self, number: int) -> List[bytes]:
-        """The reports of checks that didn't come to their end."""
+        """The reports of those that didn't."""
         place, name = join(self.folder, b"tries"), self.name_of(number)
-        return [
-            join(place, it)
-            for it in names_in(place)
-            if it.rsplit(b".", 2)[0] == name
-        ]
+        found = names_in(place)
+        return [join(place, it) for it in found if tried_in(it) == name]
 
     def row(self, number: int) -> Row:
         """How the bag of a number is."""
@@ -145,13 +145,10 @@ class Round:
         closing = report.closing
         status = None if closing is None else closing.status
         verdict = self.judge(status, report, bag)
-        for it in records:
-            is_of_it = (it.report_sha256, it.bag) == (digest, text_of(bag))
-            if is_of_it and verdict.status != 3:
-                return Row(
-                    verdict.status, verdict.result, bag, verdict.faults, path,
-                    it,
-                )
+        for it in records if verdict.status != 3 else ():
+            if (it.report_sha256, it.bag) == (digest, text_of(bag)):
+                result, faults = verdict.result, verdict.faults
+                return Row(verdict.status, result, bag, faults, path, it)
         return Row(3, f"{ALTERED} ({encoded(path)})", bag, is_altered=True)
 
     def judge(
@@ -252,10 +249,14 @@ def load(folder: bytes) -> Round:
     )
     if asked.profile and sha256_of(profile) != found["profile"]:
         raise Refused(f"{encoded(profile)} was altered", 3)
-    tries = names_in(join(folder, b"tries"))
-    tried = {name.rsplit(b".", 2)[0] for name in tries}
+    tried = set(map(tried_in, names_in(join(folder, b"tries"))))
     records, pruned = read_records(folder), read_pruned(folder)
     return Round(folder, directories, asked, found, records, tried, pruned)
+
+
+def tried_in(name: bytes) -> bytes:
+    """What the files of a bag are called, by the name of one of its tries."""
+    return name.rsplit(b".", 2)[0]
 
 
 def read_pruned(folder: bytes) -> Set[int]:
