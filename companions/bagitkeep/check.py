@@ -83,9 +83,6 @@ class Parts:
     def at(self, name: str) -> str:
         return os.path.join(self.folder, name)
 
-    def part(self, number: int) -> str:
-        return self.at(f"{number}.part")
-
     def new(self, name: str, end: str = "try") -> str:
         return self.at(f"{name}.{os.urandom(8).hex()}.{end}")
 
@@ -125,33 +122,38 @@ def parts_for(files: int, size: int) -> int:
     return max(1, min(-(-size // PART_BYTES), most, MOST_PARTS))
 
 
-# ------------------------------------------------------------ the folder
-
-
 def opened(
     read: argparse.Namespace, bagit: str, profile: Optional[bytes]
 ) -> Parts:
-    """The folder of parts, which is made where there is none."""
+    """The folder of parts, which is made where there is none. That of another
+    bag, other options, or another `bagit` is refused."""
     bag, report = read.operands
     folder = f"{report}.parts"
-    given = read.task[1] if read.task else read.parts
-    head = Head(
-        bag,
-        os.path.realpath(bag),
-        given or 0,
-        bool(read.clashes),
-        None if profile is None else hashlib.sha256(profile).hexdigest(),
-        sha256_of(bagit),
-        now(),
-    )
+    given = read.task[1] if read.task else read.parts or 0
+    digest = None if profile is None else hashlib.sha256(profile).hexdigest()
+    real, clashes = os.path.realpath(bag), bool(read.clashes)
+    ours = Head(bag, real, given, clashes, digest, sha256_of(bagit), now())
     if not os.path.lexists(folder):
         if read.join:
             text = f"{shown(folder)} isn't there: no part was checked"
             raise Refused(text, 3)
-        begin(folder, head, profile)
-    parts = Parts(folder, head_in(folder))
-    refuse_other(parts, replace(head, parts=given or parts.head.parts))
-    return parts
+        begin(folder, ours, profile)
+    head = head_in(folder)
+    for name, what in (
+        ("bag", "another bag"),
+        ("real", "another bag"),
+        ("clashes", "other options"),
+        ("profile", "another profile"),
+        ("bagit", "another bagit"),
+        ("parts", f"{head.parts} parts, and not {given}"),
+    ):
+        is_asked = name != "parts" or given
+        if is_asked and getattr(head, name) != getattr(ours, name):
+            raise Refused(
+                f"{shown(folder)} is of a check of {what}; remove it to begin"
+                " anew"
+            )
+    return Parts(folder, head)
 
 
 def begin(folder: str, head: Head, profile: Optional[bytes]) -> None:
@@ -185,23 +187,6 @@ def head_in(folder: str, name: str = "asked") -> Head:
     raise Refused(f"{shown(folder)} is there, and isn't of a check in parts")
 
 
-def refuse_other(parts: Parts, ours: Head) -> None:
-    """Refuses parts of another bag, other options, or another `bagit`."""
-    for name, what in (
-        ("bag", "another bag"),
-        ("real", "another bag"),
-        ("clashes", "other options"),
-        ("profile", "another profile"),
-        ("bagit", "another bagit"),
-        ("parts", f"{parts.head.parts} parts, and not {ours.parts}"),
-    ):
-        if getattr(parts.head, name) != getattr(ours, name):
-            raise Refused(
-                f"{shown(parts.folder)} is of a check of {what}; remove it to"
-                " begin anew"
-            )
-
-
 def clear_left(folder: str, report: str) -> None:
     """Removes what a check has left that was killed when its report had got
     its name; where it was killed before, its parts are taken back."""
@@ -223,9 +208,6 @@ def alone(parts: Parts, number: Optional[int]) -> Iterator[None]:
         is_locked = has_lock(fcntl.lockf, file, EXCLUSIVE, *place)
         with locked(is_locked, claim, busy):
             yield
-
-
-# ------------------------------------------------------------ the checks
 
 
 @dataclass(frozen=True)
@@ -271,7 +253,7 @@ class Work:
         """Gives the report of a part its name, and removes what is left of
         the part."""
         with suppress(FileExistsError):
-            place(file, self.parts.part(number))
+            place(file, self.parts.at(f"{number}.part"))
             self.parts.remove(re.compile(rf"{number}\..*\.(try|past)"))
 
     def persist(self, number: int, asked: Asked) -> Tuple[Verdict, str]:
@@ -364,7 +346,7 @@ def say_unchecked(path: str) -> None:
 
 def task(parts: Parts, number: int) -> int:
     """Writes the closing line of a part, and says its status."""
-    path = parts.part(number)
+    path = parts.at(f"{number}.part")
     if not os.path.lexists(path):
         return 3
     with open(path, "rb") as file:
@@ -420,5 +402,5 @@ def run(words: Sequence[str]) -> int:
         if number is not None:
             return task(parts, number)
         if not parts.missing():
-            say_unchecked(parts.part(1))
+            say_unchecked(parts.at("1.part"))
         return work.join(read.operands[1])

@@ -125,7 +125,7 @@ class Checks:
         with naming(file), open(file, "x+b") as out:
             verdict, seal = self.check(directory, out)
             os.fsync(out)
-        if verdict.status == 3 and self.program.is_stopped:
+        if verdict.status == 3 and self.program.stopped.is_set():
             return
         path = self.round.report_path(number) if verdict.status != 3 else file
         files, size = found_of(directory, payload_of) or (None, None)

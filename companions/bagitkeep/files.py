@@ -7,7 +7,7 @@ import os
 import shutil
 import socket
 import stat
-from contextlib import contextmanager, nullcontext, suppress
+from contextlib import contextmanager, suppress
 from typing import (
     IO, Callable, Dict, Iterable, Iterator, Optional, Tuple, Union,
 )
@@ -131,13 +131,6 @@ def write_synced(path: Path, content: bytes) -> None:
         os.fsync(file)
 
 
-def settle(file: int) -> None:
-    """Syncs an open file, and gives its pages up, so that whoever reads it
-    next reads the disk."""
-    os.fsync(file)
-    os.posix_fadvise(file, 0, 0, os.POSIX_FADV_DONTNEED)
-
-
 def sync_folder(path: Path) -> None:
     """Syncs a folder's names, where its file system can."""
     folder = os.open(path, os.O_RDONLY | os.O_DIRECTORY)
@@ -223,31 +216,25 @@ def has_lock(lock: Callable[..., None], *words: object) -> Optional[bool]:
 @contextmanager
 def locked(is_locked: Optional[bool], claim: str, busy: str) -> Iterator[None]:
     """Refuses what isn't locked. Where the system has no locks a file stands
-    for one."""
+    for one, that names host and process, unless this process has made it.
+    Nobody can say whether one on another host is at work."""
     if is_locked is False:
         raise BagError(busy)
-    with nullcontext() if is_locked else claimed(claim, busy):
-        yield
-
-
-@contextmanager
-def claimed(path: str, busy: str) -> Iterator[None]:
-    """Makes a file that names host and process, unless this process has made
-    it. Nobody can say whether one on another host is at work."""
-    who = f"{socket.gethostname()} {os.getpid()}\n".encode()
+    who, is_claimed = f"{socket.gethostname()} {os.getpid()}\n".encode(), False
     try:
-        write_synced(path, who)
+        if is_locked is None:
+            write_synced(claim, who)
+            is_claimed = True
     except FileExistsError as error:
-        found = read_bytes(path)
+        found = read_bytes(claim)
         if found != who:
             raise BagError(
-                f"{busy}, by {shown(path)}: {first_line(found)}. If it"
-                " isn't, remove that file"
+                f"{busy}, by {shown(claim)}: {first_line(found)}. If it isn't,"
+                " remove that file"
             ) from error
-        yield
-        return
     try:
         yield
     finally:
         with suppress(FileNotFoundError):
-            os.unlink(path)
+            if is_claimed:
+                os.unlink(claim)

@@ -16,7 +16,7 @@ import subprocess
 import sys
 import threading
 from concurrent.futures import FIRST_EXCEPTION, ThreadPoolExecutor, wait
-from contextlib import suppress
+from contextlib import AbstractContextManager, suppress
 from dataclasses import dataclass, field
 from typing import IO, Callable, List, Optional, Sequence, Set, Tuple
 
@@ -210,12 +210,13 @@ def kill(process: "Process[bytes]") -> None:
         os.killpg(process.pid, signal.SIGKILL)
 
 
-class Program:
+class Program(AbstractContextManager["Program"]):
     """The program at a path, and those of its processes that are at work.
 
     Several threads may run it at once. It is to be stopped in the end; in a
     `with` statement it is. Its processes hold an open file, too, such as a
-    lock. `at_work` and `done` are the numbers that `each` is at, and was at.
+    lock. None is started any more once it is `stopped`. `at_work` and `done`
+    are the numbers that `each` is at, and was at.
     """
 
     def __init__(self, path: Path, held: Optional[int] = None) -> None:
@@ -223,14 +224,11 @@ class Program:
         self._held = () if held is None else (held,)
         self._lock = threading.Lock()
         self._running: Set["Process[bytes]"] = set()
-        self._stopped = threading.Event()
+        self.stopped = threading.Event()
         self._mark = os.urandom(16).hex()
         self._guard: Optional["Process[bytes]"] = None
         self.at_work: List[int] = []
         self.done: List[int] = []
-
-    def __enter__(self) -> "Program":
-        return self
 
     def __exit__(self, *error: object) -> None:
         self.stop()
@@ -284,14 +282,9 @@ class Program:
         out.seek(0)
         return verdict_of(ended, report_of(out), name, asked)
 
-    @property
-    def is_stopped(self) -> bool:
-        """Whether no process is started any more."""
-        return self._stopped.is_set()
-
     def pause(self, seconds: float) -> None:
         """Waits, unless it is Stopped."""
-        if self._stopped.wait(seconds):
+        if self.stopped.wait(seconds):
             raise Stopped
 
     def each(
@@ -329,7 +322,7 @@ class Program:
         """Kills all processes, and starts none any more. One that hangs in
         the system, as on a disk that is gone, isn't waited for."""
         with self._lock:
-            self._stopped.set()
+            self.stopped.set()
             for process in self._running:
                 kill(process)
             if self._guard is not None:
@@ -341,7 +334,7 @@ class Program:
         self, words: Sequence[Path], out: IO[bytes], folder: Optional[Path]
     ) -> "Process[bytes]":
         with self._lock:
-            if self.is_stopped:
+            if self.stopped.is_set():
                 raise Stopped
             if self._guard is None:
                 self._guard = self._begin_guard()

@@ -58,13 +58,6 @@ class Command(argparse.ArgumentParser):
     def format_help(self) -> str:
         return self.text
 
-    def read(self, words: Sequence[str]) -> argparse.Namespace:
-        """The options and the operands; after `--` all are operands."""
-        end = words.index("--") if "--" in words else len(words)
-        read = self.parse_intermixed_args(words[:end])
-        read.operands += words[end:][1:]
-        return read
-
 
 def read(
     name: str,
@@ -73,8 +66,11 @@ def read(
     most: int = 1,
     **readers: Reader,
 ) -> argparse.Namespace:
-    """The options of a command, and its operands, which are so many."""
-    asked = Command(name, readers).read(words)
+    """The options of a command, and its operands, which are so many; after
+    `--` all are operands."""
+    end = words.index("--") if "--" in words else len(words)
+    asked = Command(name, readers).parse_intermixed_args(words[:end])
+    asked.operands += words[end:][1:]
     count = len(asked.operands)
     if not least <= count <= most or not all(asked.operands):
         raise Refused("the operands are others; --help says which")
