@@ -182,7 +182,8 @@ def round_over(register: Register, path: bytes) -> Dict[str, str]:
     if row is not None:
         with suppress(Refused, OSError):
             a_round = rounds.load(folder_of(register, row["name"]))
-            if path in a_round.bags_read():
+            bags = dict(enumerate(a_round.directories, 1))
+            if path in map(bags.get, a_round.records):
                 return {"after": row["name"]}
     return {}
 

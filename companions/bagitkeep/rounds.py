@@ -181,11 +181,6 @@ class Round:
             text = f"checked at {last.ended}; its report is not there"
         return Row(3, last.why or text, bag, record=last)
 
-    def bags_read(self) -> Set[bytes]:
-        """The bags of which a check has ended."""
-        known = range(1, len(self.directories) + 1)
-        return {self.directories[it - 1] for it in known if it in self.records}
-
     def rows(self) -> List[Row]:
         """The rows of all bags, in their order."""
         return [self.row(it + 1) for it in range(len(self.directories))]
