@@ -124,11 +124,9 @@ class Fault:
         return FAULTS[self.code][0]
 
     def __str__(self) -> str:
-        fields = (self.algorithm or "-", self.line or "-")
         path, detail = encoded(self.path), encoded(self.detail)
-        return " ".join(
-            map(str, (self.code, self.word, path, *fields, detail))
-        )
+        where = f"{path} {self.algorithm or '-'} {self.line or '-'}"
+        return f"{self.code} {self.word} {where} {detail}"
 
 
 @dataclass(frozen=True)

@@ -181,13 +181,11 @@ def read_profile(name: Optional[str]) -> Optional[bytes]:
     except OSError as error:
         text = f"the profile can't be read: {explained(error)}"
         raise Refused(text, 3) from error
-    words = [sought(), *Asked(profile=path).words(), "--", os.devnull]
-    with suppress(OSError):
-        tried = subprocess.run(
-            words, stdin=subprocess.DEVNULL, capture_output=True, check=False
-        )
-        if tried.returncode == 2:
-            raise Refused(first_line(tried.stderr))
+    words = [*Asked(profile=path).words(), "--", os.devnull]
+    with Program(sought()) as program, open(os.devnull, "wb") as out:
+        tried = program.run(words, out)
+    if tried.status == 2:
+        raise Refused(tried.message)
     return profile
 
 

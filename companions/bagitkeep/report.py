@@ -121,7 +121,9 @@ class Reading:
             lines += 1
             if isinstance(line, Fault):
                 faults += 1
-                self.look_at_path(place, line)
+                if line.code in self.codes and not is_of_file(line.path):
+                    what = f"no file has its path: {shown(line.path)}"
+                    self.fail(f"{place} is passed over, since {what}")
             elif isinstance(line, Closing):
                 self.close(place, line, faults, bag)
                 self.blocks.append((self.bag, lines))
@@ -135,13 +137,6 @@ class Reading:
 
     def keep(self, record: Record) -> None:
         self.kept.write(json.dumps(record).encode() + b"\n")
-
-    def look_at_path(self, place: str, fault: Fault) -> None:
-        if fault.code in self.codes and not is_of_file(fault.path):
-            self.fail(
-                f"{place} is passed over, since no file has its path:"
-                f" {shown(fault.path)}"
-            )
 
     def close(
         self, place: str, line: Closing, faults: int, bag: Optional[str]
@@ -204,10 +199,8 @@ def write_cells(reading: Reading, out: IO[str], dialect: str) -> None:
     writer = csv.writer(out, dialect)
     writer.writerow(COLUMNS)
     for record in reading.records():
-        cells = (cell(record.get(column)) for column in COLUMNS)
-        writer.writerow(
-            [printable(it) if is_terminal else it for it in cells]
-        )
+        cells = [cell(record.get(column)) for column in COLUMNS]
+        writer.writerow(map(printable, cells) if is_terminal else cells)
 
 
 def first_folder(path: str) -> str:
@@ -270,6 +263,7 @@ FORMS: Dict[str, Callable[[Reading, IO[str]], None]] = {
     "csv": partial(write_cells, dialect="excel"),
     "tsv": partial(write_cells, dialect="excel-tab"),
     "summary": write_summary,
+    "files": write_paths,
 }
 
 
@@ -286,7 +280,7 @@ def codes_of(text: str) -> FrozenSet[int]:
 
 def read_words(words: Sequence[str]) -> argparse.Namespace:
     asked = usage.read("report", words, 0, usage.MANY, files=codes_of)
-    forms = [it for it in (*FORMS, "files") if getattr(asked, it)]
+    forms = [it for it in FORMS if getattr(asked, it)]
     if len(forms) > 1:
         raise Refused(f"--{forms[0]} doesn't go with --{forms[1]}")
     if asked.round is not None and (asked.operands or asked.files):
@@ -308,7 +302,6 @@ def read_round(reading: Reading, folder: str) -> None:
 def run(words: Sequence[str]) -> int:
     """Does what the command `report` is asked for, and says its status."""
     asked = read_words(words)
-    write = FORMS.get(asked.form, write_paths)
     if sys.stdout is None:
         raise Refused("standard output is closed", 3)
     try:
@@ -322,7 +315,7 @@ def run(words: Sequence[str]) -> int:
             for name in asked.operands or ([] if asked.round else ["-"]):
                 reading.read(name)
             if not reading.is_refused and not reading.is_unread:
-                write(reading, out)
+                FORMS[asked.form](reading, out)
     except OSError as error:
         raise Refused(f"it can't be written: {explained(error)}", 3) from error
     return 2 if reading.is_refused else reading.status
