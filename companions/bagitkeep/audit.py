@@ -14,7 +14,7 @@ from .checks import Checks
 from .checks import found_of as look_at
 from .files import text_of
 from .fingerprint import fingerprint
-from .go_round import rows_left
+from .go_round import left_of as numbers_left
 from .messages import Refused, explained, now, printable, say
 from .news import State, found_of, is_past, lapse, miss, note_told, remind
 from .news import settle, state_of, welcome
@@ -164,7 +164,7 @@ def check(
 def left_of(a_round: Round, task: Tuple[int, int]) -> List[int]:
     """The bags of a share of a round that have no result."""
     numbers = range(task[0], len(a_round.directories) + 1, task[1])
-    return list(rows_left(a_round, numbers))
+    return numbers_left(a_round, {it: a_round.row(it) for it in numbers})
 
 
 def tell_of(error: OSError) -> None:

@@ -37,9 +37,9 @@ def checked(register: Register, paths: List[bytes], jobs: Any) -> Round:
     folder = join(register.folder, b"rounds", b"asked")
     shutil.rmtree(folder, ignore_errors=True)
     os.makedirs(os.path.dirname(folder), exist_ok=True)
-    rounds.begin(folder, paths, FULL, None)
+    a_round = rounds.begin(folder, paths, FULL, None)
     asked = Namespace(hours=None, jobs=jobs, progress=None)
-    check(rounds.load(folder), list(range(1, len(paths) + 1)), asked)
+    check(a_round, list(range(1, len(paths) + 1)), asked)
     return rounds.load(folder)
 
 

@@ -282,27 +282,49 @@ def prune(folder: bytes) -> int:
     return len(good)
 
 
-def options_of(
-    asked: Asked, directories: List[bytes], profile: Optional[bytes]
-) -> Dict[str, object]:
-    """What list/options.json says."""
-    return {
-        "format": FORMAT,
-        "bags": len(directories),
-        "depth": asked.depth,
-        "clashes": asked.clashes,
-        "profile": None if profile is None
-        else hashlib.sha256(profile).hexdigest(),
-    }
-
-
 def begin(
     folder: bytes,
     directories: List[bytes],
     asked: Asked,
     profile: Optional[bytes],
-) -> None:
-    """Makes the round's folder and its list, unless they are there."""
+) -> Round:
+    """The round in a folder, which is made unless it is there: then it has to
+    have begun with these directories, these options and this profile."""
+    digest = None if profile is None else hashlib.sha256(profile).hexdigest()
+    options = {
+        "format": FORMAT,
+        "bags": len(directories),
+        "depth": asked.depth,
+        "clashes": asked.clashes,
+        "profile": digest,
+    }
+    files = {
+        b"directories": b"".join(name + b"\0" for name in directories),
+        b"options.json": json.dumps(options).encode() + b"\n",
+    }
+    if profile is not None:
+        files[b"profile.json"] = profile
+    make(folder, files)
+    a_round, where = load(folder), encoded(folder)
+    ours, theirs = set(directories), set(a_round.directories)
+    for names, what in (
+        (theirs - ours, "has, and is not asked for"),
+        (ours - theirs, "lacks"),
+    ):
+        if names:
+            raise Refused(
+                f"{where} is a round of other directories: it {what}:"
+                f" {encoded(min(names))}"
+            )
+    if options != a_round.options:
+        text = "is a round with other options, or another profile"
+        raise Refused(f"{where} {text}")
+    return a_round
+
+
+def make(folder: bytes, files: Dict[bytes, bytes]) -> None:
+    """Makes the round's folder and its list of these files, unless they are
+    there."""
     made = False
     with suppress(FileExistsError):
         os.mkdir(folder)
@@ -317,14 +339,10 @@ def begin(
             f"{encoded(folder)} is there, and is no round: a round makes a"
             " folder of its own"
         )
-    listed = b"".join(name + b"\0" for name in directories)
-    options = json.dumps(options_of(asked, directories, profile)).encode()
     try:
         with whole(join(folder, b"list")) as draft:
-            write_synced(join(draft, b"directories"), listed)
-            write_synced(join(draft, b"options.json"), options + b"\n")
-            if profile is not None:
-                write_synced(join(draft, b"profile.json"), profile)
+            for name, content in files.items():
+                write_synced(join(draft, name), content)
         sync_folder(os.path.dirname(folder))
     except OSError:
         with suppress(OSError):
