@@ -31,14 +31,9 @@ VERDICTS = {
 """What a check of each depth says of a bag without faults."""
 
 STATUSES = {
-    **{verdict: 0 for verdict in VERDICTS.values()},
-    "made": 0,
-    "has faults": 1,
-    "stopped": 1,
-    "rest done": 1,
-    "done": 1,
-    "unread": 3,
-    "not made": 3,
+    **dict.fromkeys([*VERDICTS.values(), "made"], 0),
+    **dict.fromkeys(["has faults", "stopped", "rest done", "done"], 1),
+    **dict.fromkeys(["unread", "not made"], 3),
 }
 """The status that `bagit` ends with, by how its last line ends."""
 
