@@ -12,7 +12,7 @@ from . import rounds
 from .beside import bag_beside, say_passed
 from .checks import Checks
 from .checks import found_of as look_at
-from .files import text_of
+from .files import sync_folder, text_of, write_synced
 from .fingerprint import fingerprint
 from .go_round import left_of as numbers_left
 from .messages import Refused, explained, now, printable, say
@@ -286,12 +286,32 @@ def take_result(register: Register, bag: Row, result: Result) -> None:
         register.alter("bags", bag, read=result.record.ended)
 
 
+def prune_round(folder: bytes) -> int:
+    """Removes the reports of the bags of a round without faults, and says how
+    many. That they were there is noted before."""
+    a_round = rounds.load(folder)
+    numbers = range(1, len(a_round.directories) + 1)
+    good = [it for it in numbers if a_round.row(it).status == 0]
+    if good:
+        draft = join(folder, b"pruned.part")
+        with suppress(FileNotFoundError):
+            os.unlink(draft)
+        noted = sorted(a_round.pruned.union(good))
+        write_synced(draft, "".join(f"{it}\n" for it in noted).encode())
+        os.rename(draft, join(folder, b"pruned"))
+        sync_folder(folder)
+    for number in good:
+        with suppress(FileNotFoundError):
+            os.unlink(a_round.report_path(number))
+    return len(good)
+
+
 def prune(register: Register) -> None:
     """Of rounds but the last, removes the reports of bags without faults: back
     to one that has none, as those before it were pruned, too."""
     for row in reversed(register.rows("rounds", "ended IS NOT NULL")[:-1]):
         with suppress(Refused, OSError):
-            if not rounds.prune(folder_of(register, row["name"])):
+            if not prune_round(folder_of(register, row["name"])):
                 break
 
 

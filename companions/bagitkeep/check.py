@@ -21,8 +21,8 @@ from .fingerprint import altered, fingerprint
 from .lines import MOST_PARTS, Closing, Unchecked, encoded, line_of, report_of
 from .messages import Refused, explained, now, say, shown
 from .program import (
-    LONGEST_WAIT, Asked, Program, Verdict, named, needed, read_profile,
-    verdict_of,
+    LONGEST_WAIT, Asked, Program, Stopped, Verdict, named, needed,
+    read_profile, verdict_of,
 )
 from .progress import Far, shown_while
 
@@ -225,8 +225,8 @@ class Work:
         """The turns in which something is tried, with how many are left."""
         for left in reversed(range(self.tries)):
             yield left
-            if left:
-                self.program.pause(self.wait)
+            if left and self.program.stopped.wait(self.wait):
+                raise Stopped
 
     def check(self, number: int) -> None:
         """Checks a part. What isn't read is a message."""

@@ -209,7 +209,7 @@ def kill(process: "Process[bytes]") -> None:
 
 
 class Program(AbstractContextManager["Program"]):
-    """The program at a path, and those of its processes that are at work.
+    """The program at a path, and its processes that are `running`.
 
     Several threads may run it at once. It is to be stopped in the end; in a
     `with` statement it is. Its processes hold an open file, too, such as a
@@ -221,7 +221,7 @@ class Program(AbstractContextManager["Program"]):
         self.path = path
         self._held = () if held is None else (held,)
         self._lock = threading.Lock()
-        self._running: Set["Process[bytes]"] = set()
+        self.running: Set["Process[bytes]"] = set()
         self.stopped = threading.Event()
         self._mark = os.urandom(16).hex()
         self._guard: Optional["Process[bytes]"] = None
@@ -262,7 +262,7 @@ class Program(AbstractContextManager["Program"]):
                 if process.poll() is None:
                     kill(process)
                 with self._lock:
-                    self._running.discard(process)
+                    self.running.discard(process)
 
     def check(
         self,
@@ -279,11 +279,6 @@ class Program(AbstractContextManager["Program"]):
         ended = self.run(words, out, folder, seconds)
         out.seek(0)
         return verdict_of(ended, report_of(out), name, asked)
-
-    def pause(self, seconds: float) -> None:
-        """Waits, unless it is Stopped."""
-        if self.stopped.wait(seconds):
-            raise Stopped
 
     def each(
         self, work: Callable[[int], None], numbers: Sequence[int], jobs: int
@@ -311,17 +306,12 @@ class Program(AbstractContextManager["Program"]):
             raise
         pool.shutdown()
 
-    def running(self) -> List[int]:
-        """The numbers of the processes that are at work."""
-        with self._lock:
-            return [process.pid for process in self._running]
-
     def stop(self) -> None:
         """Kills all processes, and starts none any more. One that hangs in
         the system, as on a disk that is gone, isn't waited for."""
         with self._lock:
             self.stopped.set()
-            for process in self._running:
+            for process in self.running:
                 kill(process)
             if self._guard is not None:
                 with suppress(subprocess.TimeoutExpired):
@@ -346,7 +336,7 @@ class Program(AbstractContextManager["Program"]):
                 start_new_session=True,
                 pass_fds=self._held,
             )
-            self._running.add(process)
+            self.running.add(process)
             return process
 
     def _begin_guard(self) -> "Process[bytes]":

@@ -46,8 +46,8 @@ def bytes_of(directory: bytes) -> int:
 def read_by(program: Program) -> int:
     """How many bytes the processes at work have read."""
     count = 0
-    for pid in program.running():
-        with suppress(OSError), open(f"/proc/{pid}/io") as file:
+    for process in list(program.running):
+        with suppress(OSError), open(f"/proc/{process.pid}/io") as file:
             count += int(file.readline().split()[1])
     return count
 

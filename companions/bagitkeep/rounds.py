@@ -262,26 +262,6 @@ def read_pruned(folder: bytes) -> Set[int]:
     return set()
 
 
-def prune(folder: bytes) -> int:
-    """Removes the reports of the bags of a round without faults, and says how
-    many. That they were there is noted before."""
-    a_round = load(folder)
-    numbers = range(1, len(a_round.directories) + 1)
-    good = [it for it in numbers if a_round.row(it).status == 0]
-    if good:
-        draft = join(folder, b"pruned.part")
-        with suppress(FileNotFoundError):
-            os.unlink(draft)
-        noted = sorted(a_round.pruned.union(good))
-        write_synced(draft, "".join(f"{it}\n" for it in noted).encode())
-        os.rename(draft, join(folder, b"pruned"))
-        sync_folder(folder)
-    for number in good:
-        with suppress(FileNotFoundError):
-            os.unlink(a_round.report_path(number))
-    return len(good)
-
-
 def begin(
     folder: bytes,
     directories: List[bytes],
