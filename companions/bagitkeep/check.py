@@ -93,13 +93,9 @@ class Parts:
 
     def asked(self, number: int) -> Asked:
         """What is asked of a part. Keys of a profile are said but once."""
-        profile = os.path.abspath(self.at("profile.json"))
-        return Asked(
-            clashes=self.head.clashes,
-            profile=None if self.head.profile is None else profile,
-            part=(number, self.head.parts),
-            quiet=number > 1,
-        )
+        head, part = self.head, (number, self.head.parts)
+        profile = head.profile and os.path.abspath(self.at("profile.json"))
+        return Asked("full", head.clashes, profile, part, quiet=number > 1)
 
     def remove(self, ours: "re.Pattern[str]") -> None:
         """Removes the files with such names."""

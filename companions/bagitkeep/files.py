@@ -72,9 +72,6 @@ def is_within(inner: Path, outer: Path) -> bool:
     return True
 
 
-# -------------------------------------------------------------- reading
-
-
 def opened(path: Path) -> IO[bytes]:
     """Opens a file to read. A pipe isn't waited for, nor a link followed."""
     flags = os.O_RDONLY | os.O_NOFOLLOW | os.O_NONBLOCK
@@ -118,9 +115,6 @@ def files_below(
                     yield entry
                 elif entry.path not in others:
                     folders.append(entry.path)
-
-
-# -------------------------------------------------------------- writing
 
 
 def write_synced(path: Path, content: bytes) -> None:
@@ -199,9 +193,6 @@ def place(old: str, new: str) -> None:
     give_name(old, new)
     for path in {os.path.dirname(new), os.path.dirname(old)}:
         sync_folder(path)
-
-
-# -------------------------------------------------------------- locking
 
 
 def has_lock(lock: Callable[..., None], *words: object) -> Optional[bool]:

@@ -71,19 +71,18 @@ class Asked:
 
     def words(self) -> List[Path]:
         """The arguments that ask for it."""
-        flags = {
+        given = {
             f"--{self.depth}": self.depth != "full",
             "--clashes": self.clashes,
             "--quiet": self.quiet,
-        }
-        options = {
             "--profile": self.profile,
             "--part": self.part and "{}/{}".format(*self.part),
             "--after": self.after,
         }
-        words: List[Path] = ["--validate", *(it for it in flags if flags[it])]
-        for option, value in options.items():
-            words += [option, value] if value else []
+        words: List[Path] = ["--validate"]
+        for option, value in given.items():
+            if value:
+                words += [option] if value is True else [option, value]
         return words
 
     def is_answered(self, closing: Closing) -> bool:

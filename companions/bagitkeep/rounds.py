@@ -237,11 +237,8 @@ def load(folder: bytes) -> Round:
     if not is_same or found["depth"] not in list(VERDICTS):
         raise Refused(f"the list of {encoded(folder)} was altered", 3)
     profile = join(folder, b"list/profile.json")
-    asked = Asked(
-        found["depth"],
-        bool(found["clashes"]),
-        profile if found["profile"] else None,
-    )
+    rules = profile if found["profile"] else None
+    asked = Asked(found["depth"], bool(found["clashes"]), rules)
     if asked.profile and sha256_of(profile) != found["profile"]:
         raise Refused(f"{encoded(profile)} was altered", 3)
     tried = set(map(tried_in, names_in(join(folder, b"tries"))))
