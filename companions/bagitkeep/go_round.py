@@ -170,16 +170,11 @@ def write_table(asked: Namespace) -> int:
     if asked.since is not None:
         since = rounds.load(absolute(asked.since))
     text, status = table_of(a_round, since, asked.format or "tsv")
-    if sys.stdout.isatty():
-        lines = text.splitlines(keepends=True)
-        text = "".join(map(shown, lines))
+    if sys.stdout.isatty():  # which a name mustn't command
+        rows = [map(printable, it.split("\t")) for it in text.splitlines()]
+        text = "".join("\t".join(row) + "\n" for row in rows)
     sys.stdout.buffer.write(text.encode("utf-8", "surrogateescape"))
     return status
-
-
-def shown(line: str) -> str:
-    """A line for a terminal, which a name mustn't command."""
-    return "\t".join(map(printable, line.rstrip("\r\n").split("\t"))) + "\n"
 
 
 def run(words: Sequence[str]) -> int:
