@@ -12,9 +12,9 @@ from . import rounds
 from .beside import bag_beside, say_passed
 from .checks import Checks
 from .checks import found_of as look_at
-from .files import text_of
+from .files import sync_folder, text_of, write_synced
 from .fingerprint import fingerprint
-from .go_round import rows_left
+from .go_round import left_of as numbers_left
 from .messages import Refused, explained, now, printable, say
 from .news import State, found_of, is_past, lapse, miss, note_told, remind
 from .news import settle, state_of, welcome
@@ -88,7 +88,6 @@ class Timed(Checks):
         if self.until is None or time.monotonic() < self.until:
             super().begin(number)
         else:
-            self.done.append(number)
             self.late.append(self.round.directories[number - 1])
 
     @cached_property
@@ -165,7 +164,7 @@ def check(
 def left_of(a_round: Round, task: Tuple[int, int]) -> List[int]:
     """The bags of a share of a round that have no result."""
     numbers = range(task[0], len(a_round.directories) + 1, task[1])
-    return list(rows_left(a_round, numbers))
+    return numbers_left(a_round, {it: a_round.row(it) for it in numbers})
 
 
 def tell_of(error: OSError) -> None:
@@ -287,12 +286,32 @@ def take_result(register: Register, bag: Row, result: Result) -> None:
         register.alter("bags", bag, read=result.record.ended)
 
 
+def prune_round(folder: bytes) -> int:
+    """Removes the reports of the bags of a round without faults, and says how
+    many. That they were there is noted before."""
+    a_round = rounds.load(folder)
+    numbers = range(1, len(a_round.directories) + 1)
+    good = [it for it in numbers if a_round.row(it).status == 0]
+    if good:
+        draft = join(folder, b"pruned.part")
+        with suppress(FileNotFoundError):
+            os.unlink(draft)
+        noted = sorted(a_round.pruned.union(good))
+        write_synced(draft, "".join(f"{it}\n" for it in noted).encode())
+        os.rename(draft, join(folder, b"pruned"))
+        sync_folder(folder)
+    for number in good:
+        with suppress(FileNotFoundError):
+            os.unlink(a_round.report_path(number))
+    return len(good)
+
+
 def prune(register: Register) -> None:
     """Of rounds but the last, removes the reports of bags without faults: back
     to one that has none, as those before it were pruned, too."""
     for row in reversed(register.rows("rounds", "ended IS NOT NULL")[:-1]):
         with suppress(Refused, OSError):
-            if not rounds.prune(folder_of(register, row["name"])):
+            if not prune_round(folder_of(register, row["name"])):
                 break
 
 

@@ -7,8 +7,8 @@ import os
 import re
 import time
 from contextlib import contextmanager, suppress
-from dataclasses import asdict, dataclass, field, replace
-from functools import partial
+from dataclasses import asdict, dataclass, replace
+from itertools import groupby
 from typing import Iterator, List, Optional, Sequence, Tuple
 
 from . import usage
@@ -21,11 +21,10 @@ from .fingerprint import altered, fingerprint
 from .lines import MOST_PARTS, Closing, Unchecked, encoded, line_of, report_of
 from .messages import Refused, explained, now, say, shown
 from .program import (
-    LONGEST_WAIT, Asked, Program, Verdict, named, needed, read_profile,
-    verdict_of,
+    LONGEST_WAIT, Asked, Program, Stopped, Verdict, named, needed,
+    read_profile, verdict_of,
 )
-from .progress import Far, read_by
-from .progress import shown as shown_while
+from .progress import Far, shown_while
 
 PART_BYTES = 4 << 30
 LISTING, OPENING, READING = 15e-6, 20e-6, 1e-9
@@ -84,9 +83,6 @@ class Parts:
     def at(self, name: str) -> str:
         return os.path.join(self.folder, name)
 
-    def part(self, number: int) -> str:
-        return self.at(f"{number}.part")
-
     def new(self, name: str, end: str = "try") -> str:
         return self.at(f"{name}.{os.urandom(8).hex()}.{end}")
 
@@ -97,23 +93,9 @@ class Parts:
 
     def asked(self, number: int) -> Asked:
         """What is asked of a part. Keys of a profile are said but once."""
-        profile = os.path.abspath(self.at("profile.json"))
-        return Asked(
-            clashes=self.head.clashes,
-            profile=None if self.head.profile is None else profile,
-            part=(number, self.head.parts),
-            quiet=number > 1,
-        )
-
-    def refuse_altered(self) -> None:
-        """Refuses a bag that isn't as it was when the check began."""
-        if fingerprint(self.head.bag).digest != self.head.fingerprint:
-            name = altered(self.head.bag, self.at("listing"))
-            raise Refused(
-                f"{name} was altered since the check began; remove"
-                f" {shown(self.folder)} to begin anew",
-                3,
-            )
+        head, part = self.head, (number, self.head.parts)
+        profile = head.profile and os.path.abspath(self.at("profile.json"))
+        return Asked("full", head.clashes, profile, part, quiet=number > 1)
 
     def remove(self, ours: "re.Pattern[str]") -> None:
         """Removes the files with such names."""
@@ -136,33 +118,38 @@ def parts_for(files: int, size: int) -> int:
     return max(1, min(-(-size // PART_BYTES), most, MOST_PARTS))
 
 
-# ------------------------------------------------------------ the folder
-
-
 def opened(
     read: argparse.Namespace, bagit: str, profile: Optional[bytes]
 ) -> Parts:
-    """The folder of parts, which is made where there is none."""
+    """The folder of parts, which is made where there is none. That of another
+    bag, other options, or another `bagit` is refused."""
     bag, report = read.operands
     folder = f"{report}.parts"
-    given = read.task[1] if read.task else read.parts
-    head = Head(
-        bag,
-        os.path.realpath(bag),
-        given or 0,
-        bool(read.clashes),
-        None if profile is None else hashlib.sha256(profile).hexdigest(),
-        sha256_of(bagit),
-        now(),
-    )
+    given = read.task[1] if read.task else read.parts or 0
+    digest = None if profile is None else hashlib.sha256(profile).hexdigest()
+    real, clashes = os.path.realpath(bag), bool(read.clashes)
+    ours = Head(bag, real, given, clashes, digest, sha256_of(bagit), now())
     if not os.path.lexists(folder):
         if read.join:
             text = f"{shown(folder)} isn't there: no part was checked"
             raise Refused(text, 3)
-        begin(folder, head, profile)
-    parts = Parts(folder, head_in(folder))
-    refuse_other(parts, replace(head, parts=given or parts.head.parts))
-    return parts
+        begin(folder, ours, profile)
+    head = head_in(folder)
+    for name, what in (
+        ("bag", "another bag"),
+        ("real", "another bag"),
+        ("clashes", "other options"),
+        ("profile", "another profile"),
+        ("bagit", "another bagit"),
+        ("parts", f"{head.parts} parts, and not {given}"),
+    ):
+        is_asked = name != "parts" or given
+        if is_asked and getattr(head, name) != getattr(ours, name):
+            raise Refused(
+                f"{shown(folder)} is of a check of {what}; remove it to begin"
+                " anew"
+            )
+    return Parts(folder, head)
 
 
 def begin(folder: str, head: Head, profile: Optional[bytes]) -> None:
@@ -173,7 +160,7 @@ def begin(folder: str, head: Head, profile: Optional[bytes]) -> None:
         with open(parts.at("listing"), "x", encoding="ascii") as file:
             found = fingerprint(head.bag, file)
             file.flush()
-            os.fsync(file.fileno())
+            os.fsync(file)
         head = replace(
             head,
             parts=head.parts or parts_for(found.files, found.size),
@@ -194,23 +181,6 @@ def head_in(folder: str, name: str = "asked") -> Head:
         if 1 <= head.parts <= MOST_PARTS:
             return head
     raise Refused(f"{shown(folder)} is there, and isn't of a check in parts")
-
-
-def refuse_other(parts: Parts, ours: Head) -> None:
-    """Refuses parts of another bag, other options, or another `bagit`."""
-    for name, what in (
-        ("bag", "another bag"),
-        ("real", "another bag"),
-        ("clashes", "other options"),
-        ("profile", "another profile"),
-        ("bagit", "another bagit"),
-        ("parts", f"{parts.head.parts} parts, and not {ours.parts}"),
-    ):
-        if getattr(parts.head, name) != getattr(ours, name):
-            raise Refused(
-                f"{shown(parts.folder)} is of a check of {what}; remove it to"
-                " begin anew"
-            )
 
 
 def clear_left(folder: str, report: str) -> None:
@@ -236,10 +206,7 @@ def alone(parts: Parts, number: Optional[int]) -> Iterator[None]:
             yield
 
 
-# ------------------------------------------------------------ the checks
-
-
-@dataclass
+@dataclass(frozen=True)
 class Work:
     """Parts that are checked: how often each is tried, with which rest after a
     failure, and whether files that can't be read are passed by."""
@@ -249,40 +216,41 @@ class Work:
     tries: int
     wait: int
     go_past: bool
-    at_work: List[int] = field(default_factory=list)
 
     def turns(self) -> Iterator[int]:
         """The turns in which something is tried, with how many are left."""
         for left in reversed(range(self.tries)):
             yield left
-            if left:
-                self.program.pause(self.wait)
+            if left and self.program.stopped.wait(self.wait):
+                raise Stopped
 
     def check(self, number: int) -> None:
         """Checks a part. What isn't read is a message."""
-        self.at_work.append(number)
         asked: Optional[Asked] = self.parts.asked(number)
         while asked is not None:
             verdict, file = self.persist(number, asked)
-            at = verdict.closing
-            is_done = at is not None and at.cause is None
-            if is_done:
+            if verdict.status != 3:
                 self.look()
-            if is_done and asked.after is None:
-                self.keep(number, file)
-            elif is_done:
-                self.say(number, verdict, file)
-            asked = None if is_done else self.past(asked, at)
-        self.at_work.remove(number)
+                if asked.after is None:
+                    self.keep(number, file)
+                else:
+                    self.say(number, verdict, file)
+            asked = self.past(asked, verdict.closing)
 
     def past(self, asked: Asked, at: Optional[Closing]) -> Optional[Asked]:
         """What comes after the file that can't be read, if it is asked for."""
-        if not self.go_past or at is None or at.cause != "device":
+        path = at.path if at is not None and at.cause == "device" else None
+        if not self.go_past or not path or not path.startswith("data/"):
             return None
-        if at.path is None or not at.path.startswith("data/"):
-            return None
-        after = f"701 payload-sum-differs {encoded(at.path)}%00 - - -"
+        after = f"701 payload-sum-differs {encoded(path)}%00 - - -"
         return replace(asked, after=after, quiet=True)
+
+    def keep(self, number: int, file: str) -> None:
+        """Gives the report of a part its name, and removes what is left of
+        the part."""
+        with suppress(FileExistsError):
+            place(file, self.parts.at(f"{number}.part"))
+            self.parts.remove(re.compile(rf"{number}\..*\.(try|past)"))
 
     def persist(self, number: int, asked: Asked) -> Tuple[Verdict, str]:
         """Tries a part until it is done, or can't be; gives the last try."""
@@ -291,11 +259,11 @@ class Work:
             file = self.parts.new(str(number), end)
             with open(file, "x+b") as out:
                 verdict = self.program.check(self.parts.head.bag, asked, out)
-                os.fsync(out.fileno())
+                os.fsync(out)
             if last:
                 os.unlink(last)
             last, at = file, verdict.closing
-            if at is not None and at.cause is None:
+            if verdict.status != 3:
                 break
             self.say(number, verdict, file)
             if at is not None and at.cause not in PASSING:
@@ -309,31 +277,23 @@ class Work:
         say(f"part {number} of {self.parts.head.parts}: {text}")
 
     def look(self) -> None:
-        """Refuses a bag that was altered. Where it can't be listed, this is
-        tried again, too."""
+        """Refuses a bag that isn't as it was when the check began. Where it
+        can't be listed, this is tried again, too."""
+        parts, bag = self.parts, self.parts.head.bag
         for left in self.turns():
             try:
-                return self.parts.refuse_altered()
+                if fingerprint(bag).digest == parts.head.fingerprint:
+                    return
+                raise Refused(
+                    f"{altered(bag, parts.at('listing'))} was altered since"
+                    f" the check began; remove {shown(parts.folder)} to begin"
+                    " anew",
+                    3,
+                )
             except OSError as error:
                 if not left:
                     raise
                 say(explained(error))
-
-    def keep(self, number: int, file: str) -> None:
-        """Gives the report of a part its name, and removes what is left of
-        the part."""
-        with suppress(FileExistsError):
-            place(file, self.parts.part(number))
-            self.parts.remove(re.compile(rf"{number}\..*\.(try|past)"))
-
-    def far(self, numbers: List[int]) -> Far:
-        """How far these parts are."""
-        size = self.parts.head.bytes // self.parts.head.parts
-        done = len(set(numbers) - set(self.parts.missing()))
-        at_work = [f"part {it}" for it in self.at_work]
-        read = done * size + read_by(self.program)
-        total = len(numbers) * size
-        return Far("parts", len(numbers), done, at_work, read, total)
 
     def join(self, report: str) -> int:
         """Has the parts joined, and gives what `bagit` has written of them
@@ -350,7 +310,7 @@ class Work:
             ended = self.program.run(words, out, parts.folder)
             out.seek(0)
             verdict = verdict_of(ended, report_of(out), name, Asked())
-            os.fsync(out.fileno())
+            os.fsync(out)
         if verdict.status == 3:
             os.unlink(file)
             text = f"{shown(parts.folder)} isn't joined: {verdict.result}"
@@ -365,13 +325,10 @@ class Work:
 
 def ranges_of(numbers: List[int]) -> str:
     """Numbers as a job array takes them, such as 2,5-7."""
-    ranges: List[List[int]] = []
-    for number in numbers:
-        if ranges and ranges[-1][-1] == number - 1:
-            ranges[-1][1:] = [number]
-        else:
-            ranges.append([number])
-    return ",".join("-".join(map(str, it)) for it in ranges)
+    runs = groupby(enumerate(numbers), lambda it: it[1] - it[0])
+    ranges = [[number for _, number in run] for _, run in runs]
+    ends = [dict.fromkeys((it[0], it[-1])) for it in ranges]
+    return ",".join("-".join(map(str, it)) for it in ends)
 
 
 def say_unchecked(path: str) -> None:
@@ -385,7 +342,7 @@ def say_unchecked(path: str) -> None:
 
 def task(parts: Parts, number: int) -> int:
     """Writes the closing line of a part, and says its status."""
-    path = parts.part(number)
+    path = parts.at(f"{number}.part")
     if not os.path.lexists(path):
         return 3
     with open(path, "rb") as file:
@@ -420,25 +377,26 @@ def run(words: Sequence[str]) -> int:
     bagit = needed()
     parts = opened(read, bagit, read_profile(read.profile))
     number = read.task and read.task[0]
-    wait = WAIT if read.wait is None else read.wait
+    tries, wait = read.tries or TRIES, WAIT if read.wait is None else read.wait
+    head = parts.head
     with alone(parts, number), Program(bagit) as program:
-        tries = read.tries or TRIES
         work = Work(parts, program, tries, wait, bool(read.go_past))
         left = [] if read.join else parts.missing()
         if number is not None:
             left = [it for it in left if it == number]
-        elif left and len(left) < parts.head.parts:
+        elif left and len(left) < head.parts:
             say(
-                f"goes on with the check that began at {parts.head.begun}:"
-                f" {parts.head.parts - len(left)} of {parts.head.parts} parts"
-                " are done"
+                f"goes on with the check that began at {head.begun}:"
+                f" {head.parts - len(left)} of {head.parts} parts are done"
             )
             work.look()
         if left:
-            with shown_while(partial(work.far, left), read.progress):
+            size = head.bytes // head.parts
+            far = Far(program, "parts", left, "part {}".format, lambda _: size)
+            with shown_while(far, read.progress):
                 program.each(work.check, left, read.jobs or 1)
         if number is not None:
             return task(parts, number)
         if not parts.missing():
-            say_unchecked(parts.part(1))
+            say_unchecked(parts.at("1.part"))
         return work.join(read.operands[1])

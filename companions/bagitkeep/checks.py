@@ -1,5 +1,4 @@
 """The checks of a round: several at a time, each by a process of `bagit`."""
-import errno
 import fcntl
 import os
 import socket
@@ -9,27 +8,22 @@ import time
 from contextlib import suppress
 from functools import lru_cache
 from os.path import join
-from typing import (
-    IO, Any, Callable, ContextManager, Dict, List, Optional, Tuple, TypeVar,
-)
+from typing import IO, Any, Callable, List, Optional, Tuple, TypeVar
 
 from . import __version__
 from .files import (
-    EXCLUSIVE, Path, give_name, has_lock, naming, sha256_of, sync_folder,
-    text_of,
+    EXCLUSIVE, Path, give_name, has_lock, naming, random_name, sha256_of,
+    sync_folder, text_of,
 )
+from .fingerprint import fingerprint
 from .lines import encoded
 from .messages import explained, now, say
-from .program import Program, Stopped, Verdict, find, named, sought
-from .progress import Far, bytes_of, read_by, shown
+from .program import Program, Verdict, find, named, sought
+from .progress import Far, bytes_of, shown_while
 from .rounds import Record, Round
 from .seal import is_tar, payload_of, seal_of
 
 Found = TypeVar("Found")
-
-
-def random_name() -> bytes:
-    return os.urandom(8).hex().encode()
 
 
 def obstacle(directory: bytes) -> Optional[str]:
@@ -44,32 +38,31 @@ def obstacle(directory: bytes) -> Optional[str]:
     return "is not a folder"
 
 
-def found_of(
-    directory: bytes, look: Callable[[bytes], Found]
-) -> Optional[Found]:
+def found_of(path: Path, look: Callable[[Path], Found]) -> Optional[Found]:
     """What a look finds of a bag; None where something can't be read."""
     with suppress(OSError):
-        return look(directory)
+        return look(path)
     return None
 
 
 @lru_cache(maxsize=8)
-def digest_as(path: Path, *state: int) -> str:
+def digest_as(path: Path, state: str) -> str:
     """The SHA-256 of a file in a state, by which it is read once."""
     return sha256_of(path)
 
 
+def digest_of(path: Path) -> str:
+    """The SHA-256 of a file, which is read again if it was put anew."""
+    return digest_as(path, fingerprint(path).digest)
+
+
 class Checks:
-    """The checks of bags of a round, for so many seconds at most. Each is one
-    of `at_work`, by its number, and then one of `done`. `worst` is the
-    greatest status that wasn't put into the round."""
+    """The checks of bags of a round, for so many seconds at most. `worst` is
+    the greatest status that wasn't put into the round."""
 
     def __init__(self, a_round: Round, seconds: Optional[float]) -> None:
-        self.round, self.seconds = a_round, seconds
+        self.round, self.seconds, self.worst = a_round, seconds, 0
         self.program = Program(find() or sought())
-        self.at_work: Dict[int, bytes] = {}
-        self.done: List[int] = []
-        self.worst = 0
         self._locks: Optional[IO[bytes]] = None
         self._writing = threading.Lock()
         host = encoded(socket.gethostname()).replace("/", "%2F")
@@ -81,42 +74,19 @@ class Checks:
     ) -> None:
         """Checks the bags of these numbers, so many at a time, or as many as
         there are processors."""
-        folder = self.round.folder
+        folder, bags = self.round.folder, self.round.directories
         for name in b"reports", b"tries", b"records":
             os.makedirs(join(folder, name), exist_ok=True)
+        far = Far(
+            self.program, "bags", numbers, lambda it: encoded(bags[it - 1]),
+            lambda it: bytes_of(bags[it - 1]),
+        )
         with open(join(folder, b"lock"), "ab") as self._locks:
             jobs = jobs or len(os.sched_getaffinity(0))
-            with self.program, self.shown(numbers, is_told):
+            with self.program, shown_while(far, is_told):
                 self.program.each(self.begin, numbers, jobs)
         for name in b"reports", b"records":
             sync_folder(join(folder, name))
-
-    def shown(
-        self, numbers: List[int], is_told: bool
-    ) -> ContextManager[None]:
-        """Says how far the checks are. The sizes of the bags are found beside
-        them."""
-        sizes: Dict[int, int] = {}
-
-        def measure() -> None:
-            for number in numbers:
-                directory = self.round.directories[number - 1]
-                sizes[number] = bytes_of(directory)
-
-        def far() -> Far:
-            done = list(self.done)
-            read = sum(sizes.get(it, 0) for it in done)
-            is_known = len(sizes) == len(numbers)
-            return Far(
-                "bags",
-                len(numbers),
-                len(done),
-                [encoded(it) for it in list(self.at_work.values())],
-                read + read_by(self.program),
-                sum(sizes.values()) if is_known else None,
-            )
-
-        return shown(far, is_told, measure)
 
     def begin(self, number: int) -> None:
         """Checks the bag of a number, unless another process is at it.
@@ -127,7 +97,6 @@ class Checks:
         """
         directory = self.round.directories[number - 1]
         is_locked = has_lock(fcntl.lockf, self._locks, EXCLUSIVE, 1, number)
-        self.at_work[number] = directory
         try:
             if is_locked is False:
                 say(
@@ -138,30 +107,25 @@ class Checks:
                 self.try_bag(number, directory, bool(is_locked))
         except OSError as error:
             say(f"{encoded(directory)}: {explained(error)}")
-        except Stopped:
-            pass
         finally:
             if is_locked:
                 has_lock(fcntl.lockf, self._locks, fcntl.LOCK_UN, 1, number)
-            del self.at_work[number]
-            self.done.append(number)
 
     def try_bag(self, number: int, directory: bytes, is_alone: bool) -> None:
         """Checks a bag, and leaves its record and its report."""
         begun, why = now(), obstacle(directory)
-        if why is None and find() is None:
-            why = f"was not checked: there is no program {sought()}"
+        if find() is None:
+            why = why or f"was not checked: there is no program {sought()}"
         if why is not None:
             why = f"{encoded(directory)} {why}"
             self.note(number, begun, why)
             say(why)
             return
-        name = self.round.name_of(number) + b"." + random_name() + b".txt"
-        file = join(self.round.folder, b"tries", name)
+        file = self.round.new_try(number)
         with naming(file), open(file, "x+b") as out:
             verdict, seal = self.check(directory, out)
             os.fsync(out)
-        if verdict.status == 3 and self.program.is_stopped:
+        if verdict.status == 3 and self.program.stopped.is_set():
             return
         path = self.round.report_path(number) if verdict.status != 3 else file
         files, size = found_of(directory, payload_of) or (None, None)
@@ -170,7 +134,7 @@ class Checks:
             begun,
             verdict.result if verdict.closing is None else None,
             version=__version__,
-            bagit_sha256=self.digest_of_program(),
+            bagit_sha256=found_of(self.program.path, digest_of),
             report=os.path.relpath(path, self.round.folder).decode(),
             report_sha256=sha256_of(file),
             seal=seal,
@@ -188,15 +152,14 @@ class Checks:
         """Writes a line for a check that has ended, and syncs it. It begins a
         line of its own, also below one that was cut off."""
         bag = self.round.directories[number - 1]
-        real, ended = text_of(os.path.realpath(bag)), (now(), time.time_ns())
         record = Record(
-            number, text_of(bag), real, begun, *ended, why, **known
+            number, text_of(bag), text_of(os.path.realpath(bag)), begun,
+            now(), time.time_ns(), why, **known,
         )
-        line = b"\n" + record.line()
         with naming(self._records), self._writing:
-            with open(self._records, "ab", buffering=0) as file:
-                if file.write(line) != len(line):
-                    raise OSError(errno.ENOSPC, os.strerror(errno.ENOSPC))
+            with open(self._records, "ab") as file:
+                file.write(b"\n" + record.line())
+                file.flush()
                 os.fsync(file)
 
     def check(
@@ -228,15 +191,6 @@ class Checks:
             with suppress(OSError):
                 os.unlink(name)
         return path
-
-    def digest_of_program(self) -> Optional[str]:
-        """The SHA-256 of the program, which is read again if it was put
-        anew."""
-        with suppress(OSError):
-            it, path = os.stat(self.program.path), self.program.path
-            times = it.st_mtime_ns, it.st_ctime_ns
-            return digest_as(path, it.st_dev, it.st_ino, *times)
-        return None
 
 
 def told_of(directory: bytes, verdict: Verdict, file: bytes) -> str:

@@ -45,17 +45,15 @@ usage: bagit-keep COMMAND [OPTIONS] ..
 Stands beside bagit, which creates and checks BagIt bags. Each COMMAND prints
 more by --help:
 
+{}
+Options:
+  -h, --help    print this
+  --version     print the version
 """
 
 
 class Interrupted(BaseException):
     """A signal asks the command to end."""
-
-
-def help_text() -> str:
-    lines = [f"  {name:9} {says}\n" for name, (_, says) in COMMANDS.items()]
-    options = "  -h, --help    print this\n  --version     print the version\n"
-    return f"{USAGE}{''.join(lines)}\nOptions:\n{options}"
 
 
 def interrupt(number: int, frame: Any) -> NoReturn:
@@ -75,7 +73,8 @@ def open_closed_streams() -> None:
 def do(words: List[str]) -> int:
     """Does what is asked for, and says the status."""
     if words[:1] in (["-h"], ["--help"]):
-        print(help_text(), end="")
+        says = [f"  {it:9} {COMMANDS[it][1]}\n" for it in COMMANDS]
+        print(USAGE.format("".join(says)), end="")
         return 0
     if words[:1] == ["--version"]:
         print(f"bagit-keep {__version__}")

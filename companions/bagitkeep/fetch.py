@@ -10,12 +10,12 @@ from .archives import run_into
 from .bagit import Bag
 from .beside import show
 from .errors import BagError
-from .files import PIECE, digests_of, place, settle
+from .files import PIECE, digests_of, place
 from .lines import encoded
 from .members import Unfit, refuse_path, room_in
 from .messages import Refused, say
 from .places import Work, work_at, work_path
-from .trees import make_folders
+from .trees import make_folders, settle
 from .usage import number, read
 
 URL = re.compile(

@@ -7,7 +7,7 @@ import os
 import shutil
 import socket
 import stat
-from contextlib import contextmanager, nullcontext, suppress
+from contextlib import contextmanager, suppress
 from typing import (
     IO, Callable, Dict, Iterable, Iterator, Optional, Tuple, Union,
 )
@@ -27,6 +27,10 @@ NO_LINKS = (errno.ENOSYS, errno.EPERM, errno.EOPNOTSUPP, errno.EMLINK)
 def text_of(path: bytes) -> str:
     """A path in JSON: a byte that isn't UTF-8 is one of U+DC80 to U+DCFF."""
     return path.decode("utf-8", "surrogateescape")
+
+
+def random_name() -> bytes:
+    return os.urandom(8).hex().encode()
 
 
 @contextmanager
@@ -66,9 +70,6 @@ def is_within(inner: Path, outer: Path) -> bool:
             return False
         path = os.path.dirname(path)
     return True
-
-
-# -------------------------------------------------------------- reading
 
 
 def opened(path: Path) -> IO[bytes]:
@@ -116,22 +117,12 @@ def files_below(
                     folders.append(entry.path)
 
 
-# -------------------------------------------------------------- writing
-
-
 def write_synced(path: Path, content: bytes) -> None:
     """Writes a file that isn't there."""
     with naming(path), open(path, "xb") as file:
         file.write(content)
         file.flush()
         os.fsync(file)
-
-
-def settle(file: int) -> None:
-    """Syncs an open file, and gives its pages up, so that whoever reads it
-    next reads the disk."""
-    os.fsync(file)
-    os.posix_fadvise(file, 0, 0, os.POSIX_FADV_DONTNEED)
 
 
 def sync_folder(path: Path) -> None:
@@ -152,7 +143,7 @@ def whole(folder: bytes) -> Iterator[bytes]:
     """A folder that gets its name once it is whole. Of several processes that
     make it the first one's stands, as a folder isn't renamed onto one that
     isn't empty."""
-    draft = b"%s.%s" % (folder, os.urandom(8).hex().encode())
+    draft = b"%s.%s" % (folder, random_name())
     os.mkdir(draft)
     try:
         yield draft
@@ -204,9 +195,6 @@ def place(old: str, new: str) -> None:
         sync_folder(path)
 
 
-# -------------------------------------------------------------- locking
-
-
 def has_lock(lock: Callable[..., None], *words: object) -> Optional[bool]:
     """Whether this call locks; None where the system has no locks."""
     try:
@@ -219,31 +207,25 @@ def has_lock(lock: Callable[..., None], *words: object) -> Optional[bool]:
 @contextmanager
 def locked(is_locked: Optional[bool], claim: str, busy: str) -> Iterator[None]:
     """Refuses what isn't locked. Where the system has no locks a file stands
-    for one."""
+    for one, that names host and process, unless this process has made it.
+    Nobody can say whether one on another host is at work."""
     if is_locked is False:
         raise BagError(busy)
-    with nullcontext() if is_locked else claimed(claim, busy):
-        yield
-
-
-@contextmanager
-def claimed(path: str, busy: str) -> Iterator[None]:
-    """Makes a file that names host and process, unless this process has made
-    it. Nobody can say whether one on another host is at work."""
-    who = f"{socket.gethostname()} {os.getpid()}\n".encode()
+    who, is_claimed = f"{socket.gethostname()} {os.getpid()}\n".encode(), False
     try:
-        write_synced(path, who)
+        if is_locked is None:
+            write_synced(claim, who)
+            is_claimed = True
     except FileExistsError as error:
-        found = read_bytes(path)
+        found = read_bytes(claim)
         if found != who:
             raise BagError(
-                f"{busy}, by {shown(path)}: {first_line(found)}. If it"
-                " isn't, remove that file"
+                f"{busy}, by {shown(claim)}: {first_line(found)}. If it isn't,"
+                " remove that file"
             ) from error
-        yield
-        return
     try:
         yield
     finally:
         with suppress(FileNotFoundError):
-            os.unlink(path)
+            if is_claimed:
+                os.unlink(claim)

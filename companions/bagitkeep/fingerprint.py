@@ -13,12 +13,11 @@ import stat
 from dataclasses import dataclass
 from itertools import groupby
 from os.path import join
-from typing import IO, Dict, Iterable, Iterator, List, Optional, Tuple, Union
+from typing import IO, Dict, Iterable, Iterator, List, Optional
 
+from .files import Path
 from .lines import encoded
 
-Path = Union[str, bytes]
-Found = Tuple[str, os.stat_result]
 SECOND = 10**9
 
 
@@ -33,29 +32,23 @@ class Fingerprint:
     is_coarse: bool
 
 
-def listed(directory: Path) -> Iterator[Found]:
-    """A bag and all that is below it, by encoded paths, in the order of
-    `place`; of the bag in a .tar this file."""
+def listing(directory: Path) -> Iterator[str]:
+    """A line for a bag and all that is below it, in the order of `place`; of
+    the bag in a .tar for this file."""
+    devices: Dict[int, int] = {}
     left = [("-", os.fsencode(directory))]
     while left:
         path, name = left.pop()
-        state = os.stat(name, follow_symlinks=path == "-")
-        yield path, state
-        if stat.S_ISDIR(state.st_mode):
-            above = "" if path == "-" else f"{path}/"
-            below = {above + encoded(it): it for it in os.listdir(name)}
-            for path in sorted(below, reverse=True):
-                left.append((path, os.path.join(name, below[path])))
-
-
-def listing(directory: Path) -> Iterator[str]:
-    """A line for each of these."""
-    devices: Dict[int, int] = {}
-    for path, it in listed(directory):
-        kind = stat.S_IFMT(it.st_mode)
+        it = os.stat(name, follow_symlinks=path == "-")
         device = devices.setdefault(it.st_dev, len(devices))
+        kind = stat.S_IFMT(it.st_mode)
         times = f"{it.st_mtime_ns} {it.st_ctime_ns}"
         yield f"{path} {kind:o} {it.st_size} {times} {it.st_ino} {device}\n"
+        if kind == stat.S_IFDIR:
+            above = "" if path == "-" else f"{path}/"
+            below = {above + encoded(one): one for one in os.listdir(name)}
+            for path in sorted(below, reverse=True):
+                left.append((path, join(name, below[path])))
 
 
 def fingerprint(

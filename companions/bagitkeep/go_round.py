@@ -3,17 +3,16 @@ import os
 import sys
 from argparse import Namespace
 from collections import Counter
-from os.path import join
-from typing import Dict, List, Optional, Sequence
+from typing import Dict, List, Sequence
 
 from . import rounds, usage
 from .beside import bag_beside, say_passed
-from .checks import Checks, random_name
+from .checks import Checks
 from .files import absolute, is_within, text_of
 from .lines import encoded
 from .messages import Refused, explained, printable, say
 from .program import LONGEST_WAIT, Asked, read_profile
-from .rounds import Round, Row, options_of
+from .rounds import Round, Row
 from .table import FORMATS, table_of
 
 DEPTHS = ("fast", "completeness_only", "declaration_only")
@@ -90,31 +89,6 @@ def refuse_nesting(folder: bytes, directories: List[bytes]) -> None:
             raise Refused(f"{name} lies in the round {where}")
 
 
-def refuse_others(
-    a_round: Round,
-    directories: List[bytes],
-    asked: Asked,
-    profile: Optional[bytes],
-) -> None:
-    """A round goes on only with the directories, the options and the profile
-    that it began with."""
-    where = encoded(a_round.folder)
-    ours, theirs = set(directories), set(a_round.directories)
-    for names, what in (
-        (theirs - ours, "has, and is not asked for"),
-        (ours - theirs, "lacks"),
-    ):
-        if names:
-            raise Refused(
-                f"{where} is a round of other directories: it {what}:"
-                f" {encoded(min(names))}"
-            )
-    if options_of(asked, directories, profile) != a_round.options:
-        raise Refused(
-            f"{where} is a round with other options, or another profile"
-        )
-
-
 def set_aside(a_round: Round, number: int, row: Row) -> bool:
     """Puts the report of a link that names another folder now among the
     tries, so that the bag is checked again; says whether it did."""
@@ -122,20 +96,17 @@ def set_aside(a_round: Round, number: int, row: Row) -> bool:
     if row.status == 3 or row.record is None or row.record.real == real:
         return False
     say(f"{encoded(row.bag)} names another folder now, and is checked again")
-    name = a_round.name_of(number) + b"." + random_name() + b".txt"
-    tried = join(a_round.folder, b"tries", name)
-    os.rename(a_round.report_path(number), tried)
+    os.rename(a_round.report_path(number), a_round.new_try(number))
     return True
 
 
-def rows_left(a_round: Round, numbers: Sequence[int]) -> Dict[int, Row]:
-    """The rows of the bags that have no result yet."""
-    rows = {number: a_round.row(number) for number in numbers}
-    return {
-        number: row
+def left_of(a_round: Round, rows: Dict[int, Row]) -> List[int]:
+    """The numbers of the bags of these rows that have no result yet."""
+    return [
+        number
         for number, row in rows.items()
         if row.status == 3 or set_aside(a_round, number, row)
-    }
+    ]
 
 
 def go(asked: Namespace) -> int:
@@ -145,9 +116,7 @@ def go(asked: Namespace) -> int:
     options = Asked(asked.depth or "full", bool(asked.clashes))
     refuse_nesting(folder, directories)
     profile = read_profile(asked.profile)
-    rounds.begin(folder, directories, options, profile)
-    a_round = rounds.load(folder)
-    refuse_others(a_round, directories, options, profile)
+    a_round = rounds.begin(folder, directories, options, profile)
     task, tasks = asked.task or (1, 1)
     numbers = list(range(task, len(a_round.directories) + 1, tasks))
     share = f"task {task}/{tasks} of " if tasks > 1 else ""
@@ -155,12 +124,13 @@ def go(asked: Namespace) -> int:
     if not numbers:
         print(f"{share}: no bags")
         return 0
-    left = rows_left(a_round, numbers)
-    say_left(a_round, numbers, left, share)
+    rows = {number: a_round.row(number) for number in numbers}
+    left = left_of(a_round, rows)
+    say_left(rows, left, share)
     checks = Checks(a_round, asked.timeout)
-    checks.run(list(left), asked.jobs, asked.progress)
-    rows = rounds.load(folder)
-    count = Counter(rows.row(number).status for number in numbers)
+    checks.run(left, asked.jobs, asked.progress)
+    a_round = rounds.load(folder)
+    count = Counter(a_round.row(number).status for number in numbers)
     print(
         f"{share}: {len(numbers)} bags, {count[0]} without faults, {count[1]}"
         f" with faults, {count[3]} not finished"
@@ -168,20 +138,18 @@ def go(asked: Namespace) -> int:
     return max(checks.worst, *count)
 
 
-def say_left(
-    a_round: Round, numbers: List[int], left: Dict[int, Row], share: str
-) -> None:
+def say_left(rows: Dict[int, Row], left: List[int], share: str) -> None:
     """Says what is altered in a round, and whether it goes on."""
     if not left:
         raise Refused(
             f"{share} is finished, and nothing was checked; see --table, and"
             " begin another round"
         )
-    for row in left.values():
+    done = {**rows}
+    for row in map(done.pop, left):
         if row.is_altered:
             say(f"{encoded(row.bag)}: {row.result}")
-    done = [a_round.row(it).record for it in numbers if it not in left]
-    begun = [record.begun for record in done if record is not None]
+    begun = [row.record.begun for row in done.values() if row.record]
     if begun:
         say(
             f"{share} goes on: {len(begun)} bags have a result, of a check"
@@ -202,16 +170,11 @@ def write_table(asked: Namespace) -> int:
     if asked.since is not None:
         since = rounds.load(absolute(asked.since))
     text, status = table_of(a_round, since, asked.format or "tsv")
-    if sys.stdout.isatty():
-        lines = text.splitlines(keepends=True)
-        text = "".join(map(shown, lines))
+    if sys.stdout.isatty():  # which a name mustn't command
+        rows = [map(printable, it.split("\t")) for it in text.splitlines()]
+        text = "".join("\t".join(row) + "\n" for row in rows)
     sys.stdout.buffer.write(text.encode("utf-8", "surrogateescape"))
     return status
-
-
-def shown(line: str) -> str:
-    """A line for a terminal, which a name mustn't command."""
-    return "\t".join(map(printable, line.rstrip("\r\n").split("\t"))) + "\n"
 
 
 def run(words: Sequence[str]) -> int:

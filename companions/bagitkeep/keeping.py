@@ -37,9 +37,9 @@ def checked(register: Register, paths: List[bytes], jobs: Any) -> Round:
     folder = join(register.folder, b"rounds", b"asked")
     shutil.rmtree(folder, ignore_errors=True)
     os.makedirs(os.path.dirname(folder), exist_ok=True)
-    rounds.begin(folder, paths, FULL, None)
+    a_round = rounds.begin(folder, paths, FULL, None)
     asked = Namespace(hours=None, jobs=jobs, progress=None)
-    check(rounds.load(folder), list(range(1, len(paths) + 1)), asked)
+    check(a_round, list(range(1, len(paths) + 1)), asked)
     return rounds.load(folder)
 
 
@@ -182,7 +182,8 @@ def round_over(register: Register, path: bytes) -> Dict[str, str]:
     if row is not None:
         with suppress(Refused, OSError):
             a_round = rounds.load(folder_of(register, row["name"]))
-            if path in a_round.bags_read():
+            bags = dict(enumerate(a_round.directories, 1))
+            if path in map(bags.get, a_round.records):
                 return {"after": row["name"]}
     return {}
 

@@ -8,7 +8,7 @@ text as `-`, and the text `-` as `%2D`.
 import json
 import re
 from contextlib import suppress
-from dataclasses import dataclass
+from dataclasses import dataclass, field
 from pathlib import Path
 from typing import Any, Dict, Iterable, Iterator, List, Optional, Union
 from urllib.parse import quote, unquote_to_bytes
@@ -31,14 +31,9 @@ VERDICTS = {
 """What a check of each depth says of a bag without faults."""
 
 STATUSES = {
-    **{verdict: 0 for verdict in VERDICTS.values()},
-    "made": 0,
-    "has faults": 1,
-    "stopped": 1,
-    "rest done": 1,
-    "done": 1,
-    "unread": 3,
-    "not made": 3,
+    **dict.fromkeys([*VERDICTS.values(), "made"], 0),
+    **dict.fromkeys(["has faults", "stopped", "rest done", "done"], 1),
+    **dict.fromkeys(["unread", "not made"], 3),
 }
 """The status that `bagit` ends with, by how its last line ends."""
 
@@ -124,11 +119,9 @@ class Fault:
         return FAULTS[self.code][0]
 
     def __str__(self) -> str:
-        fields = (self.algorithm or "-", self.line or "-")
         path, detail = encoded(self.path), encoded(self.detail)
-        return " ".join(
-            map(str, (self.code, self.word, path, *fields, detail))
-        )
+        where = f"{path} {self.algorithm or '-'} {self.line or '-'}"
+        return f"{self.code} {self.word} {where} {detail}"
 
 
 @dataclass(frozen=True)
@@ -148,7 +141,7 @@ class Closing:
     `ended` is a key of STATUSES. What a line of its kind doesn't have is
     None. `path` and `cause` are of what couldn't be read; `part` to `profile`
     of a part, the last two where it was asked for them, the profile by its
-    SHA-256; `reason` of a bag that wasn't made.
+    SHA-256; `reason` of a bag that wasn't made. `text` is the line itself.
     """
 
     bag: str
@@ -163,6 +156,7 @@ class Closing:
     clashes: bool = False
     profile: Optional[str] = None
     reason: Optional[str] = None
+    text: str = field(default="", compare=False)
 
     @property
     def status(self) -> int:
@@ -170,25 +164,7 @@ class Closing:
         return STATUSES[self.ended]
 
     def __str__(self) -> str:
-        line = encoded(self.bag)
-        if self.part is not None:
-            line += f" part {self.part} of {self.parts}"
-        line += f" {self.ended}"
-        if self.reason is not None:
-            line += f": {self.reason}"
-        if self.path is not None:
-            line += f" {encoded(self.path)}"
-        if self.cause is not None:
-            line += f" {self.cause}"
-        if self.files is not None:
-            line += f", files: {self.files}, bytes: {self.bytes}"
-            line += ", clashes" if self.clashes else ""
-            line += f", profile: {self.profile}" if self.profile else ""
-        if self.ended == "has faults":
-            return f"{line}: {self.faults}"
-        if self.faults is None:
-            return line
-        return f"{line}, faults: {self.faults}"
+        return self.text
 
 
 Line = Union[Fault, Unchecked, Closing]
@@ -196,20 +172,22 @@ Line = Union[Fault, Unchecked, Closing]
 
 def line_of(text: bytes) -> Line:
     """What a line says, which is given with its end; or NotALine."""
-    try:
-        line = text.decode("ascii")
-        if line[-1:] != "\n":
+    with suppress(UnicodeDecodeError):
+        line, end = text[:-1].decode("ascii"), text[-1:]
+        if end != b"\n":
             raise NotALine("it is cut off")
-        return fault_of(line[:-1]) or other_of(line[:-1])
-    except UnicodeDecodeError as error:
-        raise NotALine("bagit writes no such line") from error
+        if found := FAULT.fullmatch(line):
+            return fault_of(found)
+        if found := UNCHECKED.fullmatch(line):
+            return Unchecked(decoded(found["key"]))
+        for form in CLOSINGS:
+            if found := form.fullmatch(line):
+                return closing_of(found)
+    raise NotALine("bagit writes no such line")
 
 
-def fault_of(text: str) -> Optional[Fault]:
-    """The fault that a line without its end says, if it is one's."""
-    found = FAULT.fullmatch(text)
-    if not found:
-        return None
+def fault_of(found: "re.Match[str]") -> Fault:
+    """The fault that a line says."""
     code, word, path, algorithm, number, detail = found.groups()
     line = None if number == "-" else int(number)
     known = FAULTS.get(int(code), [""])[0]
@@ -219,25 +197,15 @@ def fault_of(text: str) -> Optional[Fault]:
     return Fault(int(code), decoded(path), name, line, decoded(detail))
 
 
-def other_of(text: str) -> Union[Unchecked, Closing]:
-    """What any other line says."""
-    if found := UNCHECKED.fullmatch(text):
-        return Unchecked(decoded(found["key"]))
-    for form in CLOSINGS:
-        if found := form.fullmatch(text):
-            return closing_of(found.groupdict())
-    raise NotALine("bagit writes no such line")
-
-
-def closing_of(found: Dict[str, Optional[str]]) -> Closing:
-    """The closing line of these fields."""
+def closing_of(found: "re.Match[str]") -> Closing:
+    """What a closing line says."""
     fields: Dict[str, Any] = {
         name: int(text) if name in NUMBERS else decoded(text)
-        for name, text in found.items()
+        for name, text in found.groupdict().items()
         if text is not None
     }
     fields["clashes"] = "clashes" in fields
-    closing = Closing(**fields)
+    closing = Closing(**fields, text=found[0])
     if not (closing.part or 1) <= (closing.parts or 1) <= MOST_PARTS:
         raise NotALine("there is no such part")
     return closing

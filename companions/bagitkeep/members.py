@@ -11,9 +11,10 @@ from dataclasses import dataclass, field
 from os.path import join
 from typing import IO, Any, Callable, Dict, Iterable, Iterator, List, Optional
 
-from .files import PIECE, opened, settle, sync_folder
+from .files import PIECE, opened, sync_folder
 from .lines import encoded
 from .messages import Refused
+from .trees import settle
 
 DEEPEST = 256
 LONGEST = 4000

@@ -16,9 +16,9 @@ import subprocess
 import sys
 import threading
 from concurrent.futures import FIRST_EXCEPTION, ThreadPoolExecutor, wait
-from contextlib import suppress
+from contextlib import AbstractContextManager, suppress
 from dataclasses import dataclass, field
-from typing import IO, Callable, List, Optional, Sequence, Set, Tuple, Union
+from typing import IO, Callable, List, Optional, Sequence, Set, Tuple
 
 from .files import Path, read_bytes
 from .lines import VERDICTS, Closing, Report, report_of
@@ -50,7 +50,6 @@ while is_found:
 """
 
 Process = subprocess.Popen  # of bytes
-Out = Union[int, IO[bytes]]
 
 
 class Stopped(Exception):
@@ -72,18 +71,18 @@ class Asked:
 
     def words(self) -> List[Path]:
         """The arguments that ask for it."""
-        flags = {
+        given = {
             f"--{self.depth}": self.depth != "full",
             "--clashes": self.clashes,
             "--quiet": self.quiet,
+            "--profile": self.profile,
+            "--part": self.part and "{}/{}".format(*self.part),
+            "--after": self.after,
         }
-        words: List[Path] = ["--validate", *(it for it in flags if flags[it])]
-        part = self.part and "{}/{}".format(*self.part)
-        for option, value in (
-            ("--profile", self.profile), ("--part", part),
-            ("--after", self.after),
-        ):
-            words += [option, value] if value else []
+        words: List[Path] = ["--validate"]
+        for option, value in given.items():
+            if value:
+                words += [option] if value is True else [option, value]
         return words
 
     def is_answered(self, closing: Closing) -> bool:
@@ -146,10 +145,8 @@ def verdict_of(
         and asked.is_answered(closing)
         and closing.status == ended.status
     ):
-        text = str(closing)
-        return Verdict(
-            closing.status, text, report.faults, closing, ended.message
-        )
+        status, text = closing.status, closing.text
+        return Verdict(status, text, report.faults, closing, ended.message)
     return Verdict(3, ended.described(), report.faults)
 
 
@@ -183,13 +180,11 @@ def read_profile(name: Optional[str]) -> Optional[bytes]:
     except OSError as error:
         text = f"the profile can't be read: {explained(error)}"
         raise Refused(text, 3) from error
-    words = [sought(), *Asked(profile=path).words(), "--", os.devnull]
-    with suppress(OSError):
-        tried = subprocess.run(
-            words, stdin=subprocess.DEVNULL, capture_output=True, check=False
-        )
-        if tried.returncode == 2:
-            raise Refused(first_line(tried.stderr))
+    words = [*Asked(profile=path).words(), "--", os.devnull]
+    with Program(sought()) as program, open(os.devnull, "wb") as out:
+        tried = program.run(words, out)
+    if tried.status == 2:
+        raise Refused(tried.message)
     return profile
 
 
@@ -212,26 +207,25 @@ def kill(process: "Process[bytes]") -> None:
         os.killpg(process.pid, signal.SIGKILL)
 
 
-class Program:
-    """The program at a path, and those of its processes that are at work.
+class Program(AbstractContextManager["Program"]):
+    """The program at a path, and its processes that are `running`.
 
     Several threads may run it at once. It is to be stopped in the end; in a
     `with` statement it is. Its processes hold an open file, too, such as a
-    lock.
+    lock. None is started any more once it is `stopped`. `at_work` and `done`
+    are the numbers that `each` is at, and was at.
     """
 
     def __init__(self, path: Path, held: Optional[int] = None) -> None:
         self.path = path
         self._held = () if held is None else (held,)
         self._lock = threading.Lock()
-        self._running: Set["Process[bytes]"] = set()
-        self._stopped = threading.Event()
+        self.running: Set["Process[bytes]"] = set()
+        self.stopped = threading.Event()
         self._mark = os.urandom(16).hex()
         self._guard: Optional["Process[bytes]"] = None
-        self._pipe = -1
-
-    def __enter__(self) -> "Program":
-        return self
+        self.at_work: List[int] = []
+        self.done: List[int] = []
 
     def __exit__(self, *error: object) -> None:
         self.stop()
@@ -239,7 +233,7 @@ class Program:
     def run(
         self,
         words: Sequence[Path],
-        out: Out,
+        out: IO[bytes],
         folder: Optional[Path] = None,
         seconds: Optional[float] = None,
     ) -> Ended:
@@ -255,8 +249,7 @@ class Program:
             process = self._start(words, out, folder)
         except OSError as error:
             return Ended(None, f"couldn't be run: {error.strerror}")
-        if seconds is not None:
-            seconds = min(seconds, LONGEST_WAIT)
+        seconds = None if seconds is None else min(seconds, LONGEST_WAIT)
         with process:
             try:
                 _, messages = process.communicate(timeout=seconds)
@@ -267,9 +260,8 @@ class Program:
             finally:
                 if process.poll() is None:
                     kill(process)
-                    process.wait()
                 with self._lock:
-                    self._running.discard(process)
+                    self.running.discard(process)
 
     def check(
         self,
@@ -287,56 +279,49 @@ class Program:
         out.seek(0)
         return verdict_of(ended, report_of(out), name, asked)
 
-    @property
-    def is_stopped(self) -> bool:
-        """Whether no process is started any more."""
-        return self._stopped.is_set()
-
-    def pause(self, seconds: float) -> None:
-        """Waits, unless it is Stopped."""
-        if self._stopped.wait(seconds):
-            raise Stopped
-
     def each(
         self, work: Callable[[int], None], numbers: Sequence[int], jobs: int
     ) -> None:
         """Does the work for these numbers, so many at a time. If it fails for
         one, or this is interrupted, all processes are killed, and no other is
         started."""
-        pool, is_done = ThreadPoolExecutor(min(jobs, len(numbers))), False
+
+        def do(number: int) -> None:
+            self.at_work.append(number)
+            try:
+                work(number)
+            finally:
+                self.at_work.remove(number)
+                self.done.append(number)
+
+        pool = ThreadPoolExecutor(min(jobs, len(numbers)))
         try:
-            begun = [pool.submit(work, it) for it in numbers]
+            begun = [pool.submit(do, it) for it in numbers]
             for it in wait(begun, return_when=FIRST_EXCEPTION).done:
                 it.result()
-            is_done = True
-        finally:
-            if not is_done:
-                self.stop()
-            pool.shutdown(is_done, cancel_futures=True)
-
-    def running(self) -> List[int]:
-        """The numbers of the processes that are at work."""
-        with self._lock:
-            return [process.pid for process in self._running]
+        except BaseException:
+            self.stop()
+            pool.shutdown(False, cancel_futures=True)
+            raise
+        pool.shutdown()
 
     def stop(self) -> None:
         """Kills all processes, and starts none any more. One that hangs in
         the system, as on a disk that is gone, isn't waited for."""
         with self._lock:
-            self._stopped.set()
-            for process in self._running:
+            self.stopped.set()
+            for process in self.running:
                 kill(process)
             if self._guard is not None:
-                os.close(self._pipe)
                 with suppress(subprocess.TimeoutExpired):
-                    self._guard.wait(LONGEST_STOP)
+                    self._guard.communicate(timeout=LONGEST_STOP)
                 self._guard = None
 
     def _start(
-        self, words: Sequence[Path], out: Out, folder: Optional[Path]
+        self, words: Sequence[Path], out: IO[bytes], folder: Optional[Path]
     ) -> "Process[bytes]":
         with self._lock:
-            if self.is_stopped:
+            if self.stopped.is_set():
                 raise Stopped
             if self._guard is None:
                 self._guard = self._begin_guard()
@@ -350,21 +335,16 @@ class Program:
                 start_new_session=True,
                 pass_fds=self._held,
             )
-            self._running.add(process)
+            self.running.add(process)
             return process
 
     def _begin_guard(self) -> "Process[bytes]":
-        end, self._pipe = os.pipe()
         python = sys.executable or "python3"
-        words = [python, "-IS", "-c", GUARD, f"{MARK}={self._mark}"]
-        try:
-            return subprocess.Popen(
-                words,
-                stdin=end,
-                stdout=subprocess.DEVNULL,
-                stderr=subprocess.DEVNULL,
-                cwd="/",
-                start_new_session=True,
-            )
-        finally:
-            os.close(end)
+        return subprocess.Popen(
+            [python, "-IS", "-c", GUARD, f"{MARK}={self._mark}"],
+            stdin=subprocess.PIPE,
+            stdout=subprocess.DEVNULL,
+            stderr=subprocess.DEVNULL,
+            cwd="/",
+            start_new_session=True,
+        )

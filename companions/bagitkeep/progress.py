@@ -5,18 +5,17 @@ import sys
 import threading
 import time
 from contextlib import contextmanager, suppress
-from dataclasses import dataclass
+from dataclasses import dataclass, field
 from datetime import timedelta
 from os.path import join
-from typing import Callable, Iterator, List, Optional
+from typing import Callable, Dict, Iterator, Sequence
 
 from .files import opened
 from .messages import say
 from .program import Program
 from .seal import payload_of
 
-TERMINAL_SECONDS = 1.0
-SECONDS = 60.0
+TERMINAL_SECONDS, SECONDS = 1.0, 60.0
 MOST_NAMES = 3
 OXUM = re.compile(rb"(?im)^payload-oxum[ \t]*:[ \t]*(\d{1,20})\.\d+\s*$")
 
@@ -47,78 +46,74 @@ def bytes_of(directory: bytes) -> int:
 def read_by(program: Program) -> int:
     """How many bytes the processes at work have read."""
     count = 0
-    for pid in program.running():
-        with suppress(OSError), open(f"/proc/{pid}/io") as file:
+    for process in list(program.running):
+        with suppress(OSError), open(f"/proc/{process.pid}/io") as file:
             count += int(file.readline().split()[1])
     return count
 
 
 @dataclass(frozen=True)
 class Far:
-    """How far checks are: how many are done of how many, which are at work,
-    how many bytes were read, and of how many, if that is known."""
+    """How far a program is with what has these numbers, names, and sizes in
+    bytes, which are found beside its work."""
 
+    program: Program
     what: str
-    of: int
-    done: int
-    at_work: List[str]
-    read: int
-    total: Optional[int]
+    numbers: Sequence[int]
+    name_of: Callable[[int], str]
+    size_of: Callable[[int], int]
+    sizes: Dict[int, int] = field(default_factory=dict)
+
+    def measure(self) -> None:
+        for number in self.numbers:
+            self.sizes[number] = self.size_of(number)
 
     def line(self, seconds: float) -> str:
         """The same for people, after so many seconds."""
-        share, total, left = self.done / self.of, "?", "?"
-        if self.total is not None:
-            total = size(self.total)
-            share = min(1, self.read / max(1, self.total))
+        done, at_work = list(self.program.done), list(self.program.at_work)
+        read = sum(self.sizes.get(it, 0) for it in done)
+        read += read_by(self.program)
+        of, total, left = len(self.numbers), "?", "?"
+        share = len(done) / of
+        if len(self.sizes) == of:
+            whole = sum(self.sizes.values())
+            share, total = min(1, read / max(1, whole)), size(whole)
         if share > 0:
             left = str(timedelta(seconds=int(seconds / share - seconds)))
-        names = ", ".join(self.at_work[:MOST_NAMES])
-        if len(self.at_work) > MOST_NAMES:
-            names += f" +{len(self.at_work) - MOST_NAMES}"
+        names = ", ".join(map(self.name_of, at_work[:MOST_NAMES]))
+        if len(at_work) > MOST_NAMES:
+            names += f" +{len(at_work) - MOST_NAMES}"
         return (
-            f"{self.done} of {self.of} {self.what}, {size(self.read)} of"
-            f" {total}, {left} left, at work: {names}"
+            f"{len(done)} of {of} {self.what}, {size(read)} of {total},"
+            f" {left} left, at work: {names}"
         )
 
 
-def write_over(text: str, width: int) -> int:
-    """Writes a line over the last one of a terminal, which was so wide; says
-    how wide this one is."""
+def write_over(text: str) -> None:
+    """Writes a line over the last one of a terminal."""
     with suppress(OSError):
-        columns = os.get_terminal_size(2).columns or 80
-        text = text[: columns - 1]
-        os.write(2, f"\r{text.ljust(width)}\r".encode())
-    return len(text)
+        width = (os.get_terminal_size(2).columns or 80) - 1
+        os.write(2, f"\r{text[:width]:{width}}\r".encode())
 
 
 @contextmanager
-def shown(
-    far: Callable[[], Far],
-    is_asked: bool,
-    prepare: Callable[[], None] = lambda: None,
-) -> Iterator[None]:
-    """Says how far checks are, while they are made: each second over the last
-    line of a terminal, else each minute if it is asked for. What prepares this
-    is done beside it."""
+def shown_while(far: Far, is_asked: bool) -> Iterator[None]:
+    """Says how far a program is, while it is at work: each second over the
+    last line of a terminal, else each minute if it is asked for."""
     is_terminal = sys.stderr is not None and sys.stderr.isatty()
-    ended, begun = threading.Event(), time.monotonic()
     if not is_asked and not is_terminal:
         yield
         return
+    ended, begun = threading.Event(), time.monotonic()
 
     def speak() -> None:
-        width = 0
         while not ended.wait(TERMINAL_SECONDS if is_terminal else SECONDS):
-            text = far().line(time.monotonic() - begun)
-            if is_terminal:
-                width = write_over(text, width)
-            else:
-                say(text)
+            text = far.line(time.monotonic() - begun)
+            write_over(text) if is_terminal else say(text)
         if is_terminal:
-            write_over("", width)
+            write_over("")
 
-    threading.Thread(target=prepare, daemon=True).start()
+    threading.Thread(target=far.measure, daemon=True).start()
     thread = threading.Thread(target=speak, daemon=True)
     thread.start()
     try:

@@ -7,32 +7,16 @@ import re
 import sys
 import tempfile
 from collections import Counter
-from dataclasses import dataclass
 from functools import partial
 from itertools import chain, islice, tee
 from typing import (
-    IO,
-    Any,
-    Callable,
-    Dict,
-    FrozenSet,
-    Iterable,
-    Iterator,
-    List,
-    Optional,
-    Sequence,
-    Tuple,
+    IO, Any, Callable, Dict, FrozenSet, Iterable, Iterator, List, Optional,
+    Sequence, Tuple,
 )
 
 from . import rounds, usage
 from .lines import (
-    FAULTS,
-    Closing,
-    Fault,
-    Line,
-    NotALine,
-    Unchecked,
-    line_of,
+    FAULTS, Closing, Fault, Line, NotALine, Unchecked, line_of,
 )
 from .messages import Refused, explained, printable, say
 
@@ -47,16 +31,11 @@ Record = Dict[str, Any]
 
 
 def record_of(line: Line) -> Record:
-    """What a line says, by columns; what it doesn't have is left out."""
+    """What a line says, by columns; what it doesn't have is left out. A fault
+    has a bag, which its line doesn't say."""
     if isinstance(line, Fault):
-        return {
-            "code": line.code,
-            "word": line.word,
-            "path": line.path,
-            "algorithm": line.algorithm,
-            "line": line.line,
-            "detail": line.detail,
-        }
+        first = {"bag": None, "code": line.code, "word": line.word}
+        return {**first, **vars(line)}
     if isinstance(line, Unchecked):
         return {"word": "unchecked", "detail": line.key}
     fields = {
@@ -80,37 +59,24 @@ def with_next(lines: Iterable[bytes]) -> Iterator[Tuple[bytes, bytes]]:
     return zip(these, chain(following, [b""]))
 
 
-def is_making(text: bytes) -> bool:
-    """Whether nothing but a making writes this line, or it is none."""
-    return not text or text.endswith(b" made\n") or b" not made: " in text
-
-
-def read_line(text: bytes, is_made: bool) -> Line:
+def read_line(text: bytes, below: bytes) -> Line:
     """What a line says. `unchecked made` may be of a key of a profile, or say
-    that a bag of the name `unchecked` was made."""
-    line = line_of(text)
-    if is_made and line == Unchecked("made"):
-        return Closing("unchecked", "made")
-    return line
-
-
-@dataclass
-class Block:
-    """The lines of one report, or what is said of a bag that has none. There
-    is no bag where the closing line is missing."""
-
-    bag: Optional[str]
-    lines: int = 0
-    without: Optional[str] = None
+    that a bag of the name `unchecked` was made: then there is nothing below,
+    or what nothing but a making writes."""
+    if text == b"unchecked made\n":
+        if below[-6:] in (b"", b" made\n") or b" not made: " in below:
+            return Closing("unchecked", "made")
+    return line_of(text)
 
 
 class Reading:
     """Reports that are read. The line that closes a report names its bag, so
-    all lines are kept until they are written: in `kept`, a file."""
+    what lines say is kept until it is written: in `kept`, a file. `blocks`
+    are the bags, with how many lines; None where no line closes these."""
 
     def __init__(self, kept: IO[bytes], codes: FrozenSet[int]) -> None:
         self.kept, self.codes = kept, codes
-        self.blocks: List[Block] = []
+        self.blocks: List[Tuple[Optional[str], int]] = []
         self.bag: Optional[str] = None
         self.status = 0
         self.is_refused = self.is_unread = False
@@ -141,47 +107,39 @@ class Reading:
         lines = faults = number = 0
         is_cut = False
         for number, (text, below) in enumerate(with_next(file), 1):
-            is_cut = not text.endswith(b"\n")
-            if is_cut:
-                self.fail(f"{name}: line {number} is cut off: {shown(text)}")
-                break
+            place = f"{name}: line {number}"
             try:
-                line = read_line(text, is_making(below))
+                line = read_line(text, below)
             except NotALine:
-                self.refuse(
-                    f"{name}: line {number} is no line of a report:"
-                    f" {shown(text[:-1])}"
-                )
+                if is_cut := not text.endswith(b"\n"):
+                    self.fail(f"{place} is cut off: {shown(text)}")
+                else:
+                    what = shown(text[:-1])
+                    self.refuse(f"{place} is no line of a report: {what}")
                 continue
-            self.kept.write(text)
+            self.keep(record_of(line))
             lines += 1
             if isinstance(line, Fault):
                 faults += 1
-                self.look_at_path(f"{name}: line {number}", line)
+                if line.code in self.codes and not is_of_file(line.path):
+                    what = f"no file has its path: {shown(line.path)}"
+                    self.fail(f"{place} is passed over, since {what}")
             elif isinstance(line, Closing):
-                self.close(f"{name}: line {number}", line, lines, faults, bag)
+                self.close(place, line, faults, bag)
+                self.blocks.append((self.bag, lines))
                 lines = faults = 0
         if lines or is_cut or number == 0:
             self.fail(
                 f"{name} isn't finished: after {faults} faults there is no"
                 " closing line"
             )
-            self.blocks.append(Block(None, lines))
+            self.blocks.append((None, lines))
 
-    def look_at_path(self, place: str, fault: Fault) -> None:
-        if fault.code in self.codes and not is_of_file(fault.path):
-            self.fail(
-                f"{place} is passed over, since no file has its path:"
-                f" {shown(fault.path)}"
-            )
+    def keep(self, record: Record) -> None:
+        self.kept.write(json.dumps(record).encode() + b"\n")
 
     def close(
-        self,
-        place: str,
-        line: Closing,
-        lines: int,
-        faults: int,
-        bag: Optional[str],
+        self, place: str, line: Closing, faults: int, bag: Optional[str]
     ) -> None:
         counted, name = line.faults or 0, line.bag if bag is None else bag
         if counted != faults and not self.is_refused:
@@ -196,30 +154,21 @@ class Reading:
             )
         self.bag = name
         self.status = max(self.status, line.status)
-        self.blocks.append(Block(name, lines))
 
     def lack(self, bag: str, why: str) -> None:
         """Takes that a bag of a round has no result."""
         self.status = 3
-        self.blocks.append(Block(bag, 0, why))
+        self.keep({"bag": bag, "ended": "no result", "detail": why})
+        self.blocks.append((bag, 1))
 
     def records(self) -> Iterator[Record]:
         """What the lines say. Each fault also has its bag, or None where its
         report isn't finished."""
         self.kept.seek(0)
-        for block in self.blocks:
-            if block.without is not None:
-                ended = {"ended": "no result", "detail": block.without}
-                yield {"bag": block.bag, **ended}
-            left = block.lines
-            for text in islice(self.kept, block.lines):
-                left -= 1
-                line = read_line(text, left == 0 and block.bag is not None)
-                record = record_of(line)
-                if not isinstance(line, Unchecked):
-                    record = {"bag": None, **record}
-                    record["bag"] = block.bag
-                yield record
+        for bag, lines in self.blocks:
+            for text in islice(self.kept, lines):
+                record = json.loads(text)
+                yield {**record, "bag": bag} if "bag" in record else record
 
 
 def shown(text: object) -> str:
@@ -250,10 +199,8 @@ def write_cells(reading: Reading, out: IO[str], dialect: str) -> None:
     writer = csv.writer(out, dialect)
     writer.writerow(COLUMNS)
     for record in reading.records():
-        cells = (cell(record.get(column)) for column in COLUMNS)
-        writer.writerow(
-            [printable(it) if is_terminal else it for it in cells]
-        )
+        cells = [cell(record.get(column)) for column in COLUMNS]
+        writer.writerow(map(printable, cells) if is_terminal else cells)
 
 
 def first_folder(path: str) -> str:
@@ -280,8 +227,7 @@ def write_summary(reading: Reading, out: IO[str]) -> None:
     """
     ended, codes, folders = Counter[str](), Counter[str](), Counter[str]()
     last: Dict[int, str] = {}
-    unfinished = sum(block.bag is None for block in reading.blocks)
-    if unfinished:
+    if unfinished := sum(bag is None for bag, _ in reading.blocks):
         ended["isn't finished"] = unfinished
     for record in reading.records():
         code = record.get("code")
@@ -317,6 +263,7 @@ FORMS: Dict[str, Callable[[Reading, IO[str]], None]] = {
     "csv": partial(write_cells, dialect="excel"),
     "tsv": partial(write_cells, dialect="excel-tab"),
     "summary": write_summary,
+    "files": write_paths,
 }
 
 
@@ -333,7 +280,7 @@ def codes_of(text: str) -> FrozenSet[int]:
 
 def read_words(words: Sequence[str]) -> argparse.Namespace:
     asked = usage.read("report", words, 0, usage.MANY, files=codes_of)
-    forms = [it for it in (*FORMS, "files") if getattr(asked, it)]
+    forms = [it for it in FORMS if getattr(asked, it)]
     if len(forms) > 1:
         raise Refused(f"--{forms[0]} doesn't go with --{forms[1]}")
     if asked.round is not None and (asked.operands or asked.files):
@@ -355,7 +302,6 @@ def read_round(reading: Reading, folder: str) -> None:
 def run(words: Sequence[str]) -> int:
     """Does what the command `report` is asked for, and says its status."""
     asked = read_words(words)
-    write = FORMS.get(asked.form, write_paths)
     if sys.stdout is None:
         raise Refused("standard output is closed", 3)
     try:
@@ -369,7 +315,7 @@ def run(words: Sequence[str]) -> int:
             for name in asked.operands or ([] if asked.round else ["-"]):
                 reading.read(name)
             if not reading.is_refused and not reading.is_unread:
-                write(reading, out)
+                FORMS[asked.form](reading, out)
     except OSError as error:
         raise Refused(f"it can't be written: {explained(error)}", 3) from error
     return 2 if reading.is_refused else reading.status

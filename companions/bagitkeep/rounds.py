@@ -27,10 +27,11 @@ import re
 from contextlib import suppress
 from dataclasses import asdict, dataclass, field, fields
 from os.path import join
-from typing import IO, Dict, Iterator, List, Optional, Set, Tuple
+from typing import IO, Dict, Iterator, List, Optional, Set, Tuple, get_args
 
 from .files import (
-    naming, read_bytes, sha256_of, sync_folder, text_of, whole, write_synced,
+    naming, random_name, read_bytes, sha256_of, sync_folder, text_of, whole,
+    write_synced,
 )
 from .lines import VERDICTS, Report, encoded, report_of
 from .messages import Refused, is_time
@@ -72,18 +73,15 @@ class Record:
 
 def record_of(line: bytes) -> Optional[Record]:
     """The record of a line; None where it isn't one, or was cut off."""
-    try:
-        found = json.loads(line)
-        record = Record(**found)
-    except (ValueError, TypeError, RecursionError):
-        return None
-    for it in fields(Record):
-        value, kind = found.get(it.name), str(it.type)
-        wanted = int if "int" in kind else str
-        is_left_out = value is None and "Optional" in kind
-        if not is_left_out and type(value) is not wanted:
-            return None
-    return record if is_time(record.begun) and is_time(record.ended) else None
+    with suppress(ValueError, TypeError, RecursionError):
+        record = Record(**json.loads(line))
+        for it in fields(Record):
+            kinds = get_args(it.type) or (it.type,)
+            if type(getattr(record, it.name)) not in kinds:
+                return None
+        if is_time(record.begun) and is_time(record.ended):
+            return record
+    return None
 
 
 @dataclass(frozen=True)
@@ -125,14 +123,16 @@ class Round:
     def report_path(self, number: int) -> bytes:
         return join(self.folder, b"reports", self.name_of(number) + b".txt")
 
+    def new_try(self, number: int) -> bytes:
+        """A name for the report of a check that hasn't come to its end."""
+        name = b"%s.%s.txt" % (self.name_of(number), random_name())
+        return join(self.folder, b"tries", name)
+
     def tries_of(self, number: int) -> List[bytes]:
-        """The reports of checks that didn't come to their end."""
+        """The reports of those that didn't."""
         place, name = join(self.folder, b"tries"), self.name_of(number)
-        return [
-            join(place, it)
-            for it in names_in(place)
-            if it.rsplit(b".", 2)[0] == name
-        ]
+        found = names_in(place)
+        return [join(place, it) for it in found if tried_in(it) == name]
 
     def row(self, number: int) -> Row:
         """How the bag of a number is."""
@@ -145,13 +145,10 @@ class Round:
         closing = report.closing
         status = None if closing is None else closing.status
         verdict = self.judge(status, report, bag)
-        for it in records:
-            is_of_it = (it.report_sha256, it.bag) == (digest, text_of(bag))
-            if is_of_it and verdict.status != 3:
-                return Row(
-                    verdict.status, verdict.result, bag, verdict.faults, path,
-                    it,
-                )
+        for it in records if verdict.status != 3 else ():
+            if (it.report_sha256, it.bag) == (digest, text_of(bag)):
+                result, faults = verdict.result, verdict.faults
+                return Row(verdict.status, result, bag, faults, path, it)
         return Row(3, f"{ALTERED} ({encoded(path)})", bag, is_altered=True)
 
     def judge(
@@ -183,11 +180,6 @@ class Round:
         if self.name_of(number) not in self.tried:
             text = f"checked at {last.ended}; its report is not there"
         return Row(3, last.why or text, bag, record=last)
-
-    def bags_read(self) -> Set[bytes]:
-        """The bags of which a check has ended."""
-        known = range(1, len(self.directories) + 1)
-        return {self.directories[it - 1] for it in known if it in self.records}
 
     def rows(self) -> List[Row]:
         """The rows of all bags, in their order."""
@@ -245,17 +237,18 @@ def load(folder: bytes) -> Round:
     if not is_same or found["depth"] not in list(VERDICTS):
         raise Refused(f"the list of {encoded(folder)} was altered", 3)
     profile = join(folder, b"list/profile.json")
-    asked = Asked(
-        found["depth"],
-        bool(found["clashes"]),
-        profile if found["profile"] else None,
-    )
+    rules = profile if found["profile"] else None
+    asked = Asked(found["depth"], bool(found["clashes"]), rules)
     if asked.profile and sha256_of(profile) != found["profile"]:
         raise Refused(f"{encoded(profile)} was altered", 3)
-    tries = names_in(join(folder, b"tries"))
-    tried = {name.rsplit(b".", 2)[0] for name in tries}
+    tried = set(map(tried_in, names_in(join(folder, b"tries"))))
     records, pruned = read_records(folder), read_pruned(folder)
     return Round(folder, directories, asked, found, records, tried, pruned)
+
+
+def tried_in(name: bytes) -> bytes:
+    """What the files of a bag are called, by the name of one of its tries."""
+    return name.rsplit(b".", 2)[0]
 
 
 def read_pruned(folder: bytes) -> Set[int]:
@@ -266,47 +259,49 @@ def read_pruned(folder: bytes) -> Set[int]:
     return set()
 
 
-def prune(folder: bytes) -> int:
-    """Removes the reports of the bags of a round without faults, and says how
-    many. That they were there is noted before."""
-    a_round = load(folder)
-    numbers = range(1, len(a_round.directories) + 1)
-    good = [it for it in numbers if a_round.row(it).status == 0]
-    if good:
-        draft = join(folder, b"pruned.part")
-        with suppress(FileNotFoundError):
-            os.unlink(draft)
-        noted = sorted(a_round.pruned.union(good))
-        write_synced(draft, "".join(f"{it}\n" for it in noted).encode())
-        os.rename(draft, join(folder, b"pruned"))
-        sync_folder(folder)
-    for number in good:
-        with suppress(FileNotFoundError):
-            os.unlink(a_round.report_path(number))
-    return len(good)
-
-
-def options_of(
-    asked: Asked, directories: List[bytes], profile: Optional[bytes]
-) -> Dict[str, object]:
-    """What list/options.json says."""
-    return {
-        "format": FORMAT,
-        "bags": len(directories),
-        "depth": asked.depth,
-        "clashes": asked.clashes,
-        "profile": None if profile is None
-        else hashlib.sha256(profile).hexdigest(),
-    }
-
-
 def begin(
     folder: bytes,
     directories: List[bytes],
     asked: Asked,
     profile: Optional[bytes],
-) -> None:
-    """Makes the round's folder and its list, unless they are there."""
+) -> Round:
+    """The round in a folder, which is made unless it is there: then it has to
+    have begun with these directories, these options and this profile."""
+    digest = None if profile is None else hashlib.sha256(profile).hexdigest()
+    options = {
+        "format": FORMAT,
+        "bags": len(directories),
+        "depth": asked.depth,
+        "clashes": asked.clashes,
+        "profile": digest,
+    }
+    files = {
+        b"directories": b"".join(name + b"\0" for name in directories),
+        b"options.json": json.dumps(options).encode() + b"\n",
+    }
+    if profile is not None:
+        files[b"profile.json"] = profile
+    make(folder, files)
+    a_round, where = load(folder), encoded(folder)
+    ours, theirs = set(directories), set(a_round.directories)
+    for names, what in (
+        (theirs - ours, "has, and is not asked for"),
+        (ours - theirs, "lacks"),
+    ):
+        if names:
+            raise Refused(
+                f"{where} is a round of other directories: it {what}:"
+                f" {encoded(min(names))}"
+            )
+    if options != a_round.options:
+        text = "is a round with other options, or another profile"
+        raise Refused(f"{where} {text}")
+    return a_round
+
+
+def make(folder: bytes, files: Dict[bytes, bytes]) -> None:
+    """Makes the round's folder and its list of these files, unless they are
+    there."""
     made = False
     with suppress(FileExistsError):
         os.mkdir(folder)
@@ -321,14 +316,10 @@ def begin(
             f"{encoded(folder)} is there, and is no round: a round makes a"
             " folder of its own"
         )
-    listed = b"".join(name + b"\0" for name in directories)
-    options = json.dumps(options_of(asked, directories, profile)).encode()
     try:
         with whole(join(folder, b"list")) as draft:
-            write_synced(join(draft, b"directories"), listed)
-            write_synced(join(draft, b"options.json"), options + b"\n")
-            if profile is not None:
-                write_synced(join(draft, b"profile.json"), profile)
+            for name, content in files.items():
+                write_synced(join(draft, name), content)
         sync_folder(os.path.dirname(folder))
     except OSError:
         with suppress(OSError):

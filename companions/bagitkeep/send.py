@@ -8,7 +8,7 @@ from typing import IO, Optional, Sequence, cast
 
 from .bagit import absolute
 from .beside import show
-from .files import digests_of, place, settle
+from .files import digests_of, place
 from .members import ANY_BYTES, Unfit, folder_content, refuse_twice
 from .messages import Refused, printable, say, shown
 from .places import refuse_there, work_at, work_path
@@ -16,6 +16,7 @@ from .program import read_profile
 from .runs import check
 from .seal import seal_by, seal_of
 from .serialization import asked_by
+from .trees import settle
 from .usage import read
 
 

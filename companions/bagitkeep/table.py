@@ -2,6 +2,7 @@
 import csv
 import io
 import json
+import os
 from dataclasses import dataclass
 from typing import Any, Dict, List, Optional, Set, Tuple
 
@@ -32,9 +33,7 @@ class Change:
 
 def faults_of(row: Row) -> Set[Fault]:
     """The faults of a report."""
-    if row.report is None:
-        return set()
-    with open(row.report, "rb") as report:
+    with open(row.report or os.devnull, "rb") as report:
         return set(faults_in(report))
 
 
@@ -84,15 +83,10 @@ def changes_since(now: Round, old: Round) -> List[Change]:
 def cells_of(change: Change, depth: object) -> Cells:
     """The values of a row, by columns."""
     row, before = change.row, change.before
-    cells: Cells = {
-        **dict.fromkeys(COLUMNS),
-        **{it: vars(row)[it] for it in ("status", "result", "faults", "bag")},
-        "depth": None if change.change == "gone" else depth,
-    }
-    if row.record is not None:
-        known = {**vars(row.record), "bytes": row.record.size}
-        names = "begun ended version bagit_sha256 files bytes seal".split()
-        cells.update({name: known[name] for name in names})
+    known = vars(row.record) if row.record else {}
+    found = {**known, **vars(row), "bytes": known.get("size")}
+    found["depth"] = None if change.change == "gone" else depth
+    cells = {name: found.get(name) for name in COLUMNS}
     if change.change:
         cells["change"] = change.change
         cells["before_status"] = before and before.status

@@ -8,11 +8,18 @@ from os.path import dirname, isdir, join
 from typing import IO, Callable, Dict, Iterable, Optional
 
 from .errors import BagError
-from .files import PIECE, opened, settle, sync_folder
+from .files import PIECE, opened, sync_folder
 from .messages import shown
 
 PlaceOf = Callable[[str], Optional[str]]
 """Says which path a path is to have; None if it is left out."""
+
+
+def settle(file: int) -> None:
+    """Syncs an open file, and gives its pages up, so that whoever reads it
+    next reads the disk."""
+    os.fsync(file)
+    os.posix_fadvise(file, 0, 0, os.POSIX_FADV_DONTNEED)
 
 
 def copied(

@@ -6,7 +6,7 @@ several times.
 """
 import argparse
 import re
-from typing import Any, Callable, Dict, NoReturn, Optional, Sequence, Tuple
+from typing import Any, Callable, Dict, NoReturn, Sequence, Tuple
 
 from .lines import TEXTS
 from .messages import Refused
@@ -18,52 +18,16 @@ Reader = Callable[[str], object]
 """Reads the value of an option, or raises an ArgumentTypeError."""
 
 
-class Once(argparse.Action):
-    """Takes an option that may be given once; without a value it is True."""
-
-    def __call__(
-        self,
-        parser: argparse.ArgumentParser,
-        namespace: argparse.Namespace,
-        values: Any,
-        option_string: Optional[str] = None,
-    ) -> None:
-        if getattr(namespace, self.dest) is not None:
-            parser.error(f"{option_string} is given twice")
-        setattr(namespace, self.dest, True if self.nargs == 0 else values)
-
-
 class Command(argparse.ArgumentParser):
-    """Reads the words of the command of this name."""
+    """Has this text as its help, and refuses what is wrong."""
 
-    def __init__(self, name: str, readers: Dict[str, Reader]) -> None:
-        super().__init__(
-            f"bagit-keep {name}", "", add_help=False, allow_abbrev=False
-        )
-        self.text = (TEXTS / f"{name}.txt").read_text("utf-8")
-        self.add_argument("operands", nargs="*")
-        self.add_argument("-h", "--help", action="help")
-        for option, value, many in OPTION.findall(self.text):
-            reader = readers.get(option[2:].replace("-", "_"), str)
-            if many:
-                self.add_argument(option, action="append", default=[])
-            elif value:
-                self.add_argument(option, action=Once, type=reader)
-            else:
-                self.add_argument(option, action=Once, nargs=0)
+    text = ""
 
     def error(self, message: str) -> NoReturn:
         raise Refused(message)
 
     def format_help(self) -> str:
         return self.text
-
-    def read(self, words: Sequence[str]) -> argparse.Namespace:
-        """The options and the operands; after `--` all are operands."""
-        end = words.index("--") if "--" in words else len(words)
-        read = self.parse_intermixed_args(words[:end])
-        read.operands += words[end:][1:]
-        return read
 
 
 def read(
@@ -73,10 +37,32 @@ def read(
     most: int = 1,
     **readers: Reader,
 ) -> argparse.Namespace:
-    """The options of a command, and its operands, which are so many."""
-    asked = Command(name, readers).read(words)
-    count = len(asked.operands)
-    if not least <= count <= most or not all(asked.operands):
+    """The options of a command, and its operands, which are so many; after
+    `--` all are operands. An option without a value is True, one that isn't
+    given None, and one that may be given several times a list."""
+    command = Command(
+        f"bagit-keep {name}", "", add_help=False, allow_abbrev=False
+    )
+    command.text = (TEXTS / f"{name}.txt").read_text("utf-8")
+    command.add_argument("operands", nargs="*")
+    command.add_argument("-h", "--help", action="help")
+    options = OPTION.findall(command.text)
+    for option, value, _ in options:
+        reader = readers.get(option[2:].replace("-", "_"), str)
+        how: Dict[str, Any] = {"action": "append_const", "const": True}
+        if value:
+            how = {"action": "append", "type": reader}
+        command.add_argument(option, default=[], **how)
+    end = words.index("--") if "--" in words else len(words)
+    asked = command.parse_intermixed_args(words[:end])
+    asked.operands += words[end:][1:]
+    for option, _, many in options:
+        name = option[2:].replace("-", "_")
+        given = getattr(asked, name)
+        if len(given) > 1 and not many:
+            raise Refused(f"{option} is given twice")
+        setattr(asked, name, given if many else (given or [None])[0])
+    if not least <= len(asked.operands) <= most or not all(asked.operands):
         raise Refused("the operands are others; --help says which")
     return asked
 

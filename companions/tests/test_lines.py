@@ -152,8 +152,8 @@ class Lines(unittest.TestCase):
 
     def test_closings(self) -> None:
         for text, closing in CLOSINGS.items():
-            self.assertEqual(line_of(f"{text}\n".encode()), closing)
-            self.assertEqual(str(closing), text)
+            line = line_of(f"{text}\n".encode())
+            self.assertEqual((line, str(line)), (closing, text))
 
     def test_unchecked(self) -> None:
         unchecked = line_of(b"unchecked Bag-Info%20x\n")

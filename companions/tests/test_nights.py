@@ -139,7 +139,7 @@ class OfNights(unittest.TestCase):
                 values = {"begun": "x", "ended": "y", "results": "{}"}
                 self.opened.add("rounds", name=name, **values)
         counts = [1, Refused("x"), 0, 1]
-        with mock.patch.object(rounds, "prune", side_effect=counts) as it:
+        with mock.patch.object(audit, "prune_round", side_effect=counts) as it:
             audit.prune(self.opened)
         self.assertEqual(3, it.call_count)
 

@@ -216,7 +216,7 @@ class Runs(unittest.TestCase):
         with tempfile.TemporaryFile() as out:
             verdict = program.check("d", Asked(), out)
             self.assertEqual(verdict.result, "bagit was killed by signal 9")
-            self.assertEqual(program.running(), [])
+            self.assertEqual(program.running, set())
             with self.assertRaises(Stopped):
                 program.check("d", Asked(), out)
 

@@ -11,7 +11,6 @@ from bagitkeep.report import (
     cell,
     codes_of,
     first_folder,
-    is_making,
     is_of_file,
     read_line,
     record_of,
@@ -65,13 +64,11 @@ class Parts(unittest.TestCase):
                 codes_of(text)
 
     def test_a_key_or_a_bag_of_the_name_unchecked(self) -> None:
-        line = b"unchecked made\n"
-        self.assertEqual(read_line(line, True), Closing("unchecked", "made"))
-        self.assertEqual(read_line(line, False), Unchecked("made"))
+        line, made = b"unchecked made\n", Closing("unchecked", "made")
         for below in b"", b"d made\n", b"d not made: bad value\n":
-            self.assertTrue(is_making(below))
-        for below in b"d is valid\n", b"unchecked x\n":
-            self.assertFalse(is_making(below))
+            self.assertEqual(read_line(line, below), made)
+        for below in b"d is valid\n", b"unchecked x\n", b"made\n":
+            self.assertEqual(read_line(line, below), Unchecked("made"))
 
 
 class Readings(unittest.TestCase):

@@ -9,10 +9,11 @@ from pathlib import Path
 from typing import Optional
 
 from bagitkeep import page
+from bagitkeep.audit import prune_round
 from bagitkeep.go_round import without_left
 from bagitkeep.messages import Refused
 from bagitkeep.program import Asked
-from bagitkeep.rounds import Record, Row, begin, load, prune, record_of
+from bagitkeep.rounds import Record, Row, begin, load, record_of
 from bagitkeep.table import change_of, table_of
 
 TIME = "2026-01-01T00:00:00Z"
@@ -128,7 +129,7 @@ class Rounds(unittest.TestCase):
         name, report = os.fsencode(self.round), self.round / "reports"
         self.row(VALID, a_record(VALID))
         for _ in range(2):
-            prune(name)
+            prune_round(name)
             self.assertEqual([], os.listdir(report))
             row = load(name).row(1)
             self.assertEqual(
@@ -158,7 +159,7 @@ class Rounds(unittest.TestCase):
         (self.round / "pruned.part").write_bytes(b"")
         for text, record in (report, a_record(report)), (VALID, None):
             status = self.row(text, record).status
-            prune(name)
+            prune_round(name)
             row = load(name).row(1)
             self.assertEqual((row.status, row.is_pruned), (status, False))
 
