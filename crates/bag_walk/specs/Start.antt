@@ -20,9 +20,8 @@ use Rattle.bag_facts.specs.declared.fault.Fault.{Fault}
 use Rattle.bag_facts.specs.declared.options.Depth.TheVariants.{Full}
 use Rattle.bag_facts.specs.declared.options.Options.{Options}
 use Rattle.bag_profile.specs.Profile.{Profile}
-use Rattle.bag_report.specs.Report.{Check}
+use Rattle.bag_report.specs.Report.{Check, check_with}
 use Rattle.bag_stages.specs.TagFiles.{Names}
-use Rattle.bag_walk.specs.Run.{check_with}
 use Rattle.bag_walk.specs.FactsOf.{ForBagOf, ForCheckOf}
 use Rattle.bag_walk.specs.declared.source.Source as Source
 use Rattle.bag_walk.specs.declared.steps.Steps.{Steps}

@@ -15,12 +15,11 @@ use Rattle.bag_facts.specs.declared.facts.Facts.{Facts}
 use Rattle.bag_facts.specs.declared.fault.Fault.{Fault}
 use Rattle.bag_facts.specs.declared.options.Options.{Options}
 use Rattle.bag_profile.specs.Profile.{Profile}
-use Rattle.bag_report.specs.Report.{Check}
+use Rattle.bag_report.specs.Report.{Check, check_with}
 use Rattle.bag_stages.specs.SummedFiles.{IsSummed}
 use Rattle.bag_walk.specs.FactsOf.{ForBagOf, ForCheckOf}
 use Rattle.bag_walk.specs.Openings.{IsToOpen, is_passed}
 use Rattle.bag_walk.specs.Parts.{AreFilesIn, bounds_of, is_file_within, is_within}
-use Rattle.bag_walk.specs.Run.{check_with}
 use Rattle.bag_walk.specs.Start.{OpensAllListed}
 use Rattle.bag_walk.specs.Steps.{left, to_open, IsAhead}
 use Rattle.bag_walk.specs.declared.part.Bounds.{Bounds}
