@@ -25,7 +25,6 @@ pub mod SegmentStart
 pub mod SegmentSteps
 pub mod SegmentSums
 pub mod Shown
-pub mod StageSix
 pub mod Stages
 pub mod StartPart
 pub mod Summing

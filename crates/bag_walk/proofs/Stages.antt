@@ -8,6 +8,10 @@ use Rattle.bag_walk.proofs.Common.{IsAhead, IsReportAfter, cases_lt, Bool, true�
 use Rattle.bag_walk.proofs.Common.{is_payload_path, text_cmp, Payload, Tag, Bag, IsBag, TreeState, IsFactsOf, Facts}
 use Rattle.bag_walk.proofs.Common.{Options, Profile, Names, names_by_kind, IsListedToOpen, IsStarted}
 use Rattle.bag_walk.proofs.Common.{IsToOpen, IsTrue}
+use Rattle.bag_walk.proofs.Common.{get_or, suc, zero}
+use Rattle.bag_facts.specs.Stage.{stage_number}
+use Rattle.bag_facts.specs.declared.stage.Stage.TheVariants as of
+use Rattle.bag_walk.specs.declared.steps.TheConstants.{BEFORE_DIGESTS}
 use Rattle.bag_walk.proofs.Chosen.{less_by_stage}
 use Rattle.bag_walk.specs.Start.{AreSources}
 use Rattle.bag_walk.specs.declared.source.Source as Source
@@ -53,10 +57,19 @@ module _ (check : Check) (after : Option Fault) where
       (joined fault_cmp (IsAheadBefore k) (IsAt k) faults more before at (λ x y less now.
       less_by_stage x y (omega (arith, less.1, now.0.1))))
 
--- what the four sources hold of some faults
-pub record Hold (IsOne : Fault → Type 0) (early complete sums late : List Fault) : Type 0 where
-  pub first : IsListOf fault_cmp (λ f. IsOne f × (stage f.code < 6)) early
-  pub sixth : IsListOf fault_cmp (λ f. IsOne f × (stage f.code ≡ 6)) complete
+-- the stages before that of digests, one after the other
+pub number_at : (i : ℕ) → i < 6 → stage_number (get_or BEFORE_DIGESTS i of.Declaration) ≡ i + 1
+number_at zero within = refl
+number_at (suc zero) within = refl
+number_at (suc (suc zero)) within = refl
+number_at (suc (suc (suc zero))) within = refl
+number_at (suc (suc (suc (suc zero)))) within = refl
+number_at (suc (suc (suc (suc (suc zero))))) within = refl
+number_at (suc (suc (suc (suc (suc (suc i)))))) within = absurd (omega arith)
+
+-- what the three sources hold of some faults
+pub record Hold (IsOne : Fault → Type 0) (early sums late : List Fault) : Type 0 where
+  pub first : IsListOf fault_cmp (λ f. IsOne f × (stage f.code < 7)) early
   pub seventh : IsListOf fault_cmp (λ f. IsOne f × (stage f.code ≡ 7)) sums
   pub eighth : IsListOf fault_cmp (λ f. IsOne f × (stage f.code ≡ 8)) late
 
@@ -78,25 +91,15 @@ next_stage IsOne k faults more before at =
     (joined fault_cmp (λ f. IsOne f × (stage f.code < k)) (λ f. IsOne f × (stage f.code ≡ k)) faults more before at
     (λ x y less now. less_by_stage x y (omega (arith, less.1, now.1))))
 
-module _ {IsOne : Fault → Type 0} {early complete sums late : List Fault}
-    (all : Hold IsOne early complete sums late) where
+module _ {IsOne : Fault → Type 0} {early sums late : List Fault} (all : Hold IsOne early sums late) where
   from_seven : (f : Fault) → Contains (sums ++ late) f → 7 ≤ stage f.code
   from_seven f c = elim (contains_either sums late f c) [
     | inl a ↦ omega (arith, ((all.seventh.members f).0 a).1)
     | inr b ↦ omega (arith, ((all.eighth.members f).0 b).1)
   ]
 
-  from_six : (f : Fault) → Contains (complete ++ (sums ++ late)) f → 6 ≤ stage f.code
-  from_six f c = elim (contains_either complete (sums ++ late) f c) [
-    | inl a ↦ omega (arith, ((all.sixth.members f).0 a).1)
-    | inr b ↦ omega (arith, from_seven f b)
-  ]
-
-  pub early_below : AllBelow early (complete ++ (sums ++ late))
-  early_below f g c d = less_by_stage f g (omega (arith, ((all.first.members f).0 c).1, from_six g d))
-
-  pub complete_below : AllBelow complete (sums ++ late)
-  complete_below f g c d = less_by_stage f g (omega (arith, ((all.sixth.members f).0 c).1, from_seven g d))
+  pub early_below : AllBelow early (sums ++ late)
+  early_below f g c d = less_by_stage f g (omega (arith, ((all.first.members f).0 c).1, from_seven g d))
 
   pub sums_below : AllBelow sums late
   sums_below f g c d =
@@ -107,14 +110,12 @@ module _ {IsOne : Fault → Type 0} {early complete sums late : List Fault}
   late_behind paths f path c d before = grind (arith, (all.eighth.members f).0 c)
 
   -- together they are all of them
-  pub all_joined : IsListOf fault_cmp IsOne (early ++ (complete ++ (sums ++ late)))
+  pub all_joined : IsListOf fault_cmp IsOne (early ++ (sums ++ late))
   all_joined =
-      let six = next_stage IsOne 6 early complete all.first all.sixth in
-      let seven = next_stage IsOne 7 (early ++ complete) sums six all.seventh in
-      let eight = next_stage IsOne 8 ((early ++ complete) ++ sums) late seven all.eighth in
-      subst (IsListOf fault_cmp IsOne)
-      (append_assoc (early ++ complete) sums late ∙ append_assoc early complete (sums ++ late))
-      (same_members fault_cmp (λ f. IsOne f × (stage f.code < 9)) IsOne (((early ++ complete) ++ sums) ++ late)
+      let seven = next_stage IsOne 7 early sums all.first all.seventh in
+      let eight = next_stage IsOne 8 (early ++ sums) late seven all.eighth in
+      subst (IsListOf fault_cmp IsOne) (append_assoc early sums late)
+      (same_members fault_cmp (λ f. IsOne f × (stage f.code < 9)) IsOne ((early ++ sums) ++ late)
       (λ f h. h.0) (λ f h. (h, to_eight f.code)) eight)
 
 -- what the sources of a walk hold together

@@ -45,10 +45,10 @@ abbrev pub IsStageWithin : Check → ℕ → Option Fault → Bounds → List Fa
 IsStageWithin check k after bounds faults =
     IsListOf fault_cmp (λ f. IsAheadWithin check after bounds f × (stage f.code ≡ k)) faults
 
--- and that of the stages before the sixth
+-- and that of the stages before that of digests
 abbrev pub AreEarlyWithin : Check → Option Fault → Bounds → List Fault → Type 0
 AreEarlyWithin check after bounds faults =
-    IsListOf fault_cmp (λ f. IsAheadWithin check after bounds f × (stage f.code < 6)) faults
+    IsListOf fault_cmp (λ f. IsAheadWithin check after bounds f × (stage f.code < 7)) faults
 
 -- these are the files between two bounds whose digests are compared and that a cursor hasn't
 -- passed, in path order
