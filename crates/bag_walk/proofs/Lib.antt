@@ -5,18 +5,18 @@ pub mod Closed
 pub mod Common
 pub mod ComparedFiles
 pub mod Filling
-pub mod RunLines
 pub mod Merging
 pub mod OneList
 pub mod Openings
 pub mod PartLines
 pub mod PartRuns
-pub mod PartsOfRun
 pub mod Parts
+pub mod PartsOfRun
 pub mod Passed
 pub mod Places
 pub mod Positions
 pub mod Refusing
+pub mod RunLines
 pub mod Running
 pub mod SegmentLines
 pub mod SegmentOpenings
@@ -28,4 +28,5 @@ pub mod Shown
 pub mod Stages
 pub mod StartPart
 pub mod Summing
+pub mod WholeRun
 pub mod Within

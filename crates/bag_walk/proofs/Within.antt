@@ -1,6 +1,6 @@
 -- What stands between two bounds, by its stage.
-use Rattle.bag_walk.proofs.Common.{◌≡◌, ◌≢◌, ◌<◌, ◌∙◌, inl, inr, ℕ, Bool, true, false, true≢false, List, []}
-use Rattle.bag_walk.proofs.Common.{Option, refl, sym, arith, subst, stage}
+use Rattle.bag_walk.proofs.Common.{◌≡◌, ◌≢◌, ◌<◌, ◌∙◌, inl, inr, ℕ, true, false, true≢false, List, []}
+use Rattle.bag_walk.proofs.Common.{Option, refl, sym, subst, stage}
 use Rattle.bag_walk.proofs.Common.{same_members, nothing_listed, fault_cmp, text_cmp, Bag, Fault}
 use Rattle.bag_walk.proofs.Common.{IsListOf, Check, Full, IsOfValidity, validity_of_stage_seven, reaches}
 use Rattle.bag_walk.proofs.Common.{asked_at_full, asked_is_reached, is_of_validity, of_validity, seven_not_reached}

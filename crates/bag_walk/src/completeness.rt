@@ -18,11 +18,7 @@ impl Completeness {
     /// Those of each bag of which these facts were read: what its report has of stage 6 above the
     /// cursor, by any profile or by none, since no profile asks for more there. There are none
     /// where the depth doesn't have the stage. Fails only when out of memory.
-    pub fn new(
-        alloc: Global,
-        facts: &Facts,
-        after: Option<&Fault>,
-    ) -> Result<Fixed, AllocError>
+    pub fn new(alloc: Global, facts: &Facts, after: Option<&Fault>) -> Result<Fixed, AllocError>
         ensures reported { IfOk result (λ source.
             AreOfStageSix facts.now (option_copied after.entry) source.faults) }
         ensures none { IfOk result (λ source.

@@ -10,7 +10,7 @@ ghost use Rattle.bag_facts.specs.Wanted.{ForListing, OpensWanted};
 ghost use Rattle.bag_facts.specs.declared.stage.Stage.TheVariants as stage_of;
 ghost use Rattle.bag_walk.specs.Completeness.{IsStageAbove};
 ghost use Rattle.bag_walk.specs.FactsOf.{ForCheckOf};
-ghost use Rattle.bag_walk.specs.Start.{state_after, AreAheadBefore, AreSources};
+ghost use Rattle.bag_walk.specs.Start.{state_after, AreAheadBefore};
 ghost use Rattle.bag_walk.specs.Start.{IsNotStarted, Starts};
 ghost use Rattle.bag_walk.specs.Parts.{bounds_of, listed_of};
 ghost use Rattle.bag_walk.specs.StartPart.{state_after_part, AreEarlyWithin, AreSourcesWithin};
@@ -20,7 +20,7 @@ ghost use Rattle.bag_walk.specs.Steps.{IsStoppedInTurn, MayReopenLast, MayStopHe
 ghost use Rattle.bag_walk.specs.Steps.{WalkOpensNoFileEarly, OpensNext, StopsBeforeRemaining};
 
 use crate::above_cursor::above;
-use crate::part::{Bounds, Listed};
+use crate::part::{Bounds, Listed, only_part};
 use crate::{Fixed, InOrder, Source, Then, Validity};
 use bag_facts::{Facts, Fault, Options, Part, Stage};
 use bag_profile::Profile;
@@ -150,14 +150,9 @@ impl<T: Tree> Walk<T> {
             (T.state tree) (option_copied profile.entry) options after) }
         ensures refused { IfErr result (IsNotStarted T.Tree options (T.state tree)) }
     {
-        let mut tree = tree;
-        let facts = match Facts::read(alloc, &mut tree, options) {
-            Ok(facts) => facts,
-            Err(stop) => return Err((tree, stop)),
-        };
-        match Self::sources_of(alloc, &facts, profile, after.as_ref()) {
-            Ok(sources) => Ok(Steps::new(tree, sources)),
-            Err(AllocError) => Err((tree, Stop::out_of_memory(alloc))),
+        match Self::start_part(alloc, tree, profile, options, after, only_part()) {
+            Ok((walk, _)) => Ok(walk),
+            Err(refused) => Err(refused),
         }
     }
 
@@ -210,20 +205,6 @@ impl<T: Tree> Walk<T> {
         Self::sources_within(alloc, facts, profile, after, &bounds)
     }
 
-    /// The sources of the faults of a bag above a cursor.
-    fn sources_of(
-        alloc: Global,
-        facts: &Facts,
-        profile: Option<&Profile>,
-        after: Option<&Fault>,
-    ) -> Result<Sources, AllocError>
-        requires { (bag : Bag) × IsFactsOf bag facts.now }
-        ensures { IfOk result (AreSources ⟦<Sources as Source<T>>⟧
-            facts.now (option_copied profile.entry) (option_copied after.entry)) }
-    {
-        Self::sources_within(alloc, facts, profile, after, &Bounds::whole())
-    }
-
     /// The sources of those between two bounds.
     fn sources_within(
         alloc: Global,
@@ -239,10 +220,7 @@ impl<T: Tree> Walk<T> {
         let early = early_within(alloc, facts, profile, after, bounds)?;
         let validity = Validity::within(alloc, facts, after, bounds)?;
         let late = late_within(alloc, facts, profile, after, bounds)?;
-        Ok(Then::new(
-            Fixed::new(early),
-            Then::new(validity, Fixed::new(late)),
-        ))
+        Ok(Then::new(Fixed::new(early), Then::new(validity, Fixed::new(late))))
     }
 }
 
