@@ -18,20 +18,22 @@ t_true b h = grind arith
 is_less : (o : Ordering) → is_lt o ≡ true → o ≡ Less
 is_less o e = grind arith
 
-module _ {A : Type 0} (cmp : A → A → Ordering) where
-  above_first : (x : A) (es : List (A × Unit {0})) → below_all cmp x es ≡ true
+module _ {A B : Type 0} (cmp : A → A → Ordering) where
+  above_first : (x : A) (es : List (A × B)) → below_all cmp x es ≡ true
       → AllByRecursion (λ y. cmp x y ≡ Less) (map (λ e. e.0) es)
   above_first x [] h = tt
   above_first x (e ∷ es) h = let two = and_parts _ _ h in (is_less (cmp x e.0) two.0, above_first x es two.1)
 
-  rising : (es : List (A × Unit {0})) → is_sorted cmp es ≡ true → IsStrictlySortedBy cmp (map (λ e. e.0) es)
+  rising : (es : List (A × B)) → is_sorted cmp es ≡ true → IsStrictlySortedBy cmp (map (λ e. e.0) es)
   unfolding IsStrictlySortedBy
   rising [] h = tt
   rising (e ∷ es) h = let two = and_parts _ _ h in (above_first e.0 es two.0, rising es two.1)
 
-  keys_rise : (m : FinMap cmp (Unit {0})) → IsStrictlySortedBy cmp (keys m)
+  -- the keys of a map ascend
+  pub keys_rise : (m : FinMap cmp B) → IsStrictlySortedBy cmp (map (λ e. e.0) (entries m))
   keys_rise m = rising (entries m) (t_true _ (entries_sorted m))
 
+module _ {A : Type 0} (cmp : A → A → Ordering) where
   abbrev as_keys : List A → List (A × Unit {0})
   as_keys xs = map (λ x. (x, tt)) xs
 
@@ -55,7 +57,7 @@ module _ {A : Type 0} (cmp : A → A → Ordering) where
         ∙ is_some-find cmp x (as_keys xs) ∙ ap (list_any (eq_by_cmp cmp x)) (keys_are xs) in (
           keys m,
           record {
-            ascending = keys_rise m;
+            ascending = keys_rise cmp m;
             members = λ x.
                 (moved (keys m) xs x (same x), moved xs (keys m) x (sym (same x)));
           },

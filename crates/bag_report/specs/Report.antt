@@ -29,6 +29,10 @@ pub record Check : Type 0 where
   pub profile : Option Profile
   pub options : Options
 
+-- a bag, checked by a profile or without one, with these options
+abbrev pub check_with : Bag → Option Profile → Options → Check
+check_with bag profile options = record { bag = bag; profile = profile; options = options }
+
 abbrev pub is_fast : Depth → Bool
 is_fast Fast = true
 is_fast other = false

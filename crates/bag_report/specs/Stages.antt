@@ -5,7 +5,7 @@ use Rattle.bag_text.specs.declared.code.Code.TheVariants.{NameClash}
 use Rattle.bag_tree.specs.Bag.{Bag}
 use Rattle.bag_facts.specs.declared.fault.Fault.{Fault}
 use Rattle.bag_profile.specs.Profile.{Profile}
-use Rattle.bag_report.specs.Report.{Is, Check, IsReported}
+use Rattle.bag_report.specs.Report.{Is, Check, IsReported, check_with}
 use Rattle.bag_text.specs.Order.{IsListOf}
 use Rattle.bag_facts.specs.FaultOrder.{fault_cmp}
 use Rattle.bag_facts.specs.declared.facts.Facts.{Facts}
@@ -21,5 +21,4 @@ IsStageOf check k faults = IsListOf fault_cmp (λ f. IsReported check f × (stag
 
 -- a bag, checked against a profile with the options with which its facts were read
 abbrev pub check_of_facts : Bag → Option Profile → Facts → Check
-check_of_facts bag profile facts =
-    record { bag = bag; profile = profile; options = facts.options }
+check_of_facts bag profile facts = check_with bag profile facts.options

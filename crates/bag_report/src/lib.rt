@@ -24,4 +24,4 @@ pub use bag_facts::{
     CursorFault, Depth, Facts, Fault, FetchList, Manifest, Metadata, Options, Stage, TagFacts,
 };
 pub use bag_profile::{Profile, ProfileFault};
-pub use stages::stage_faults;
+pub use stages::{faults_of_stage, stage_faults};

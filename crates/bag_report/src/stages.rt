@@ -1,11 +1,14 @@
 //! The faults of a bag, stage by stage.
-ghost use Rattle.std.specs.Prelude.{◌≡◌, ◌≢◌, ◌<◌, [], IfOk};
+ghost use Rattle.std.specs.Prelude.{◌≡◌, ◌≢◌, ◌<◌, [], false, IfOk};
 ghost use Rattle.std.specs.Option.{option_copied};
 ghost use Rattle.bag_text.specs.Order.{IsListOf};
 ghost use Rattle.bag_tree.specs.Bag.{Bag};
 ghost use Rattle.bag_facts.specs.FaultOrder.{fault_cmp};
 ghost use Rattle.bag_facts.specs.FactsOfBag.{IsFactsOf};
+ghost use Rattle.bag_facts.specs.Options.{reaches};
+ghost use Rattle.bag_facts.specs.Stage.{stage_number};
 ghost use Rattle.bag_facts.specs.declared.options.Depth.TheVariants.{Declaration};
+ghost use Rattle.bag_facts.specs.declared.stage.Stage.TheVariants as stage_of;
 ghost use Rattle.bag_conformance.specs.ConformanceStage.{IsOfConformance};
 ghost use Rattle.bag_report.specs.Report.{asks};
 ghost use Rattle.bag_report.specs.Stages.{IsFoundAt, IsStageOf, check_of_facts};
@@ -21,9 +24,10 @@ use bag_stages::{
 use bag_text::Code;
 use std::alloc::{AllocError, Global};
 
-/// The faults of one stage that are asked for, in their order. None are where the depth doesn't
-/// have the stage, and of the eighth none are without a profile. The seventh needs the files, so
-/// that for it there are none, as for every number above 8. Fails only where memory runs out.
+/// The faults of the stage of a number that are asked for, in their order. None are where the depth
+/// doesn't have the stage, and of the eighth none are without a profile. The seventh needs the
+/// files, so that for it there are none, as for every number above 8. Fails only where memory runs
+/// out.
 pub fn stage_faults(
     alloc: Global,
     facts: &Facts,
@@ -35,8 +39,29 @@ pub fn stage_faults(
         faults.items) }
     ensures seventh { IfOk result (λ faults. stage ≡ 7 → faults.items ≡ []) }
 {
+    let Some(stage) = Stage::from_number(stage) else {
+        return Ok(Vec::new(alloc));
+    };
+    faults_of_stage(alloc, facts, profile, stage)
+}
+
+/// The same of a stage. Those of the seventh need the files, and aren't found here.
+pub fn faults_of_stage(
+    alloc: Global,
+    facts: &Facts,
+    profile: Option<&Profile>,
+    stage: Stage,
+) -> Result<Vec<Fault>, AllocError>
+    ensures faults { IfOk result (λ faults. (bag : Bag) → IsFactsOf bag facts.now
+        → stage ≢ stage_of.Validity
+        → IsStageOf (check_of_facts bag (option_copied profile.entry) facts.now)
+        (stage_number stage) faults.items) }
+    ensures seventh { IfOk result (λ faults. stage ≡ stage_of.Validity → faults.items ≡ []) }
+    ensures none { IfOk result (λ faults.
+        reaches facts.now.options.depth (stage_number stage) ≡ false → faults.items ≡ []) }
+{
     let options = facts.options;
-    if !options.depth.has_stage(stage) {
+    if !options.depth.has_stage(stage.number()) {
         return Ok(Vec::new(alloc));
     }
     let mut faults = found_faults(alloc, facts, profile, stage)?;
@@ -50,18 +75,15 @@ fn found_faults(
     alloc: Global,
     facts: &Facts,
     profile: Option<&Profile>,
-    stage: u8,
+    stage: Stage,
 ) -> Result<Vec<Fault>, AllocError>
     ensures faults { IfOk result (λ faults. (bag : Bag) → IsFactsOf bag facts.now
-        → stage ≢ 7 → (1 < stage → facts.now.options.depth ≢ Declaration)
-        → IsListOf fault_cmp
-        (IsFoundAt facts.now.options.clashes bag (option_copied profile.entry) stage)
-        faults.items) }
-    ensures seventh { IfOk result (λ faults. stage ≡ 7 → faults.items ≡ []) }
+        → stage ≢ stage_of.Validity
+        → (1 < stage_number stage → facts.now.options.depth ≢ Declaration)
+        → IsListOf fault_cmp (IsFoundAt facts.now.options.clashes bag
+        (option_copied profile.entry) (stage_number stage)) faults.items) }
+    ensures seventh { IfOk result (λ faults. stage ≡ stage_of.Validity → faults.items ≡ []) }
 {
-    let Some(stage) = Stage::from_number(stage) else {
-        return Ok(Vec::new(alloc));
-    };
     match stage {
         Stage::Declaration => declaration_faults(alloc, facts),
         Stage::Parts => parts_faults(alloc, facts),

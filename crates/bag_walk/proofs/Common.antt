@@ -107,7 +107,7 @@ pub use Rattle.bag_walk.specs.SourceOpenings.{OpensNoFileEarly, StillWait}
 pub use Rattle.bag_walk.specs.Run.{AreFirst, EndsAt, IsAsked, IsRun, IsRunByReport, IsHonestOrReadOnce, check_of}
 pub use Rattle.bag_walk.specs.RunOpenings.{AreEarly, LooksNoFurther, OpensInRun, OpensInTurn, OpensNamed}
 pub use Rattle.bag_walk.specs.RunOpenings.{OpensNonePassed, OpensUpToSummed, StopsInTurn, written_before}
-pub use Rattle.bag_walk.specs.Segment.{MayStopRun, WritesWithoutFailure}
+pub use Rattle.bag_walk.specs.Segment.{MayStopRun}
 pub use Rattle.bag_walk.specs.SegmentEnds.{ClosesSegment, EndsSegment, IfUnread, IsRead, IsSegment}
 pub use Rattle.bag_walk.specs.SegmentEnds.{StopsAt, WroteFirst, looked_past, still_to_come}
 pub use Rattle.bag_walk.specs.SegmentOpenings.{AreCompared, EachBagHasComparedFiles, IsComparedFile, OpensFew}

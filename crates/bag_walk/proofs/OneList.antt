@@ -1,13 +1,17 @@
--- The files of a bag: there is one list of them.
+-- The files of a bag: there is a list of them, and only one.
 use Rattle.bag_walk.proofs.Common.{◌≡◌, ◌∷◌, ◌∙◌, ℕ, List, [], Option, None, Some, Contains, refl, sym, subst}
-use Rattle.bag_walk.proofs.Common.{Ordering, text_cmp, nat_list_cmp_total, same_lists, Bag}
-use Rattle.bag_walk.proofs.Common.{each_from_members, member_has, mapped_contains, FileEntry, paths_of, option_map}
-use Rattle.bag_walk.proofs.Common.{IsTotalOrder}
+use Rattle.bag_walk.proofs.Common.{Ordering, text_cmp, nat_list_cmp_total, same_lists, Bag, each_from_members}
+use Rattle.bag_walk.proofs.Common.{member_has, mapped_contains, FileEntry, paths_of, option_map, IsTotalOrder, IsTrue}
+use Rattle.bag_walk.proofs.Common.{IsBag, ap, all_along, arith, file, is_path, length, map}
+use Rattle.std.specs.FinMap.{find, get-entries}
 use Rattle.std.specs.List.Sorted.{IsStrictlySortedBy}
 use Rattle.std.specs.Ordering.{on}
 use Rattle.bag_facts.proofs.Common.{on_total}
-use Rattle.bag_facts.proofs.ListedFiles.{found_item, own_size}
-use Rattle.bag_tree.specs.Listing.{entry_at, size_at}
+use Rattle.bag_facts.proofs.ListedFiles.{found_item, listed_file, own_size}
+use Rattle.bag_report.proofs.AscendingList.{keys_rise}
+use Rattle.bag_tree.proofs.SameText.{same_test}
+use Rattle.bag_tree.specs.Bag.{files_of}
+use Rattle.bag_tree.specs.Listing.{entry_at, entry_of_file, size_at}
 use Rattle.bag_walk.specs.Parts.{AreFilesIn, OneListOfFiles}
 
 abbrev by_path : FileEntry → FileEntry → Ordering
@@ -52,3 +56,33 @@ pub one_list_of_files : OneListOfFiles
 one_list_of_files bag files others are too =
     same_lists by_path by_path_total files others (files_ascend files are.ordered.ascending)
     (files_ascend others too.ordered.ascending) (there_too bag files others are too) (there_too bag others files too are)
+
+paths_listed : (es : List (List ℕ × List ℕ)) → paths_of (map entry_of_file es) ≡ map (λ e. e.0) es
+paths_listed [] = refl
+paths_listed (e ∷ es) = ap (λ paths. e.0 ∷ paths) (paths_listed es)
+
+listed_size : (es : List (List ℕ × List ℕ)) (q : List ℕ)
+    → size_at (map entry_of_file es) q ≡ option_map length (find text_cmp q es)
+listed_size [] q = refl
+listed_size (e ∷ es) q = grind (arith, same_test, listed_size es q)
+
+module _ (bag : Bag) (is_bag : IsBag bag) where
+  abbrev listed : List FileEntry
+  listed = map entry_of_file (files_of bag)
+
+  sizes : (path : List ℕ) → size_at listed path ≡ option_map length (file bag path)
+  sizes path = listed_size (files_of bag) path ∙ sym (ap (option_map length) (get-entries bag.files path))
+
+  pub bag_is_listed : (files : List FileEntry) × AreFilesIn bag files
+  bag_is_listed = (
+    listed,
+    record {
+      ordered = record {
+        ascending = subst (IsStrictlySortedBy text_cmp) (sym (paths_listed (files_of bag))) (keys_rise text_cmp bag.files);
+        paths = all_along (λ entry. IsTrue (is_path entry.path)) listed (each_from_members _ listed (λ entry c.
+            (is_bag.paths entry.path
+            (listed_file bag listed entry.path sizes (mapped_contains (λ (e : FileEntry). e.path) listed entry c))).0));
+      };
+      sizes = sizes;
+    },
+  )

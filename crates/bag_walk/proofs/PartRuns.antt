@@ -1,28 +1,31 @@
 -- A run over a part of a report.
-use Rattle.bag_walk.proofs.Common.{◌≡◌, ◌≢◌, ◌<◌, ◌++◌, ◌∙◌, ◌∷◌, ◌⊎◌, inl, inr, ℕ, true, List, [], Contains}
-use Rattle.bag_walk.proofs.Common.{IsTrue, sym, ap, subst, arith, drop, append_assoc, append-nil, Option, is_path}
-use Rattle.bag_walk.proofs.Common.{text_cmp, contains_back, contains_first, contains_nothing, one_list, Bag, TreeState}
-use Rattle.bag_walk.proofs.Common.{Keeps, NothingFailed, memory_then, later_refusal, path_some, OutState, stage}
-use Rattle.bag_walk.proofs.Common.{fault_cmp, fault_cmp_total, filtered_list, append_cancel_left, Fault, FileEntry}
-use Rattle.bag_walk.proofs.Common.{AreWanted, ForListing, Full, OpensAll, OpensUpTo, Options, OpensWanted, Profile}
-use Rattle.bag_walk.proofs.Common.{IsReport, IsSummed, above, IsAsked, IsListOf, IsReached, OpensAgain, Sees, MayStopRun}
+use Rattle.bag_walk.proofs.Common.{◌≡◌, ◌≢◌, ◌<◌, ◌++◌, ◌∙◌, ◌∷◌, ◌⊎◌, inl, inr, ℕ, true, List, [], Contains, IsTrue}
+use Rattle.bag_walk.proofs.Common.{sym, ap, subst, arith, drop, append_assoc, append-nil, Option, is_path, text_cmp}
+use Rattle.bag_walk.proofs.Common.{contains_back, contains_first, contains_nothing, one_list, Bag, TreeState, Keeps}
+use Rattle.bag_walk.proofs.Common.{NothingFailed, memory_then, later_refusal, path_some, OutState, stage, fault_cmp}
+use Rattle.bag_walk.proofs.Common.{fault_cmp_total, filtered_list, append_cancel_left, Fault, FileEntry, AreWanted}
+use Rattle.bag_walk.proofs.Common.{ForListing, Full, OpensAll, OpensUpTo, Options, OpensWanted, Profile, IsReport}
+use Rattle.bag_walk.proofs.Common.{IsSummed, above, IsAsked, IsListOf, IsReached, OpensAgain, Sees, MayStopRun}
 use Rattle.bag_walk.proofs.Common.{MayStop, IfUnread, IsSegment, Segment, SegmentEnd, front_ascends, limit_of}
 use Rattle.bag_walk.proofs.Common.{IsToOpen, NoFaultBefore, NoFaultBeforeStop, OpensNoFileEarly, Request, check_of}
 use Rattle.bag_walk.proofs.Common.{EndsSegment, IsRefusedAt, still_to_come, looked_past, false, refl, All-nil}
-use Rattle.bag_walk.proofs.Common.{all_along, each_from_members, is_passed, IsBag}
+use Rattle.bag_walk.proofs.Common.{all_along, each_from_members, is_passed, IsBag, None}
 use Rattle.std.specs.List.Sorted.{IsStrictlySortedBy}
 use Rattle.bag_facts.specs.Part.{Part}
 use Rattle.bag_walk.proofs.Filling.{again_within, opened_front}
 use Rattle.bag_walk.proofs.OneList.{one_list_of_files}
 use Rattle.bag_walk.proofs.Openings.{early_at, none_of}
 use Rattle.bag_walk.proofs.Running.{memory_may_stop}
-use Rattle.bag_walk.proofs.SegmentStart.{asking_of}
 use Rattle.bag_walk.proofs.Shown.{above_report}
 use Rattle.bag_walk.specs.PartRuns.{ForPart, LooksNoFurtherInPart, OpensInPart, OpensPartUpTo, WritesPart}
 use Rattle.bag_walk.specs.Parts.{AreFilesIn, bounds_of, is_file_within, is_within, part_of}
 use Rattle.bag_walk.specs.StartPart.{AreToOpenWithin, IsPartStarted, IsWithin}
 use Rattle.bag_walk.specs.declared.part.Bounds.{Bounds}
 use Rattle.bag_walk.specs.declared.segment.SegmentEnd.TheVariants.{AtEnd, Full as IsFull, Unread, Unwritten}
+
+-- a request for the faults above a cursor
+abbrev pub asking_of : Options → Option Fault → Request
+asking_of options after = record { options = options; after = after; limit = None; quiet = true; name = [] }
 
 -- tag files alone were read
 pub part_reads : (profile : Option Profile) (request : Request) (part : Part) (segment : Segment)

@@ -1,32 +1,23 @@
 -- A segment over a walk that was started after others.
-use Rattle.bag_walk.proofs.Common.{arith, ◌≡◌, ◌≤◌, ℕ, inl, true, List, [], length, drop, filter, Option, None, IsTrue}
-use Rattle.bag_walk.proofs.Common.{sym, ap, ◌∙◌, subst, nat_list_cmp_total, is_payload_path, text_cmp, one_list}
-use Rattle.bag_walk.proofs.Common.{OutState, Bag, NothingFailed, TreeState, Keeps, fault_cmp, Fault, fault_cmp_total}
-use Rattle.bag_walk.proofs.Common.{OpensWanted, Options, Profile, Check, IsReport, above, Request, OpensAgain}
-use Rattle.bag_walk.proofs.Common.{OpensNoFileEarly, Sees, IsListedToOpen, IsStarted, IsLastLine, IsLastOf, IsAsked}
-use Rattle.bag_walk.proofs.Common.{IfUnread, IsSegment, MayStopRun, still_to_come, AreCompared, OpensInSegment}
-use Rattle.bag_walk.proofs.Common.{not_passed, cursor_after, ContinuesReport, MayStop, Segment, SegmentEnd}
-use Rattle.bag_walk.specs.declared.segment.SegmentEnd.TheVariants.{Unread}
-use Rattle.bag_walk.proofs.Running.{sees_of, stop_of_walk}
+use Rattle.bag_walk.proofs.Common.{arith, ◌≡◌, ◌≤◌, ℕ, List, length, drop, filter, Option, IsTrue, sym, ap, ◌∙◌}
+use Rattle.bag_walk.proofs.Common.{subst, nat_list_cmp_total, is_payload_path, text_cmp, one_list, OutState, Bag}
+use Rattle.bag_walk.proofs.Common.{TreeState, Keeps, Fault, OpensWanted, Options, Profile, Check, IsReport, above}
+use Rattle.bag_walk.proofs.Common.{OpensAgain, OpensNoFileEarly, Sees, IsListedToOpen, IsLastLine, IsLastOf}
+use Rattle.bag_walk.proofs.Common.{IsSegment, still_to_come, AreCompared, OpensInSegment, not_passed, cursor_after}
+use Rattle.bag_walk.proofs.Common.{ContinuesReport, Segment}
+use Rattle.bag_walk.proofs.PartRuns.{left_of, sees_of}
+use Rattle.bag_walk.proofs.Stages.{payload_to_open}
+use Rattle.bag_walk.proofs.WholeRun.{all_of_it}
+use Rattle.bag_walk.proofs.Within.{all_to_open}
+use Rattle.bag_walk.specs.Parts.{only_part}
+use Rattle.bag_walk.specs.StartPart.{IsPartStarted}
 use Rattle.bag_walk.proofs.SegmentOpenings.{not_passed_listed, opens_front}
 use Rattle.bag_walk.proofs.SegmentSteps.{above_behind, last_later}
-use Rattle.bag_walk.proofs.Shown.{above_report}
-
--- a request for the faults above a cursor
-abbrev pub asking_of : Options → Option Fault → Request
-asking_of options after = record { options = options; after = after; limit = None; quiet = true; name = [] }
 
 module _ {old mid : TreeState}
     (new : TreeState) {profile : Option Profile} {options : Options} {after : Option Fault} {IsOf : Bag → Type 0}
-    {left : Bag → List Fault} {todo : List (List ℕ)} (started : IsStarted old profile options after IsOf left todo)
+    {left : Bag → List Fault} {todo : List (List ℕ)} (started : IsPartStarted old profile options after only_part IsOf left todo)
     (k : Keeps old mid) where
-  pub stop_of_started : NothingFailed old mid → (end : SegmentEnd)
-      → IfUnread end (MayStopRun (IsTrue mid.honest → IsOf mid.bag) todo mid new)
-      → IfUnread end (MayStop options old new)
-  stop_of_started no_failure (Unread stop) stops =
-      stop_of_walk new (asking_of options after) started k no_failure stop stops
-  stop_of_started no_failure other stops = tt
-
   module _ (honest : IsTrue old.honest) (report : List Fault)
       (is : IsReport (record { bag = old.bag; profile = profile; options = options }) report) (n : ℕ)
       (within : n ≤ length report)
@@ -34,11 +25,10 @@ module _ {old mid : TreeState}
     -- what is left is the rest of the report
     left_behind : left started.seen ≡ drop n report
     left_behind =
-        one_list fault_cmp fault_cmp_total (IsAsked started.seen profile (asking_of options after)) (left started.seen)
-        (above after report) started.stands
-        (above_report started.seen profile (asking_of options after) report
+        left_of new started k report
         (subst (λ bag. IsReport (record { bag = bag; profile = profile; options = options }) report)
-        (sym (started.honest honest)) is))
+        (sym (started.honest honest)) is) started.listing started.listed
+        ∙ all_of_it started.listing (above after report)
         ∙ ap (λ cursor. above cursor report) behind ∙ above_behind n report is.ascending within
 
     pub goes_on : (limit : ℕ) (before then : OutState) (line next : List ℕ) (segment : Segment)
@@ -56,7 +46,7 @@ module _ {old mid : TreeState}
         → filter is_payload_path todo ≡ not_passed (cursor_after n report) listed
     payload_left listed are =
         one_list text_cmp nat_list_cmp_total (IsListedToOpen check_seen after) (filter is_payload_path todo)
-        (not_passed after listed) started.payload
+        (not_passed after listed) (payload_to_open check_seen after todo (all_to_open check_seen after todo started.files))
         (not_passed_listed check_seen after listed
         (subst (λ bag. AreCompared options bag listed) (sym (started.honest honest)) are))
         ∙ ap (λ cursor. not_passed cursor listed) behind
@@ -66,7 +56,7 @@ module _ {old mid : TreeState}
         → ((bag : Bag) → IsOf bag → Sees mid todo bag → OpensNoFileEarly (still_to_come segment (left bag)) mid new)
         → (listed : List (List ℕ)) → AreCompared options old.bag listed → OpensInSegment listed report n segment old new
     opens_behind read others again segment none listed are =
-        let sees = sees_of new (asking_of options after) started k (inl honest) in
+        let sees = sees_of new started k honest in
         let b =
         subst (λ faults. OpensNoFileEarly (still_to_come segment faults) mid new) left_behind
         (none started.seen started.of sees) in

@@ -1,16 +1,15 @@
 -- The report above a cursor, one source after another.
 use Rattle.bag_walk.proofs.Common.{◌≡◌, ◌<◌, ◌≤◌, ◌+◌, ◌++◌, ◌⊎◌, inl, inr, ℕ, List, [], Option, Contains, true}
-use Rattle.bag_walk.proofs.Common.{false, sym, ◌∙◌, subst, append_assoc, arith, stage, IsListOf, Code, contains_either}
-use Rattle.bag_walk.proofs.Common.{contains_nothing, joined, nothing_listed, same_members, fault_cmp, Fault}
-use Rattle.bag_walk.proofs.Common.{Check, above, is_above, IsReported, IsStageOf, filtered_list}
-use Rattle.bag_walk.proofs.Common.{IsStageAbove, NoFaultBefore, AllBelow, AreAheadBefore}
-use Rattle.bag_walk.proofs.Common.{IsAhead, IsReportAfter, cases_lt, Bool, true≢false, refl, ap, filter, if◌then◌else◌}
-use Rattle.bag_walk.proofs.Common.{is_payload_path, text_cmp, Payload, Tag, Bag, IsBag, TreeState, IsFactsOf, Facts}
-use Rattle.bag_walk.proofs.Common.{Options, Profile, Names, names_by_kind, IsListedToOpen, IsStarted}
-use Rattle.bag_walk.proofs.Common.{IsToOpen, IsTrue}
+use Rattle.bag_walk.proofs.Common.{false, sym, ◌∙◌, subst, append_assoc, arith, stage, IsListOf, Code}
+use Rattle.bag_walk.proofs.Common.{contains_either, contains_nothing, joined, nothing_listed, same_members, fault_cmp}
+use Rattle.bag_walk.proofs.Common.{Fault, Check, above, is_above, IsReported, IsStageOf, filtered_list, IsStageAbove}
+use Rattle.bag_walk.proofs.Common.{NoFaultBefore, AllBelow, AreAheadBefore, IsAhead, cases_lt, Bool, true≢false, refl}
+use Rattle.bag_walk.proofs.Common.{ap, filter, if◌then◌else◌, is_payload_path, text_cmp, Payload, Tag, Bag, Names}
+use Rattle.bag_walk.proofs.Common.{names_by_kind, IsListedToOpen, IsToOpen, IsTrue, get_or, suc, zero}
+use Rattle.bag_facts.specs.Stage.{stage_number}
+use Rattle.bag_facts.specs.declared.stage.Stage.TheVariants as of
+use Rattle.bag_walk.specs.declared.steps.TheConstants.{BEFORE_DIGESTS}
 use Rattle.bag_walk.proofs.Chosen.{less_by_stage}
-use Rattle.bag_walk.specs.Start.{AreSources}
-use Rattle.bag_walk.specs.declared.source.Source as Source
 
 -- no stage has the number 0, or one above 8
 from_one : (c : Code) → 1 ≤ stage c
@@ -53,10 +52,19 @@ module _ (check : Check) (after : Option Fault) where
       (joined fault_cmp (IsAheadBefore k) (IsAt k) faults more before at (λ x y less now.
       less_by_stage x y (omega (arith, less.1, now.0.1))))
 
--- what the four sources hold of some faults
-pub record Hold (IsOne : Fault → Type 0) (early complete sums late : List Fault) : Type 0 where
-  pub first : IsListOf fault_cmp (λ f. IsOne f × (stage f.code < 6)) early
-  pub sixth : IsListOf fault_cmp (λ f. IsOne f × (stage f.code ≡ 6)) complete
+-- the stages before that of digests, one after the other
+pub number_at : (i : ℕ) → i < 6 → stage_number (get_or BEFORE_DIGESTS i of.Declaration) ≡ i + 1
+number_at zero within = refl
+number_at (suc zero) within = refl
+number_at (suc (suc zero)) within = refl
+number_at (suc (suc (suc zero))) within = refl
+number_at (suc (suc (suc (suc zero)))) within = refl
+number_at (suc (suc (suc (suc (suc zero))))) within = refl
+number_at (suc (suc (suc (suc (suc (suc i)))))) within = absurd (omega arith)
+
+-- what the three sources hold of some faults
+pub record Hold (IsOne : Fault → Type 0) (early sums late : List Fault) : Type 0 where
+  pub first : IsListOf fault_cmp (λ f. IsOne f × (stage f.code < 7)) early
   pub seventh : IsListOf fault_cmp (λ f. IsOne f × (stage f.code ≡ 7)) sums
   pub eighth : IsListOf fault_cmp (λ f. IsOne f × (stage f.code ≡ 8)) late
 
@@ -78,25 +86,15 @@ next_stage IsOne k faults more before at =
     (joined fault_cmp (λ f. IsOne f × (stage f.code < k)) (λ f. IsOne f × (stage f.code ≡ k)) faults more before at
     (λ x y less now. less_by_stage x y (omega (arith, less.1, now.1))))
 
-module _ {IsOne : Fault → Type 0} {early complete sums late : List Fault}
-    (all : Hold IsOne early complete sums late) where
+module _ {IsOne : Fault → Type 0} {early sums late : List Fault} (all : Hold IsOne early sums late) where
   from_seven : (f : Fault) → Contains (sums ++ late) f → 7 ≤ stage f.code
   from_seven f c = elim (contains_either sums late f c) [
     | inl a ↦ omega (arith, ((all.seventh.members f).0 a).1)
     | inr b ↦ omega (arith, ((all.eighth.members f).0 b).1)
   ]
 
-  from_six : (f : Fault) → Contains (complete ++ (sums ++ late)) f → 6 ≤ stage f.code
-  from_six f c = elim (contains_either complete (sums ++ late) f c) [
-    | inl a ↦ omega (arith, ((all.sixth.members f).0 a).1)
-    | inr b ↦ omega (arith, from_seven f b)
-  ]
-
-  pub early_below : AllBelow early (complete ++ (sums ++ late))
-  early_below f g c d = less_by_stage f g (omega (arith, ((all.first.members f).0 c).1, from_six g d))
-
-  pub complete_below : AllBelow complete (sums ++ late)
-  complete_below f g c d = less_by_stage f g (omega (arith, ((all.sixth.members f).0 c).1, from_seven g d))
+  pub early_below : AllBelow early (sums ++ late)
+  early_below f g c d = less_by_stage f g (omega (arith, ((all.first.members f).0 c).1, from_seven g d))
 
   pub sums_below : AllBelow sums late
   sums_below f g c d =
@@ -107,14 +105,12 @@ module _ {IsOne : Fault → Type 0} {early complete sums late : List Fault}
   late_behind paths f path c d before = grind (arith, (all.eighth.members f).0 c)
 
   -- together they are all of them
-  pub all_joined : IsListOf fault_cmp IsOne (early ++ (complete ++ (sums ++ late)))
+  pub all_joined : IsListOf fault_cmp IsOne (early ++ (sums ++ late))
   all_joined =
-      let six = next_stage IsOne 6 early complete all.first all.sixth in
-      let seven = next_stage IsOne 7 (early ++ complete) sums six all.seventh in
-      let eight = next_stage IsOne 8 ((early ++ complete) ++ sums) late seven all.eighth in
-      subst (IsListOf fault_cmp IsOne)
-      (append_assoc (early ++ complete) sums late ∙ append_assoc early complete (sums ++ late))
-      (same_members fault_cmp (λ f. IsOne f × (stage f.code < 9)) IsOne (((early ++ complete) ++ sums) ++ late)
+      let seven = next_stage IsOne 7 early sums all.first all.seventh in
+      let eight = next_stage IsOne 8 (early ++ sums) late seven all.eighth in
+      subst (IsListOf fault_cmp IsOne) (append_assoc early sums late)
+      (same_members fault_cmp (λ f. IsOne f × (stage f.code < 9)) IsOne ((early ++ sums) ++ late)
       (λ f h. h.0) (λ f h. (h, to_eight f.code)) eight)
 
 -- what the sources of a walk hold together
@@ -137,46 +133,3 @@ pub seen_of : (P : Bag → Type 0) (honest : Bool) (held : Bag) → (IsTrue hone
     → (bag : Bag) × (IsTrue honest → bag ≡ held) × P bag
 seen_of P true held of_held other = (held, (λ is. refl), of_held refl)
 seen_of P false held of_held other = (other.0, (λ is. absurd (true≢false (sym is))), other.1)
-
-module _ (old : TreeState) (profile : Option Profile) (options : Options) (after : Option Fault) (facts : Facts)
-    (IsOf : Bag → Type 0) (left : Bag → List Fault)
-    (todo : List (List ℕ)) where
-  abbrev check_by : Bag → Options → Check
-  check_by bag by = record { bag = bag; profile = profile; options = by }
-
-  -- of facts that were read of a tree
-  pub started : IsBag old.bag → (IsTrue old.honest → IsFactsOf old.bag facts)
-      → ((bag : Bag) × IsBag bag × IsFactsOf bag facts) → facts.options ≡ options
-      → ((bag : Bag) → IsFactsOf bag facts → IsOf bag)
-      → ((bag : Bag) → IsFactsOf bag facts → IsReportAfter (check_by bag facts.options) after (left bag))
-      → ((bag : Bag) → IsFactsOf bag facts → IsListOf text_cmp (IsToOpen (check_by bag facts.options) after) todo)
-      → IsStarted old profile options after IsOf left todo
-  started is_bag are seen same of stands files =
-      let picked =
-      seen_of (λ bag. IsBag bag × IsFactsOf bag facts) old.honest old.bag (λ h. (is_bag, are h))
-      (seen.0, (seen.1, seen.2)) in
-      let bag : Bag = picked.0 in
-      let opens : IsListOf text_cmp (IsToOpen (check_by bag options) after) todo =
-      subst (λ by. IsListOf text_cmp (IsToOpen (check_by bag by) after) todo) same (files bag picked.2.1) in
-      record {
-        seen = bag;
-        is_bag = picked.2.0;
-        honest = picked.1;
-        of = of bag picked.2.1;
-        stands = subst (λ by. IsReportAfter (check_by bag by) after (left bag)) same (stands bag picked.2.1);
-        files = opens;
-        payload = payload_to_open (check_by bag options) after todo opens;
-      }
-
--- so a walk over the sources of these facts is started
-pub sources_started : {T S : Type 0} (source : Source.Ghosts S T) (old : TreeState)
-    (profile : Option Profile) (options : Options) (after : Option Fault) (facts : Facts)
-    (sources : S) → IsBag old.bag → (IsTrue old.honest → IsFactsOf old.bag facts)
-    → ((bag : Bag) × IsBag bag × IsFactsOf bag facts) → facts.options ≡ options
-    → AreSources source facts profile after sources
-    → IsStarted old profile options after (λ bag. source.is_of bag sources)
-    (λ bag. source.remaining bag sources) (source.todo sources)
-sources_started source old profile options after facts sources is_bag are seen same of =
-    started old profile options after facts (λ bag. source.is_of bag sources)
-    (λ bag. source.remaining bag sources) (source.todo sources)
-    is_bag are seen same of.of of.stands of.files

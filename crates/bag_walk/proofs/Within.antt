@@ -1,6 +1,6 @@
 -- What stands between two bounds, by its stage.
-use Rattle.bag_walk.proofs.Common.{◌≡◌, ◌≢◌, ◌<◌, ◌∙◌, inl, inr, ℕ, Bool, true, false, true≢false, List, []}
-use Rattle.bag_walk.proofs.Common.{Option, refl, sym, arith, subst, stage}
+use Rattle.bag_walk.proofs.Common.{◌≡◌, ◌≢◌, ◌<◌, ◌∙◌, inl, inr, ℕ, true, false, true≢false, List, []}
+use Rattle.bag_walk.proofs.Common.{Option, refl, sym, subst, stage}
 use Rattle.bag_walk.proofs.Common.{same_members, nothing_listed, fault_cmp, text_cmp, Bag, Fault}
 use Rattle.bag_walk.proofs.Common.{IsListOf, Check, Full, IsOfValidity, validity_of_stage_seven, reaches}
 use Rattle.bag_walk.proofs.Common.{asked_at_full, asked_is_reached, is_of_validity, of_validity, seven_not_reached}
@@ -42,32 +42,31 @@ module _ (bounds : Bounds) where
   within_by_file f seven = rw (before_by_file bounds.from f seven, before_by_file bounds.until f seven) refl
 
   module _ (check : Check) (after : Option Fault) where
-    -- the stages before the sixth stand there together
-    pub early_kept : has_early bounds ≡ true → (faults : List Fault) → AreAheadBefore check 6 after faults
+    -- the stages before that of digests stand there together
+    pub early_kept : has_early bounds ≡ true → (faults : List Fault) → AreAheadBefore check 7 after faults
         → AreEarlyWithin check after bounds faults
     early_kept is faults list =
-        same_members fault_cmp (λ f. IsAhead check after f × (stage f.code < 6))
-        (λ f. IsAheadWithin check after bounds f × (stage f.code < 6)) faults
-        (λ f h. ((h.0, within_early f (omega (arith, h.1)) ∙ is), h.1)) (λ f h. (h.0.0, h.1)) list
+        same_members fault_cmp (λ f. IsAhead check after f × (stage f.code < 7))
+        (λ f. IsAheadWithin check after bounds f × (stage f.code < 7)) faults
+        (λ f h. ((h.0, within_early f h.1 ∙ is), h.1)) (λ f h. (h.0.0, h.1)) list
 
     pub early_left : has_early bounds ≡ false → AreEarlyWithin check after bounds []
     early_left is =
-        nothing_listed fault_cmp (λ f. IsAheadWithin check after bounds f × (stage f.code < 6))
-        (λ f h. true≢false (sym h.0.1 ∙ within_early f (omega (arith, h.1)) ∙ is))
+        nothing_listed fault_cmp (λ f. IsAheadWithin check after bounds f × (stage f.code < 7))
+        (λ f h. true≢false (sym h.0.1 ∙ within_early f h.1 ∙ is))
 
-    -- and so does each stage but the seventh
-    module _ (k : ℕ) (has : Bool) (together : (f : Fault) → stage f.code ≡ k → is_within bounds f ≡ has) where
-      pub stage_kept : has ≡ true → (faults : List Fault) → IsStageAbove check k after faults
-          → IsStageWithin check k after bounds faults
-      stage_kept is faults list =
-          same_members fault_cmp (IsAbove after (λ f. IsReported check f × (stage f.code ≡ k)))
-          (λ f. IsAheadWithin check after bounds f × (stage f.code ≡ k)) faults
-          (λ f h. (((h.0.0, h.1), together f h.0.1 ∙ is), h.0.1)) (λ f h. ((h.0.0.0, h.1), h.0.0.1)) list
+    -- and so does the eighth stage
+    pub late_kept : has_late bounds ≡ true → (faults : List Fault) → IsStageAbove check 8 after faults
+        → IsStageWithin check 8 after bounds faults
+    late_kept is faults list =
+        same_members fault_cmp (IsAbove after (λ f. IsReported check f × (stage f.code ≡ 8)))
+        (λ f. IsAheadWithin check after bounds f × (stage f.code ≡ 8)) faults
+        (λ f h. (((h.0.0, h.1), within_late f h.0.1 ∙ is), h.0.1)) (λ f h. ((h.0.0.0, h.1), h.0.0.1)) list
 
-      pub stage_left : has ≡ false → IsStageWithin check k after bounds []
-      stage_left is =
-          nothing_listed fault_cmp (λ f. IsAheadWithin check after bounds f × (stage f.code ≡ k))
-          (λ f h. true≢false (sym h.0.1 ∙ together f h.1 ∙ is))
+    pub late_left : has_late bounds ≡ false → IsStageWithin check 8 after bounds []
+    late_left is =
+        nothing_listed fault_cmp (λ f. IsAheadWithin check after bounds f × (stage f.code ≡ 8))
+        (λ f h. true≢false (sym h.0.1 ∙ within_late f h.1 ∙ is))
 
     -- at depth Full the faults of validity are those of the seventh stage
     seventh_at_full : (faults : List Fault) → check.options.depth ≡ Full

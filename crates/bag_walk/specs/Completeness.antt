@@ -3,13 +3,11 @@ use Rattle.std.specs.Prelude.{ℕ, ◌≡◌, true, List, Option}
 use Rattle.bag_text.specs.Code.{stage}
 use Rattle.bag_text.specs.Order.{IsListOf}
 use Rattle.bag_facts.specs.FaultOrder.{fault_cmp}
-use Rattle.bag_facts.specs.Options.{reaches}
 use Rattle.bag_facts.specs.declared.facts.Facts.{Facts}
 use Rattle.bag_facts.specs.declared.fault.Fault.{Fault}
-use Rattle.bag_stages.specs.CompletenessFaults.{IsSoughtInStageSix}
 use Rattle.bag_profile.specs.Profile.{Profile}
 use Rattle.bag_report.specs.Report.{Check, IsReported, is_above}
-use Rattle.bag_walk.specs.FactsOf.{ForBagOf, ForCheckOf}
+use Rattle.bag_walk.specs.FactsOf.{ForCheckOf}
 
 -- one of these faults, above a cursor
 abbrev pub IsAbove : Option Fault → (Fault → Type 0) → Fault → Type 0
@@ -18,12 +16,6 @@ IsAbove after IsOne f = IsOne f × (is_above after f ≡ true)
 -- these are those of this kind that stand above a cursor, in their order
 abbrev pub AreAbove : Option Fault → (Fault → Type 0) → List Fault → Type 0
 AreAbove after IsOne faults = IsListOf fault_cmp (IsAbove after IsOne) faults
-
--- where the depth has stage 6: the faults that are looked for in it, of completeness or of names,
--- above a cursor
-abbrev pub AreSought : Facts → Option Fault → List Fault → Type 0
-AreSought facts after faults = ForBagOf facts (λ bag. reaches facts.options.depth 6 ≡ true
-    → AreAbove after (IsSoughtInStageSix facts.options.clashes bag) faults)
 
 -- the part of a report that is of one stage and above a cursor
 abbrev pub IsStageAbove : Check → ℕ → Option Fault → List Fault → Type 0

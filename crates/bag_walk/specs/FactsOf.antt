@@ -5,8 +5,7 @@ use Rattle.bag_facts.specs.FactsOfBag.{IsFactsOf}
 use Rattle.bag_facts.specs.declared.facts.Facts.{Facts}
 use Rattle.bag_facts.specs.declared.options.Depth.TheVariants.{Full}
 use Rattle.bag_profile.specs.Profile.{Profile}
-use Rattle.bag_report.specs.Report.{Check}
-use Rattle.bag_walk.specs.Run.{check_with}
+use Rattle.bag_report.specs.Report.{Check, check_with}
 
 -- so it is for each bag of which these are the facts
 abbrev pub ForBagOf : Facts → (Bag → Type 0) → Type 0

@@ -71,6 +71,10 @@ has_late bounds = not (is_late_before bounds.from) && is_late_before bounds.unti
 abbrev pub whole : Bounds
 whole = record { from = Start; until = End }
 
+-- the part 1 of 1, whose bounds are these
+abbrev pub only_part : Part
+only_part = record { number = 0; of = 1 }
+
 -- what a file costs: its bytes, and for opening it as many as one read takes
 abbrev pub weight : FileEntry → ℕ
 weight file = file.size + 65536

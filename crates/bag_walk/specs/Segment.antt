@@ -1,18 +1,12 @@
 -- A segment of a report: the lines of its first faults.
 use Rattle.std.specs.Prelude.{◌≡◌, ◌⊎◌, List, []}
 use Rattle.bag_text.specs.Bytes.{Path}
-use Rattle.bag_tree.specs.Tree.{MayReportMemory, NothingFailed, TreeState, CameFromFile}
-use Rattle.bag_tree.specs.Out.{OutState}
+use Rattle.bag_tree.specs.Tree.{MayReportMemory, TreeState, CameFromFile}
 use Rattle.bag_tree.specs.declared.tree_fault.Stop.{Stop}
 use Rattle.bag_tree.specs.declared.tree_fault.TreeFault.TheVariants.{Memory}
-use Rattle.bag_facts.specs.declared.fault.Fault.{Fault}
 use Rattle.bag_tree.specs.Stop.{IsOutOfMemory}
 use Rattle.bag_facts.specs.Stops.{MayRefuseFacts}
-use Rattle.bag_walk.specs.Ending.{IsAnswered}
 use Rattle.bag_walk.specs.SourceOpenings.{IsReached}
-use Rattle.bag_walk.specs.Writer.{WritesReport}
-use Rattle.bag_walk.specs.declared.outcome.Outcome.{Outcome}
-use Rattle.bag_walk.specs.declared.outcome.Request.{Request}
 
 -- memory ran out: no file is named, and the tree reported it or refused nothing
 abbrev pub RanOutOfMemory : TreeState → TreeState → Stop → Type 0
@@ -30,11 +24,3 @@ pub record StopsWalk (todo : List Path) (old new : TreeState) (stop : Stop) : Ty
 abbrev pub MayStopRun : Type 0 → List Path → TreeState → TreeState → Stop → Type 0
 MayStopRun IsOf todo old new stop = RanOutOfMemory old new stop
     ⊎ (IsOf → StopsWalk todo old new stop)
-
--- the lines of the first of these faults and a closing line were written, and nothing was refused
--- where the run was answered
-abbrev pub WritesWithoutFailure : Request → List Fault → (Stop → Type 0)
-    → TreeState → TreeState → OutState → OutState → Outcome → Type 0
-WritesWithoutFailure request faults Stops old new before after outcome =
-    (writes : WritesReport request faults Stops before after outcome)
-    × (IsAnswered writes.ending → NothingFailed old new)

@@ -15,15 +15,12 @@ use Rattle.bag_tree.specs.declared.tree_fault.Stop.{Stop}
 use Rattle.bag_facts.specs.FaultOrder.{fault_cmp}
 use Rattle.bag_facts.specs.TagReader.{MayStopReading, OpensAll, OpensFirst}
 use Rattle.bag_facts.specs.Wanted.{ForListing, OpensUpTo}
-use Rattle.bag_facts.specs.declared.facts.Facts.{Facts}
 use Rattle.bag_facts.specs.declared.fault.Fault.{Fault}
 use Rattle.bag_facts.specs.declared.options.Depth.TheVariants.{Full}
 use Rattle.bag_facts.specs.declared.options.Options.{Options}
 use Rattle.bag_profile.specs.Profile.{Profile}
-use Rattle.bag_report.specs.Report.{Check}
+use Rattle.bag_report.specs.Report.{Check, check_with}
 use Rattle.bag_stages.specs.TagFiles.{Names}
-use Rattle.bag_walk.specs.Run.{check_with}
-use Rattle.bag_walk.specs.FactsOf.{ForBagOf, ForCheckOf}
 use Rattle.bag_walk.specs.declared.source.Source as Source
 use Rattle.bag_walk.specs.declared.steps.Steps.{Steps}
 use Rattle.bag_walk.specs.Steps.{left, to_open, IsAhead, IsReportAfter}
@@ -76,15 +73,6 @@ OpensUpToRefused options stop old new =
 abbrev pub state_after : {T S : Type 0} → Tree.Ghosts T → Result (Steps T S) (T × Stop) → TreeState
 state_after tree (Ok walk) = tree.state walk.tree
 state_after tree (Err refused) = tree.state refused.0
-
--- These sources hold the faults of a bag of which these are the facts, above a cursor: what is left
--- of them is what stands above it, and the files that they open are those still to be opened.
-pub record AreSources {T S : Type 0} (source : Source.Ghosts S T)
-    (facts : Facts) (profile : Option Profile) (after : Option Fault) (sources : S) : Type 0 where
-  pub of : ForBagOf facts (λ bag. source.is_of bag sources)
-  pub stands : ForCheckOf facts profile (λ check.
-      IsReportAfter check after (source.remaining check.bag sources))
-  pub files : ForCheckOf facts profile (λ check. AreToOpen check after (source.todo sources))
 
 -- a walk over the faults of a tree's bag above a cursor, which has given nothing yet
 abbrev pub StartsAt : {T S : Type 0} → Source.Ghosts S T

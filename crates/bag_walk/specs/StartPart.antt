@@ -15,12 +15,11 @@ use Rattle.bag_facts.specs.declared.facts.Facts.{Facts}
 use Rattle.bag_facts.specs.declared.fault.Fault.{Fault}
 use Rattle.bag_facts.specs.declared.options.Options.{Options}
 use Rattle.bag_profile.specs.Profile.{Profile}
-use Rattle.bag_report.specs.Report.{Check}
+use Rattle.bag_report.specs.Report.{Check, check_with}
 use Rattle.bag_stages.specs.SummedFiles.{IsSummed}
 use Rattle.bag_walk.specs.FactsOf.{ForBagOf, ForCheckOf}
 use Rattle.bag_walk.specs.Openings.{IsToOpen, is_passed}
 use Rattle.bag_walk.specs.Parts.{AreFilesIn, bounds_of, is_file_within, is_within}
-use Rattle.bag_walk.specs.Run.{check_with}
 use Rattle.bag_walk.specs.Start.{OpensAllListed}
 use Rattle.bag_walk.specs.Steps.{left, to_open, IsAhead}
 use Rattle.bag_walk.specs.declared.part.Bounds.{Bounds}
@@ -46,10 +45,10 @@ abbrev pub IsStageWithin : Check → ℕ → Option Fault → Bounds → List Fa
 IsStageWithin check k after bounds faults =
     IsListOf fault_cmp (λ f. IsAheadWithin check after bounds f × (stage f.code ≡ k)) faults
 
--- and that of the stages before the sixth
+-- and that of the stages before that of digests
 abbrev pub AreEarlyWithin : Check → Option Fault → Bounds → List Fault → Type 0
 AreEarlyWithin check after bounds faults =
-    IsListOf fault_cmp (λ f. IsAheadWithin check after bounds f × (stage f.code < 6)) faults
+    IsListOf fault_cmp (λ f. IsAheadWithin check after bounds f × (stage f.code < 7)) faults
 
 -- these are the files between two bounds whose digests are compared and that a cursor hasn't
 -- passed, in path order

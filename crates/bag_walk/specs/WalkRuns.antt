@@ -1,20 +1,15 @@
--- What a segment of a walk writes and opens, and a run over a walk.
-use Rattle.std.specs.Prelude.{ℕ, ◌≡◌, List, drop}
+-- What a segment of a walk writes and opens.
+use Rattle.std.specs.Prelude.{ℕ, List, drop}
 use Rattle.bag_tree.specs.Out.{OutState}
 use Rattle.bag_tree.specs.Tree.{Keeps, NothingFailed, TreeState}
 use Rattle.bag_tree.specs.declared.tree.Tree as Tree
 use Rattle.bag_facts.specs.declared.fault.Fault.{Fault}
-use Rattle.bag_walk.specs.Closing.{count_of}
-use Rattle.bag_walk.specs.Ending.{limit_of}
 use Rattle.bag_walk.specs.LastLine.{IsLastOf}
 use Rattle.bag_walk.specs.Segment.{MayStopRun}
-use Rattle.bag_walk.specs.SegmentEnds.{ClosesSegment, IfUnread, IsRead, IsSegment, StopsAt}
+use Rattle.bag_walk.specs.SegmentEnds.{IfUnread, IsRead, IsSegment}
 use Rattle.bag_walk.specs.SegmentEnds.{still_to_come}
 use Rattle.bag_walk.specs.SourceOpenings.{NoFaultBeforeStop, OpensAgain, OpensNoFileEarly}
 use Rattle.bag_walk.specs.Steps.{ForEachBag, WalkIsOfHonest, left, state, to_open}
-use Rattle.bag_walk.specs.Stops.{IfRunUnread}
-use Rattle.bag_walk.specs.declared.outcome.Outcome.{Outcome}
-use Rattle.bag_walk.specs.declared.outcome.Request.{Request}
 use Rattle.bag_walk.specs.declared.segment.Segment.{Segment}
 use Rattle.bag_walk.specs.declared.source.Source as Source
 use Rattle.bag_walk.specs.declared.steps.Steps.{Steps}
@@ -42,16 +37,3 @@ module _ {T S : Type 0} (tree : Tree.Ghosts T) (source : Source.Ghosts S T) wher
         IsLastOf (left source bag old) segment.written last new_last)
     pub stop : IfUnread segment.end (MayStopRun (WalkIsOfHonest tree source old)
         (to_open source old) (state tree source old) new)
-
-  -- A run over a walk: a segment up to the limit of a request, and a closing line.
-  pub record RunsWalk (old : Steps T S) (new : TreeState) (request : Request)
-      (before after : OutState) (outcome : Outcome) : Type 0 where
-    pub segment : Segment
-    pub lines : OutState
-    pub last : List ℕ
-    pub new_last : List ℕ
-    pub wrote : WritesSegment old new (limit_of request) before lines last new_last segment
-    pub closes : (faults : List Fault) → IsSegment faults (limit_of request) before lines segment
-        → ClosesSegment request faults segment before after outcome
-    pub count : count_of outcome ≡ segment.written
-    pub stop : IfRunUnread outcome (StopsAt segment)

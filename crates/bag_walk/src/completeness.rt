@@ -1,119 +1,30 @@
 //! Faults of completeness, and clashes of names.
-ghost use Rattle.std.specs.Prelude.{◌≡◌, ⊤, [], false, IfOk, Option};
-ghost use Rattle.std.specs.List.Sorted.{IsStrictlySortedBy};
+ghost use Rattle.std.specs.Prelude.{◌≡◌, [], false, IfOk};
 ghost use Rattle.std.specs.Option.{option_copied};
-ghost use Rattle.bag_facts.specs.FaultOrder.{fault_cmp};
 ghost use Rattle.bag_facts.specs.Options.{reaches};
-ghost use Rattle.bag_walk.specs.Completeness.{AreOfStageSix, AreSought};
-ghost use Rattle.bag_walk.specs.FactsOf.{ForCheckOf};
-ghost use Rattle.bag_walk.specs.Filling.{first_of};
-ghost use Rattle.bag_walk.specs.StartPart.{IsStageWithin};
-ghost use Rattle.bag_profile.specs.Profile.{Profile};
+ghost use Rattle.bag_walk.specs.Completeness.{AreOfStageSix};
 
-use crate::above_cursor::above;
-use crate::part::Bounds;
-use crate::{Fixed, InOrder, Quiet, Source};
+use crate::Fixed;
+use crate::steps::stage_above;
 use bag_facts::{Facts, Fault, Stage};
-use bag_stages::completeness_faults;
-use bag_tree::{Stop, Tree};
 use std::alloc::{AllocError, Global};
 
 /// What keeps a bag from being complete (RFC 8493, 3), and where they are asked for clashes of
-/// names, above a cursor. Opens no file.
-#[derive(Debug, Drop)]
-pub struct Completeness {
-    list: Fixed,
-}
+/// names, above a cursor.
+#[derive(Debug, Clone, Copy)]
+pub struct Completeness;
 
 impl Completeness {
     /// Those of each bag of which these facts were read: what its report has of stage 6 above the
     /// cursor, by any profile or by none, since no profile asks for more there. There are none
     /// where the depth doesn't have the stage. Fails only when out of memory.
-    pub fn new(
-        alloc: Global,
-        facts: &Facts,
-        after: Option<&Fault>,
-    ) -> Result<Completeness, AllocError>
+    pub fn new(alloc: Global, facts: &Facts, after: Option<&Fault>) -> Result<Fixed, AllocError>
         ensures reported { IfOk result (λ source.
-            AreOfStageSix facts.now (option_copied after.entry) source.list.faults) }
+            AreOfStageSix facts.now (option_copied after.entry) source.faults) }
         ensures none { IfOk result (λ source.
-            reaches facts.now.options.depth 6 ≡ false → source.list.faults ≡ []) }
+            reaches facts.now.options.depth 6 ≡ false → source.faults ≡ []) }
     {
-        let faults = sought(alloc, facts, after)?;
-        Ok(Completeness {
-            list: Fixed::of(faults),
-        })
+        let faults = stage_above(alloc, facts, None, Stage::Completeness, after)?;
+        Ok(Fixed::of(faults))
     }
-
-    /// The same of those that stand between two bounds. Looks for none where these have no stage
-    /// before that of digests.
-    pub(crate) fn within(
-        alloc: Global,
-        facts: &Facts,
-        after: Option<&Fault>,
-        bounds: &Bounds,
-    ) -> Result<Completeness, AllocError>
-        ensures { IfOk result (λ source. (profile : Option Profile) → ForCheckOf facts.now profile
-            (λ check. IsStageWithin check 6 (option_copied after.entry) bounds.now
-            source.list.faults)) }
-    {
-        if bounds.has_early() {
-            return Completeness::new(alloc, facts, after);
-        }
-        Ok(Completeness {
-            list: Fixed::of(Vec::new(alloc)),
-        })
-    }
-}
-
-/// The faults of completeness above a cursor, and where the options ask for them the clashes of
-/// names. There are none where the depth doesn't have the stage.
-fn sought(alloc: Global, facts: &Facts, after: Option<&Fault>) -> Result<Vec<Fault>, AllocError>
-    ensures sought { IfOk result (λ faults.
-        AreSought facts.now (option_copied after.entry) faults.items) }
-    ensures none { IfOk result (λ faults.
-        reaches facts.now.options.depth 6 ≡ false → faults.items ≡ []) }
-{
-    if !facts.options.depth.has_stage(Stage::Completeness as u8) {
-        return Ok(Vec::new(alloc));
-    }
-    Ok(above(completeness_faults(alloc, facts)?, after))
-}
-
-impl<T: Tree> Source<T> for Completeness {
-    ghost is_of = { λ bag s. IsStrictlySortedBy fault_cmp s.list.faults };
-
-    ghost remaining = { λ bag s. s.list.faults };
-
-    ghost todo = { λ s. [] };
-
-    ghost found = { λ s. first_of s.list.faults };
-
-    ghost in_order = { ⊤ };
-
-    ghost is_first = { λ bag s fault h e. e };
-
-    ghost ascends = { λ bag s h. h };
-
-    fn fill(&mut self, tree: &mut T) -> Result<(), Stop> {
-        self.list.fill(tree)
-    }
-
-    fn peek(&self) -> Option<&Fault> {
-        <Fixed as Source<T>>::peek(&self.list)
-    }
-
-    fn advance(&mut self) {
-        <Fixed as Source<T>>::advance(&mut self.list);
-    }
-}
-
-impl<T: Tree> InOrder<T> for Completeness {
-    ghost is_in_order = { tt };
-}
-
-impl<T: Tree> Quiet<T> for Completeness {
-    ghost use Rattle.std.specs.Prelude.{refl};
-
-    ghost is_quiet = { λ s. refl };
 }

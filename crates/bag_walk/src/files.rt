@@ -78,7 +78,7 @@ fn is_passed(after: Option<&Fault>, path: &Text) -> bool
     match after {
         None => false,
         Some(cursor) => {
-            let (stage, validity) = (cursor.stage(), Stage::Validity as u8);
+            let (stage, validity) = (cursor.stage(), Stage::Validity.number());
             stage > validity || stage == validity && *path < cursor.path
         }
     }

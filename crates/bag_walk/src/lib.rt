@@ -44,7 +44,6 @@ mod source;
 mod steps;
 mod to_sum;
 mod validity;
-mod walk_run;
 
 pub use bag_facts::Part;
 pub use completeness::Completeness;

@@ -7,6 +7,16 @@ use bag_text::Text;
 use bag_tree::FileEntry;
 use std::alloc::{AllocError, Global};
 
+/// The part 1 of 1, which is the whole.
+pub(crate) fn only_part() -> Part
+    ensures { result ≡ spec.only_part }
+{
+    match Part::new(0, 1) {
+        Some(part) => part,
+        None => unreachable!(),
+    }
+}
+
 /// What opening a file costs, in bytes: as many as one read takes.
 const OPENING_BYTES: u128 = 65_536;
 

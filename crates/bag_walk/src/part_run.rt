@@ -18,7 +18,6 @@ use crate::closing::{put_count, put_unread};
 use crate::part::Listed;
 use crate::segment::{LineBuffers, Segment, SegmentEnd};
 use crate::segments::segment_of_walk;
-use crate::walk_run::limit_of;
 use crate::{Request, Walk};
 use bag_facts::{Fault, Part, put_line};
 use bag_report::Profile;
@@ -123,8 +122,8 @@ pub fn run_part<T: Tree, W: Out>(
 /// was reached.
 #[derive(Drop)]
 pub(crate) struct PartLines {
-    segment: Segment,
-    listed: Listed,
+    pub(crate) segment: Segment,
+    pub(crate) listed: Listed,
 }
 
 /// Lines that weren't begun: no files are known.
@@ -136,8 +135,15 @@ fn not_begun(end: SegmentEnd) -> PartLines
     PartLines { segment, listed }
 }
 
+/// How many faults are written at the most.
+fn limit_of(request: &Request) -> u64
+    ensures { result ≡ limit_of request.now }
+{
+    request.limit.unwrap_or(u64::MAX)
+}
+
 /// Writes the lines of a part's faults, up to the limit.
-fn lines_of_part<T: Tree, W: Out>(
+pub(crate) fn lines_of_part<T: Tree, W: Out>(
     alloc: Global,
     tree: T,
     profile: Option<&Profile>,

@@ -1,15 +1,14 @@
-//! A whole run.
+//! A whole run: the run over the part 1 of 1.
 ghost use Rattle.std.specs.Prelude.{◌≡◌, Some};
 ghost use Rattle.std.specs.Option.{option_copied};
-ghost use Rattle.bag_walk.specs.Ending.{limit_of};
 ghost use Rattle.bag_walk.specs.WholeRun.{IsRunOver};
 
-use crate::segment::close;
-use crate::walk_run::{limit_of, run_of_walk};
-use crate::{Outcome, Request, Walk};
-use bag_facts::Fault;
+use crate::part::only_part;
+use crate::part_run::lines_of_part;
+use crate::segment::close_segment;
+use crate::{Outcome, Request};
 use bag_report::Profile;
-use bag_tree::{Out, Stop, Tree};
+use bag_tree::{Out, Tree};
 use std::alloc::Global;
 
 /// Writes the faults of a tree's bag that the request asks for, one line each, and a closing line.
@@ -32,15 +31,7 @@ pub fn run<T: Tree, W: Out>(
         (option_copied profile.entry) request (W.state out.old) (W.state out.new) result.1 }
 {
     let request = &request;
-    if limit_of(request) == 0 {
-        return (tree, close(request, Outcome::Stopped(0), out));
-    }
-    let Ok(after) = Fault::copied(alloc, request.after.as_ref()) else {
-        let outcome = Outcome::Unread(0, Stop::out_of_memory(alloc));
-        return (tree, close(request, outcome, out));
-    };
-    match Walk::start(alloc, tree, profile, request.options, after) {
-        Ok(walk) => run_of_walk(alloc, walk, request, out),
-        Err((tree, stop)) => (tree, close(request, Outcome::Unread(0, stop), out)),
-    }
+    let (tree, lines) = lines_of_part(alloc, tree, profile, only_part(), request, out);
+    let outcome = close_segment(request, lines.segment, out);
+    (tree, outcome)
 }

@@ -11,6 +11,7 @@ ghost use Rattle.bag_walk.specs.Segments as spec;
 ghost use Rattle.bag_walk.specs.Segments.{ForReportFrom};
 ghost use Rattle.bag_walk.specs.WalkRuns.{WritesSegment};
 
+use crate::part::only_part;
 use crate::segment::{LineBuffers, Segment, SegmentEnd, end_of_report, write_faults};
 use crate::{InOrder, Outcome, Steps, Walk};
 use bag_report::{Options, Profile};
@@ -123,8 +124,8 @@ fn write_segment<T: Tree, W: Out>(
         let end = SegmentEnd::Unread(Stop::out_of_memory(alloc));
         return (tree, Segment { written: 0, end });
     };
-    match Walk::start(alloc, tree, profile, options, after) {
-        Ok(walk) => segment_of_walk(alloc, walk, lines, limit, out),
+    match Walk::start_part(alloc, tree, profile, options, after, only_part()) {
+        Ok((walk, _)) => segment_of_walk(alloc, walk, lines, limit, out),
         Err((tree, stop)) => {
             let end = SegmentEnd::Unread(stop);
             (tree, Segment { written: 0, end })

@@ -1,13 +1,16 @@
 //! A walk over the faults of a source, one at a time, and how one over a tree's bag begins.
-ghost use Rattle.std.specs.Prelude.{◌≡◌, ◌≢◌, false, IfErr, IfOk, OnErr, OnOk};
+ghost use Rattle.std.specs.Prelude.{◌≡◌, ◌≢◌, [], false, IfErr, IfOk, OnErr, OnOk};
 ghost use Rattle.std.specs.Option.{option_copied};
 ghost use Rattle.bag_tree.specs.Bag.{Bag};
 ghost use Rattle.bag_tree.specs.Tree.{Keeps, NothingFailed};
 ghost use Rattle.bag_facts.specs.FactsOfBag.{IsFactsOf};
+ghost use Rattle.bag_facts.specs.Options.{reaches};
+ghost use Rattle.bag_facts.specs.Stage.{stage_number};
 ghost use Rattle.bag_facts.specs.Wanted.{ForListing, OpensWanted};
+ghost use Rattle.bag_facts.specs.declared.stage.Stage.TheVariants as stage_of;
 ghost use Rattle.bag_walk.specs.Completeness.{IsStageAbove};
 ghost use Rattle.bag_walk.specs.FactsOf.{ForCheckOf};
-ghost use Rattle.bag_walk.specs.Start.{state_after, AreAheadBefore, AreSources};
+ghost use Rattle.bag_walk.specs.Start.{state_after, AreAheadBefore};
 ghost use Rattle.bag_walk.specs.Start.{IsNotStarted, Starts};
 ghost use Rattle.bag_walk.specs.Parts.{bounds_of, listed_of};
 ghost use Rattle.bag_walk.specs.StartPart.{state_after_part, AreEarlyWithin, AreSourcesWithin};
@@ -17,11 +20,11 @@ ghost use Rattle.bag_walk.specs.Steps.{IsStoppedInTurn, MayReopenLast, MayStopHe
 ghost use Rattle.bag_walk.specs.Steps.{WalkOpensNoFileEarly, OpensNext, StopsBeforeRemaining};
 
 use crate::above_cursor::above;
-use crate::part::{Bounds, Listed};
-use crate::{Completeness, Fixed, InOrder, Source, Then, Validity};
+use crate::part::{Bounds, Listed, only_part};
+use crate::{Fixed, InOrder, Source, Then, Validity};
 use bag_facts::{Facts, Fault, Options, Part, Stage};
 use bag_profile::Profile;
-use bag_report::stage_faults;
+use bag_report::faults_of_stage;
 use bag_tree::{Stop, Tree};
 use std::alloc::{AllocError, Global};
 
@@ -121,9 +124,8 @@ impl<T: Tree, S: InOrder<T>> Steps<T, S> {
     }
 }
 
-/// Faults of the stages before the sixth, those of completeness, those of files, and those of the
-/// stages after them.
-pub type Sources = Then<Fixed, Then<Completeness, Then<Validity, Fixed>>>;
+/// Faults of the stages before that of digests, those of files, and those of the stages after them.
+pub type Sources = Then<Fixed, Then<Validity, Fixed>>;
 
 /// A walk over the faults of a bag.
 pub type Walk<T> = Steps<T, Sources>;
@@ -148,14 +150,9 @@ impl<T: Tree> Walk<T> {
             (T.state tree) (option_copied profile.entry) options after) }
         ensures refused { IfErr result (IsNotStarted T.Tree options (T.state tree)) }
     {
-        let mut tree = tree;
-        let facts = match Facts::read(alloc, &mut tree, options) {
-            Ok(facts) => facts,
-            Err(stop) => return Err((tree, stop)),
-        };
-        match Self::sources_of(alloc, &facts, profile, after.as_ref()) {
-            Ok(sources) => Ok(Steps::new(tree, sources)),
-            Err(AllocError) => Err((tree, Stop::out_of_memory(alloc))),
+        match Self::start_part(alloc, tree, profile, options, after, only_part()) {
+            Ok((walk, _)) => Ok(walk),
+            Err(refused) => Err(refused),
         }
     }
 
@@ -208,20 +205,6 @@ impl<T: Tree> Walk<T> {
         Self::sources_within(alloc, facts, profile, after, &bounds)
     }
 
-    /// The sources of the faults of a bag above a cursor.
-    fn sources_of(
-        alloc: Global,
-        facts: &Facts,
-        profile: Option<&Profile>,
-        after: Option<&Fault>,
-    ) -> Result<Sources, AllocError>
-        requires { (bag : Bag) × IsFactsOf bag facts.now }
-        ensures { IfOk result (AreSources ⟦<Sources as Source<T>>⟧
-            facts.now (option_copied profile.entry) (option_copied after.entry)) }
-    {
-        Self::sources_within(alloc, facts, profile, after, &Bounds::whole())
-    }
-
     /// The sources of those between two bounds.
     fn sources_within(
         alloc: Global,
@@ -235,17 +218,13 @@ impl<T: Tree> Walk<T> {
             (option_copied profile.entry) (option_copied after.entry) bounds.now) }
     {
         let early = early_within(alloc, facts, profile, after, bounds)?;
-        let completeness = Completeness::within(alloc, facts, after, bounds)?;
         let validity = Validity::within(alloc, facts, after, bounds)?;
         let late = late_within(alloc, facts, profile, after, bounds)?;
-        Ok(Then::new(
-            Fixed::new(early),
-            Then::new(completeness, Then::new(validity, Fixed::new(late))),
-        ))
+        Ok(Then::new(Fixed::new(early), Then::new(validity, Fixed::new(late))))
     }
 }
 
-/// The faults above a cursor of the stages before the sixth, in their order, where they stand
+/// The faults above a cursor of the stages before that of digests, in their order, where they stand
 /// between two bounds. Judges none where they don't.
 fn early_within(
     alloc: Global,
@@ -275,12 +254,22 @@ fn late_within(
         IsStageWithin check 8 (option_copied after.entry) bounds.now faults.items)) }
 {
     if bounds.has_late() {
-        return stage_above(alloc, facts, profile, Stage::Conformance as u8, after);
+        return stage_above(alloc, facts, profile, Stage::Conformance, after);
     }
     Ok(Vec::new(alloc))
 }
 
-/// The faults above a cursor of the stages before the sixth, in their order.
+/// The stages before that of digests.
+const BEFORE_DIGESTS: [Stage; 6] = [
+    Stage::Declaration,
+    Stage::Parts,
+    Stage::Metadata,
+    Stage::Fetch,
+    Stage::Manifests,
+    Stage::Completeness,
+];
+
+/// The faults above a cursor of the stages before that of digests, in their order.
 fn early_above(
     alloc: Global,
     facts: &Facts,
@@ -288,27 +277,30 @@ fn early_above(
     after: Option<&Fault>,
 ) -> Result<Vec<Fault>, AllocError>
     ensures { IfOk result (λ faults. ForCheckOf facts.now (option_copied profile.entry) (λ check.
-        AreAheadBefore check 6 (option_copied after.entry) faults.items)) }
+        AreAheadBefore check 7 (option_copied after.entry) faults.items)) }
 {
     let mut faults = Vec::new(alloc);
-    for stage in Stage::Declaration as u8..Stage::Completeness as u8 {
+    for stage in BEFORE_DIGESTS {
         let mut of_stage = stage_above(alloc, facts, profile, stage, after)?;
         faults.append(&mut of_stage)?;
     }
     Ok(faults)
 }
 
-/// The faults above a cursor of a stage other than the seventh, in their order.
-fn stage_above(
+/// The faults above a cursor of a stage other than that of digests, in their order.
+pub(crate) fn stage_above(
     alloc: Global,
     facts: &Facts,
     profile: Option<&Profile>,
-    stage: u8,
+    stage: Stage,
     after: Option<&Fault>,
 ) -> Result<Vec<Fault>, AllocError>
-    requires { stage ≢ 7 }
-    ensures { IfOk result (λ faults. ForCheckOf facts.now (option_copied profile.entry) (λ check.
-        IsStageAbove check stage (option_copied after.entry) faults.items)) }
+    requires { stage ≢ stage_of.Validity }
+    ensures faults { IfOk result (λ faults. ForCheckOf facts.now (option_copied profile.entry)
+        (λ check. IsStageAbove check (stage_number stage) (option_copied after.entry)
+        faults.items)) }
+    ensures none { IfOk result (λ faults.
+        reaches facts.now.options.depth (stage_number stage) ≡ false → faults.items ≡ []) }
 {
-    Ok(above(stage_faults(alloc, facts, profile, stage)?, after))
+    Ok(above(faults_of_stage(alloc, facts, profile, stage)?, after))
 }

@@ -1,21 +1,17 @@
-use Rattle.bag_report.proofs.Common.{◌≡◌, ◌∙◌, sym, true, filter, rules, option_copied, reaches, asks, Check}
-use Rattle.std.proofs.lemmas.Fn.{filter_same}
-use Rattle.bag_report.proofs.Asked.{asked_of_stage, not_reached, reads_more}
+use Rattle.bag_report.proofs.Common.{[], refl, sym, option_copied, Check}
+use Rattle.bag_facts.specs.declared.stage.Stage.TheVariants as of
+use Rattle.bag_report.proofs.Asked.{asked_of_stage}
+use Rattle.bag_report.proofs.Found.{no_stage}
 use Rattle.bag_report.proofs.stages.stage_faults.Goals as goal
 
-pub returns-then-not-has_stage-clause-faults : goal.returns-then-not-has_stage-clause-faults
-returns-then-not-has_stage-clause-faults c = λ bag facts other.
-    let check : Check =
-    record { bag = bag; profile = option_copied c.args.profile; options = c.args.facts.now.options } in
-    not_reached check c.args.stage _ (sym c.has_stage.ensures ∙ c.if-not-has_stage.true) c.new.ensures.items
-
-pub returns-clause-faults : goal.returns-clause-faults
-returns-clause-faults c = λ bag facts other.
+pub returns-in_default-clause-faults : goal.returns-in_default-clause-faults
+returns-in_default-clause-faults c = λ bag facts other.
     let options = c.args.facts.now.options in
     let check : Check = record { bag = bag; profile = option_copied c.args.profile; options = options } in
-    let reach : reaches options.depth c.args.stage ≡ true = sym c.has_stage.ensures ∙ c.if-not-has_stage.false in
-    let found = c.in_ok-faults.faults.items in
-    let kept : c.retain.new.self.items ≡ filter (λ f. asks options f.code) found =
-    filter_same _ (λ f. asks options f.code) _ (λ f b after call. search rules) _ _ c.retain.ensures.filtered in
-    rw kept (asked_of_stage check c.args.stage found
-    (c.in_ok-faults.ensures.faults bag facts other (reads_more options.depth c.args.stage reach)))
+    rw c.new.ensures.items
+    (asked_of_stage check c.args.stage []
+    (no_stage options.clashes bag (option_copied c.args.profile) [] c.args.stage
+    (λ e. c.in_default.ensures of.Declaration (sym e)) (λ e. c.in_default.ensures of.Parts (sym e))
+    (λ e. c.in_default.ensures of.Metadata (sym e)) (λ e. c.in_default.ensures of.Fetch (sym e))
+    (λ e. c.in_default.ensures of.Manifests (sym e)) (λ e. c.in_default.ensures of.Completeness (sym e))
+    (λ e. c.in_default.ensures of.Validity (sym e)) (λ e. c.in_default.ensures of.Conformance (sym e)) refl))

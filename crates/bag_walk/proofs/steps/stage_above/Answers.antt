@@ -1,11 +1,12 @@
 use Rattle.bag_walk.proofs.Common.{subst, sym, option_copied, Check, IsStageAbove}
+use Rattle.bag_facts.specs.Stage.{stage_number}
 use Rattle.bag_walk.proofs.Stages.{stage_ahead}
 use Rattle.bag_walk.proofs.steps.stage_above.Goals as goal
 
-pub returns : goal.returns
-returns c = λ bag facts.
+pub returns-clause-faults : goal.returns-clause-faults
+returns-clause-faults c = λ bag facts.
     let after = option_copied c.args.after in
     let check : Check =
     record { bag = bag; profile = option_copied c.args.profile; options = c.args.facts.now.options } in
-    subst (IsStageAbove check c.args.stage after) (sym c.above.ensures)
-    (stage_ahead check after c.args.stage _ (c.in_ok-stage_faults.ensures.faults bag facts c.requires))
+    subst (IsStageAbove check (stage_number c.args.stage) after) (sym c.above.ensures)
+    (stage_ahead check after (stage_number c.args.stage) _ (c.in_ok-faults_of_stage.ensures.faults bag facts c.requires))

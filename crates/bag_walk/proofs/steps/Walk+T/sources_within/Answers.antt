@@ -1,7 +1,7 @@
 use Rattle.bag_walk.proofs.Common.{◌++◌, List, Option, refl, append-nil, option_copied, Bag, Fault, IsFactsOf, Check}
 use Rattle.bag_walk.proofs.Common.{faults_of_files, paths_to_sum}
 use Rattle.bag_walk.specs.StartPart.{IsAheadWithin}
-use Rattle.bag_walk.proofs.Stages.{Hold, all_joined, complete_below, early_below, late_behind, none_to_open, sums_below}
+use Rattle.bag_walk.proofs.Stages.{Hold, all_joined, early_below, late_behind, none_to_open, sums_below}
 use Rattle.bag_walk.proofs.Within.{seventh, to_open}
 use Rattle.bag_walk.proofs.steps.Walk+T.sources_within.Goals as goal
 
@@ -11,31 +11,26 @@ returns g c =
     let bounds = c.args.bounds.now in
     let validity = c.in_ok-validity.validity in
     let has = c.in_ok-validity.ensures in
-    let complete = c.in_ok-completeness.completeness.list.faults in
     let late = c.in_ok-late.late.items in
     let check : Bag → Check = λ bag.
     record { bag = bag; profile = option_copied c.args.profile; options = c.args.facts.now.options } in
     let sums : Bag → List Fault = λ bag. validity.found ++ faults_of_files bag validity.after validity.pending in
     let hold : (bag : Bag) → IsFactsOf bag c.args.facts.now
-    → Hold (IsAheadWithin (check bag) after bounds) c.in_ok-early.early.items complete (sums bag) late = λ bag h.
+    → Hold (IsAheadWithin (check bag) after bounds) c.in_ok-early.early.items (sums bag) late = λ bag h.
     record {
       first = c.in_ok-early.ensures bag h;
-      sixth = c.in_ok-completeness.ensures (option_copied c.args.profile) bag h;
       seventh =
           seventh bounds (check bag) after (sums bag) (λ full. has.faults bag h full) (λ below.
           rw ((has.none below).0, (has.none below).1) refl);
       eighth = c.in_ok-late.ensures bag h;
     } in
-    rw (c.new-5.ensures, c.new-4.ensures, c.new-3.ensures, c.new-2.ensures, c.new.ensures) (record {
+    rw (c.new-4.ensures, c.new-3.ensures, c.new-2.ensures, c.new.ensures) (record {
       of = λ bag h.
           let all = hold bag h in (
-            (all.first.ascending, early_below all, λ ordered. none_to_open (complete ++ (sums bag ++ late))),
+            (all.first.ascending, early_below all, λ ordered. none_to_open (sums bag ++ late)),
             (
-              (all.sixth.ascending, complete_below all, λ ordered. none_to_open (sums bag ++ late)),
-              (
-                (has.of bag h, sums_below all, λ ordered. late_behind all (paths_to_sum validity.pending)),
-                all.eighth.ascending,
-              ),
+              (has.of bag h, sums_below all, λ ordered. late_behind all (paths_to_sum validity.pending)),
+              all.eighth.ascending,
             ),
           );
       stands = λ bag h. all_joined (hold bag h);

@@ -1,29 +1,13 @@
-use Rattle.bag_walk.proofs.Common.{arith, option_copied, refl, opens_all_first}
-use Rattle.bag_facts.proofs.Refusing.{facts_stop_of_memory}
-use Rattle.bag_walk.proofs.Stages.{sources_started}
+use Rattle.bag_walk.proofs.WholeRun.{whole_started}
 use Rattle.bag_walk.proofs.steps.Walk+T.start.Goals as goal
 
-pub returns-in-Ok-sources_of-clause-started : goal.returns-in-Ok-sources_of-clause-started
-returns-in-Ok-sources_of-clause-started g c =
-    let facts = c.in-Ok.facts in
-    let read = c.in-Ok.ensures in
-    rw (c.new.ensures, ← c.as_ref.ensures.value) (record {
-      no_failure = read.no_failure;
-      plain = read.plain;
-      opened = (facts.listing, read.seen.2.ordered, (λ honest. (read.facts honest).listing), read.opened);
-      shown = refl;
-      started =
-          sources_started _ (g.T.Tree.state c.args.tree) (option_copied c.args.profile) c.args.options _ facts _
-          (g.met.T.Tree.is_bag c.args.tree) read.facts read.seen read.options c.in-Ok-sources_of.ensures;
-    })
-
-pub returns-clause-refused : goal.returns-clause-refused
-returns-clause-refused g c =
-    let memory = c.out_of_memory.ensures in
+pub returns-in-Ok-clause-started : goal.returns-in-Ok-clause-started
+returns-in-Ok-clause-started g c =
+    let begun = rw c.only_part.ensures at c.in-Ok.ensures.started in
     record {
-      opened_first = grind (arith, opens_all_first);
-      refused_at = λ some. absurd (some memory.1);
-      stop =
-          facts_stop_of_memory c.args.options _ _ c.out_of_memory.result memory
-          c.in-Ok.ensures.no_failure;
+      no_failure = begun.no_failure;
+      plain = begun.plain;
+      opened = begun.opened;
+      shown = begun.shown;
+      started = whole_started begun.started;
     }
