@@ -1,5 +1,8 @@
 //! The digests of a listed file.
 ghost use Rattle.std.specs.Prelude.{◌≡◌, ◌≢◌, ◌<◌, ◌∷◌, ◌++◌, [], length, IfOk, IfErr, OnOk, OnErr};
+ghost use Rattle.std.specs.Prelude.{List};
+ghost use Rattle.bag_text.specs.declared.alg.Alg.{Alg};
+ghost use Rattle.bag_tree.specs.Digests.{HaveTaken};
 ghost use Rattle.bag_tree.specs.Tree.{Keeps, NothingFailed, IsRefusedAt};
 ghost use Rattle.bag_tree.specs.FileReads.{OpensAtMost};
 ghost use Rattle.bag_tree.specs.Whole.{MayRefuseWhole};
@@ -7,8 +10,10 @@ ghost use Rattle.bag_tree.specs.declared.answer.Answer.TheVariants.{Refused};
 ghost use Rattle.bag_tree.specs.declared.tree_fault.TreeFault.TheVariants.{Changed};
 ghost use Rattle.bag_tree.specs.FileSums.{AreSumsOfFile};
 
+use crate::file_reading::{Taker, read_file};
 use crate::{Digests, FileEntry, Sums, Tree, TreeFault};
 use bag_text::AlgSet;
+use std::alloc::AllocError;
 
 /// The digests of a listed file by all algorithms of a set, in one pass (RFC 8493, 2.4).
 ///
@@ -37,23 +42,21 @@ pub fn digest_file<T: Tree>(
     ensures answered { IfErr result (λ fault.
         fault ≢ Changed → (T.state tree.new).last ≡ Refused fault) }
 {
-    tree.open_file(entry.path.as_str())?;
     let mut digests = Digests::new(algs);
-    let mut left = entry.size;
-    loop {
-        let count = tree.read(buffer)?;
-        if count == 0 {
-            break;
-        }
-        if left < count as u64 {
-            return Err(TreeFault::Changed);
-        }
-        left -= count as u64;
-        digests.update(&buffer[..count]);
-    }
-    if left == 0 {
-        Ok(digests.finish())
-    } else {
-        Err(TreeFault::Changed)
+    read_file(tree, entry, buffer, &mut digests)?;
+    Ok(digests.finish())
+}
+
+impl Taker for Digests {
+    ghost has_taken = { λ start now bytes. (asked : List Alg) → HaveTaken asked start []
+        → HaveTaken asked now bytes };
+
+    ghost may_refuse = { ⊥ };
+
+    ghost starts = { λ _ _ begun. begun };
+
+    fn take(&mut self, bytes: &[u8]) -> Result<(), AllocError> {
+        self.update(bytes);
+        Ok(())
     }
 }

@@ -27,6 +27,7 @@ mod changing_files;
 mod digests;
 mod event;
 mod file_change;
+mod file_reading;
 mod file_sums;
 mod given_files;
 mod hasher;

@@ -1,42 +1,34 @@
 //! Why a tree refused a call.
-ghost use Rattle.std.specs.Prelude.{◌≡◌, []};
+ghost use Rattle.std.specs.Prelude.{◌≡◌, Some, []};
 ghost use Rattle.bag_tree.specs.declared.tree_fault.TreeFault.TheVariants.{Memory};
 ghost use Rattle.bag_tree.specs.Stop.{IsOutOfMemory, IsRefusalOf};
 ghost use Rattle.bag_tree.specs.Tree as spec;
 
 use bag_text::{Text, said};
 use std::alloc::{AllocError, AllocFailed, Global};
+use std::fmt;
 use thiserror::Error;
 
 /// Why a tree refused a call.
-#[derive(Clone, Copy, Debug, PartialEq, Eq, Error)]
+#[derive(Clone, Copy, Debug, PartialEq, Eq)]
 pub enum TreeFault {
     /// The system refused: a folder, a file or a read.
-    #[error("{word}", word = said::DEVICE)]
     Device,
     /// A symbolic link, a socket, a pipe or a device stands in the tree.
-    #[error("{word}", word = said::SPECIAL)]
     Special,
     /// A name isn't UTF-8.
-    #[error("{word}", word = said::NAME)]
     Name,
     /// There is no such file.
-    #[error("{word}", word = said::NOT_FOUND)]
     NotFound,
     /// There are more than 16,777,216 files and folders.
-    #[error("{word}", word = said::TOO_MANY)]
     TooMany,
     /// A file has more or fewer bytes than were listed.
-    #[error("{word}", word = said::CHANGED)]
     Changed,
     /// A read without an open file.
-    #[error("{word}", word = said::NONE_OPEN)]
     NoneOpen,
     /// Memory ran out.
-    #[error("{word}", word = said::MEMORY)]
     Memory,
     /// What was to be made is there.
-    #[error("{word}", word = said::EXISTS)]
     Exists,
 }
 
@@ -58,6 +50,16 @@ impl TreeFault {
         }
     }
 }
+
+impl fmt::Display for TreeFault {
+    ghost output = { λ fault. Some (spec.cause_word fault) };
+
+    fn fmt<W: fmt::Write>(&self, f: &mut fmt::Formatter<W>) -> fmt::Result {
+        f.write_str(self.word())
+    }
+}
+
+impl std::error::Error for TreeFault {}
 
 impl From<AllocError> for TreeFault {
     ghost from_gives = { λ _ e. e ≡ Memory };

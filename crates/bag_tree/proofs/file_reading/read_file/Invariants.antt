@@ -1,6 +1,6 @@
 use Rattle.bag_tree.proofs.Common.{◌≡◌, ◌+◌, ◌∷◌, ◌++◌, [], Keeps, HasOpen}
-use Rattle.bag_tree.specs.FileSums.{HasTakenSome}
-use Rattle.bag_tree.proofs.file_sums.digest_file.Given as goal
+use Rattle.bag_tree.specs.Whole.{HasTakenSome}
+use Rattle.bag_tree.proofs.file_reading.read_file.Given as goal
 
 abbrev pub invariant-loop-count : goal.invariant-loop-count
 invariant-loop-count g l =
@@ -12,7 +12,7 @@ invariant-loop-count g l =
       file_open : HasOpen (state l.tree);
       given : (state l.tree).given + l.left ≡ l.entry.size;
       listed : (state l.tree).listed ≡ (state l.fn.tree).listed;
-      taken : HasTakenSome (state l.fn.tree) (state l.tree) l.entry l.fn.algs l.digests l.left;
+      taken : HasTakenSome (g.S.Taker.has_taken l.fn.taker l.taker) (state l.fn.tree) (state l.tree) l.entry l.left;
     }
 
 abbrev pub decreases-loop-count : goal.decreases-loop-count
