@@ -1,9 +1,11 @@
 -- Sets of algorithms that are made one algorithm after another, of those that pass a test.
 use Rattle.bag_renew.proofs.Common.{Bool, true, false, not, IsTrue, List, [], ◌∷◌, ◌++◌, ◌&&◌, ◌||◌, ◌≡◌, ◌<◌, ◌≤◌}
-use Rattle.bag_renew.proofs.Common.{◌+◌, ◌∙◌, ℕ, length, take, get_or, refl, sym, ap, arith, Contains, filter, list_any}
+use Rattle.bag_renew.proofs.Common.{◌+◌, ◌∙◌, ℕ, cond, length, take, get_or, refl, sym, ap, arith, Contains, filter, list_any}
 use Rattle.bag_renew.proofs.Common.{algs, has_member, Alg}
 use Rattle.bag_renew.proofs.Common.{Bag, Renewal, has_payload_manifest, is_new_alg, keeps}
+use Rattle.bag_renew.specs.Composing.{written_algs}
 use Rattle.bag_renew.specs.Renewed.{algs_where, is_kept_alg, new_algs, writes_payload_manifest}
+use Rattle.bag_renew.specs.Target.{has_some}
 use Rattle.std.proofs.Common.{◌↔◌}
 use Rattle.std.proofs.lemmas.List.{get_or_default, take_all}
 use Rattle.std.proofs.lemmas.List.Folds.{list_any-append}
@@ -31,10 +33,10 @@ pub has_member_where : (p : Alg → Bool) (alg : Alg) → has_member (algs_where
 unfolding algs_where
 has_member_where p alg = has_member-filter p alg
 
-same_where : (p q : Alg → Bool) → ((alg : Alg) → p alg ≡ q alg) → algs_where p ≡ algs_where q
+pub same_where : (p q : Alg → Bool) → ((alg : Alg) → p alg ≡ q alg) → algs_where p ≡ algs_where q
 same_where p q same = λ i. algs_where (λ alg. same alg i)
 
-none_where : (p : Alg → Bool) → ((alg : Alg) → p alg ≡ false) → [] ≡ algs_where p
+pub none_where : (p : Alg → Bool) → ((alg : Alg) → p alg ≡ false) → [] ≡ algs_where p
 unfolding algs_where
 none_where p none = sym (λ i. filter (λ alg. none alg i) algs)
 
@@ -49,6 +51,26 @@ any_filter p q (x ∷ xs) = grind (arith, any_filter p q xs)
 pub any_where : (p q : Alg → Bool) → list_any q (algs_where p) ≡ list_any (λ alg. p alg && q alg) algs
 unfolding algs_where
 any_where p q = any_filter p q algs
+
+-- a set that isn't empty has a member
+pub has_some_by : (set : List Alg) (b : Bool) → (IsTrue b ↔ (set ≡ [])) → not b ≡ has_some set
+has_some_by [] true h = refl
+has_some_by [] false h = sym (h.1 refl)
+has_some_by (alg ∷ more) true h = let clash : alg ∷ more ≡ [] = h.0 refl in cc
+has_some_by (alg ∷ more) false h = refl
+
+some_by : (b : Bool) (alg : Alg) (passing : List Alg) (r : Bool) → has_some passing ≡ r
+    → has_some (cond b (alg ∷ passing) passing) ≡ (b || r)
+some_by true alg passing r is = refl
+some_by false alg passing r is = is
+
+some_filter : (p : Alg → Bool) (xs : List Alg) → has_some (filter p xs) ≡ list_any p xs
+some_filter p [] = refl
+some_filter p (x ∷ xs) = some_by (p x) x (filter p xs) (list_any p xs) (some_filter p xs)
+
+pub some_where : (p : Alg → Bool) → has_some (algs_where p) ≡ list_any p algs
+unfolding algs_where
+some_where p = some_filter p algs
 
 module _ (p : Alg → Bool) where
   -- those of these that pass
@@ -119,12 +141,9 @@ module _ (bag : Bag) (renewal : Renewal) where
       is
 
   -- a payload manifest is written where some new algorithm isn't kept
-  pub writes_some : (set kept : List Alg) (r : Bool) → set ≡ new_algs bag renewal
-      → kept ≡ algs_where (is_kept_alg bag renewal)
-      → r ≡ list_any (λ alg. has_member set alg && not (has_member kept alg)) algs
-      → r ≡ writes_payload_manifest bag renewal
-  writes_some set kept r new keeping is =
-      is ∙ (λ i. list_any (λ alg. has_member (new i) alg && not (has_member (keeping i) alg)) algs)
+  pub writes_some : has_some (written_algs bag renewal) ≡ writes_payload_manifest bag renewal
+  writes_some =
+      some_where (λ alg. has_member (new_algs bag renewal) alg && not (has_member (algs_where (is_kept_alg bag renewal)) alg))
       ∙ (λ i. list_any (λ alg. has_member_where (is_new_alg bag renewal) alg i
       && not (has_member_where (is_kept_alg bag renewal) alg i)) algs)
       ∙ sym (any_where (is_new_alg bag renewal) (λ alg. not (is_kept_alg bag renewal alg)))

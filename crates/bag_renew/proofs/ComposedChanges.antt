@@ -19,36 +19,23 @@ use Rattle.bag_renew.specs.Renewed.{in_path_order, reads_payload, with_path}
 use Rattle.bag_renew.specs.Summed.{AreSummed, files_to_read, is_to_read}
 use Rattle.bag_tags.specs.declared.summed.SummedFile.{SummedFile}
 
-turned : (a b : Bool) → b ≡ not a → a ≡ not b
-turned true b is = sym (ap not is)
-turned false b is = sym (ap not is)
-
 joined : (a b c d e f : List FileChange) → ((((a ++ b) ++ c) ++ d) ++ e) ++ f ≡ a ++ (b ++ (c ++ (d ++ (e ++ f))))
 joined a b c d e f = simp append_assoc
 
 module _ (bag : Bag) (renewal : Renewal) where
-  -- a text is written just where one is given
-  pub has_info : (lines : List (List ℕ)) (info : Option (List ℕ)) → IsInfoAfter bag renewal lines info
-      → is_some info ≡ writes_info bag renewal
-  has_info lines None other = sym other
-  has_info lines (Some text) new = sym new.0
-
-  pub no_info : (info : Option (List ℕ)) (none : Bool) → is_some info ≡ not none → is_some info ≡ writes_info bag renewal
-      → none ≡ not (writes_info bag renewal)
-  no_info info none asked is = turned none (writes_info bag renewal) (sym is ∙ asked)
-
   -- ---- of the files that were read
 
   module _ (files : List File) (info : Option (List ℕ)) where
     -- the files that are put first
-    pub first_is : (summed payload : List SummedFile) (first : List File)
+    pub first_is : (summed payload : List SummedFile) (first : List File) (rules : Rules) (written : List Alg)
         → AreSummed (new_algs bag renewal) files summed → payload ≡ filter (of_path is_payload_path) summed
-        → first ≡ with_path (tag_path Info) info ++ manifests_by (new_rules bag renewal) Payload (written_algs bag renewal) payload
+        → rules ≡ new_rules bag renewal → written ≡ written_algs bag renewal
+        → first ≡ with_path (tag_path Info) info ++ manifests_by rules Payload written payload
         → first ≡ first_from bag renewal files info
-    first_is summed payload first are some is =
+    first_is summed payload first rules written are some by_rules algs_are is =
         is
         ∙ ap (λ xs. with_path (tag_path Info) info ++ xs)
-        (ap (manifests_by (new_rules bag renewal) Payload (written_algs bag renewal)) some
+        ((λ i. manifests_by (by_rules i) Payload (algs_are i) (some i))
         ∙ manifests_some (new_algs bag renewal) files summed are (new_rules bag renewal) (written_algs bag renewal)
         (written_is_new bag renewal))
 

@@ -15,13 +15,6 @@ not_there : (had dropped : Bool) → dropped ≡ false → (had && dropped) ≡ 
 not_there true dropped is = is
 not_there false dropped is = refl
 
--- where none is written, and what is dropped isn't unchecked, it is read for what is dropped
-pub read_for_dropped : (writes unchecked drops : Bool) → writes ≡ false → unchecked ≡ false
-    → drops ≡ (writes || (not unchecked && drops))
-read_for_dropped false false drops none is = refl
-read_for_dropped true unchecked drops none is = absurd (false≢true (sym none))
-read_for_dropped false true drops none is = absurd (false≢true (sym is))
-
 module _ (bag : Bag) (renewal : Renewal) where
   -- where one is dropped, but for unchecked, the payload is read
   pub read_to_drop : renewal.unchecked ≡ false → (alg : Alg) → is_dropped_alg bag renewal alg ≡ true

@@ -43,7 +43,6 @@ pub mod OnTheWayFiles
 pub mod OnTheWayFromV097
 pub mod OneChange
 pub mod Openings
-pub mod Passing
 pub mod PayloadFiles
 pub mod Places
 pub mod Placing
@@ -64,6 +63,7 @@ pub mod Stopping
 pub mod SummedFiles
 pub mod Summing
 pub mod TagNames
+pub mod Targets
 pub mod Telling
 pub mod Valid
 pub mod WholeRenewal

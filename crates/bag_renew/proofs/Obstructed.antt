@@ -143,7 +143,7 @@ module _ (bag : Bag) (facts : Facts) (of : IsFactsOf bag facts) where
     module _ (none : find (λ entry. is_unlisted bag renewal entry.path) files ≡ None) (name : List ℕ)
         (to_name : IsToBeNamed bag Payload name) where
       some_names : list_any (keeps_naming bag renewal name) algs ≡ true
-      unfolding is_named_by_kept
+      unfolding is_named_by_kept is_unlisted
       some_names =
           not_false (is_payload_path name) (is_named_by_kept bag renewal name) to_name.1
           (none_passes (is_unlisted bag renewal) (paths_of bag) name

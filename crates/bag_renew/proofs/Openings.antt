@@ -47,6 +47,7 @@ use Rattle.bag_renew.specs.declared.checked.Unchecked.{Unchecked}
 use Rattle.bag_renew.specs.declared.checked.Unchecked.TheVariants.{Faulty, Stopped}
 use Rattle.bag_renew.specs.declared.fault.RenewFault.{RenewFault}
 use Rattle.bag_renew.specs.declared.fault.RenewFault.TheVariants as why
+use Rattle.bag_renew.specs.declared.target.Target.{Target}
 
 each_of : {A : Type 0} (P : A → Type 0) (xs : List A) → ((x : A) → Contains xs x → P x) → All P xs
 each_of P xs h = All-from_recursion P xs (each_from_members P xs h)
@@ -252,14 +253,14 @@ module _ (renewal : Renewal) (old mid new : TreeState) (is_bag : IsBag old.bag) 
 
   pub for_renewal_of_files : (facts : Facts) → facts.options ≡ full
       → ((bag : Bag) × IsBag bag × IsFactsOf bag facts) → (IsTrue old.honest → IsFactsOf old.bag facts)
-      → OpensWanted full old mid → (algs : List Alg) → AllowsRenewal facts renewal algs
-      → (IsTrue old.honest → IsOutOfTheWay old.bag) → (b : Bool)
-      → IfBagRead facts (λ bag. b ≡ reads_payload bag renewal)
-      → OpensFirstToRead b facts.listing.files mid new → OpensForRenewal renewal old new
-  for_renewal_of_files facts options seen of tags algs allows way b reads first =
+      → OpensWanted full old mid → (target : Target) → AllowsRenewal facts renewal target
+      → (IsTrue old.honest → IsOutOfTheWay old.bag)
+      → OpensFirstToRead target.reads_payload facts.listing.files mid new → OpensForRenewal renewal old new
+  for_renewal_of_files facts options seen of tags target allows way first =
       for_renewal renewal old new
-      (then_first (λ bag. reads_payload bag renewal) (IsReadyFor renewal old) old mid new is_bag facts seen of tags b
-      (λ bag is. reads bag is (deep facts bag is options))
+      (then_first (λ bag. reads_payload bag renewal) (IsReadyFor renewal old) old mid new is_bag facts seen of tags
+      target.reads_payload
+      (λ bag is. (allows.decided bag is (deep facts bag is options)).reads_payload)
       (λ bag is. record {
         none_early = none_early facts bag is options allows.none;
         free = allows.free bag is (deep facts bag is options);

@@ -3,8 +3,6 @@ use Rattle.bag_renew.proofs.Common.{◌≡◌, ◌∙◌, inr, ℕ, false, is_so
 use Rattle.bag_renew.proofs.Common.{changes, files_of, new_algs, writes_info}
 use Rattle.bag_text.specs.Lines.{lines_of_file}
 use Rattle.bag_facts.specs.FactsOfBag.{IfBagRead}
-use Rattle.bag_stages.specs.MetadataStage.{bag_info_txt}
-use Rattle.bag_stages.specs.TagFiles.{lines_in}
 use Rattle.bag_facts.specs.declared.facts.Facts.{Facts}
 use Rattle.bag_tree.specs.Tree.{TreeState}
 use Rattle.bag_renew.specs.Composing.{AreOfFiles}
@@ -17,7 +15,7 @@ use Rattle.bag_renew.specs.Request.{is_bad_request}
 use Rattle.bag_renew.specs.Summed.{AreSummed, files_to_read}
 use Rattle.bag_renew.specs.declared.fault.RenewFault.TheVariants.{Memory}
 use Rattle.bag_tags.specs.declared.summed.SummedFile.{SummedFile}
-use Rattle.bag_renew.proofs.ComposedChanges.{changes_of_bag, has_info}
+use Rattle.bag_renew.proofs.ComposedChanges.{changes_of_bag}
 use Rattle.bag_renew.proofs.DroppedManifests.{read_to_drop}
 use Rattle.bag_renew.proofs.ReadForRenewal.{deep, new_info, read_for_renewal}
 
@@ -29,7 +27,7 @@ module _ (renewal : Renewal) (old new : TreeState) (facts : Facts) (summed : Lis
   module _ (info : Option (List ℕ))
       (is_info : IfBagRead facts (λ bag. IsInfoAfter bag renewal (lines_of_file read) info)) (made : List FileChange)
       (is : IfBagRead facts (λ bag. (files : List File) → AreSummed (new_algs bag renewal) files summed
-      → is_some info ≡ writes_info bag renewal → made ≡ changes_from bag renewal files info)) where
+      → made ≡ changes_from bag renewal files info)) where
     -- over any tree they are of the files that were read
     compared : ChangesCompared renewal old new made
     compared =
@@ -43,8 +41,7 @@ module _ (renewal : Renewal) (old new : TreeState) (facts : Facts) (summed : Lis
           old_info_is = has.info_of;
           info = info;
           info_is = after;
-          changes_are = is bag has.seen.2 far has.files (has.summed_of bag has.seen.2)
-              (has_info bag renewal (lines_of_file read) info after);
+          changes_are = is bag has.seen.2 far has.files (has.summed_of bag has.seen.2);
         }
 
     -- of an honest tree they are those of the bag
@@ -52,7 +49,7 @@ module _ (renewal : Renewal) (old new : TreeState) (facts : Facts) (summed : Lis
     of_bag honest =
         let new_one = new_info renewal old new facts summed read has honest info is_info in
         is old.bag (has.of_bag honest) (deep renewal old new facts summed read has)
-        (files_to_read (reads_payload old.bag renewal) (files_of old.bag)) (has.sums honest) (has_info old.bag renewal (lines_in old.bag bag_info_txt) info new_one)
+        (files_to_read (reads_payload old.bag renewal) (files_of old.bag)) (has.sums honest)
         ∙ changes_of_bag old.bag renewal info new_one
 
     pub planned : is_bad_request renewal.elements ≡ false → AreOfFiles made → HasPlanned renewal old new made

@@ -47,6 +47,7 @@ use Rattle.bag_renew.specs.declared.checked.Unchecked.{Unchecked}
 use Rattle.bag_renew.specs.declared.checked.Unchecked.TheVariants as checked
 use Rattle.bag_renew.specs.declared.fault.RenewFault.{RenewFault}
 use Rattle.bag_renew.specs.declared.fault.RenewFault.TheVariants as why
+use Rattle.bag_renew.specs.declared.target.Target.{Target}
 use Rattle.bag_tags.specs.declared.summed.SummedFile.{SummedFile}
 
 -- ---- a stop
@@ -313,32 +314,33 @@ module _ (renewal : Renewal) (facts : Facts) (old mid new : TreeState) (options 
   deep : facts.options.depth ≢ Declaration
   deep e = let at : full.depth ≡ Declaration = sym (ap (λ (o : Options). o.depth) options) ∙ e in cc
 
-  no_obstacle : (algs : List Alg) → AllowsRenewal facts renewal algs → (IsTrue old.honest → IsOutOfTheWay old.bag)
+  no_obstacle : (target : Target) → AllowsRenewal facts renewal target → (IsTrue old.honest → IsOutOfTheWay old.bag)
       → IsTrue old.honest → HasNoObstacle old.bag renewal
-  no_obstacle algs allows way honest = record {
+  no_obstacle target allows way honest = record {
     free = allows.free old.bag (of honest) deep;
     way = way honest;
     names = allows.names old.bag (of honest) deep;
   }
 
   -- a file was refused, or has another digest
-  pub refused_by_check : OpensAll full facts.listing.files old mid → (algs : List Alg)
-      → AllowsRenewal facts renewal algs → (IsTrue old.honest → IsOutOfTheWay old.bag) → (with_payload : Bool)
-      → IfBagRead facts (λ bag. with_payload ≡ reads_payload bag renewal)
-      → (e : Unchecked) (fault : RenewFault) → StopsChecking (to_read with_payload facts.listing.files) mid new e
-      → IsFaultyFile facts (to_read with_payload facts.listing.files) mid e → IsRefusalOf e fault
+  pub refused_by_check : OpensAll full facts.listing.files old mid → (target : Target)
+      → AllowsRenewal facts renewal target → (IsTrue old.honest → IsOutOfTheWay old.bag)
+      → (e : Unchecked) (fault : RenewFault)
+      → StopsChecking (to_read target.reads_payload facts.listing.files) mid new e
+      → IsFaultyFile facts (to_read target.reads_payload facts.listing.files) mid e → IsRefusalOf e fault
       → MayRefuseReading renewal old new fault
-  refused_by_check tags algs allows way with_payload reads (checked.Stopped stop) fault stops faulty is =
+  refused_by_check tags target allows way (checked.Stopped stop) fault stops faulty is =
       refused_stop renewal old new stop fault
-      (stop_at_file facts old mid new seen of keeps calm tags (λ bag. reads_payload bag renewal) with_payload
-      (λ bag is. reads bag is deep) stop stops)
+      (stop_at_file facts old mid new seen of keeps calm tags (λ bag. reads_payload bag renewal) target.reads_payload
+      (λ bag is. (allows.decided bag is deep).reads_payload) stop stops)
       is
-  refused_by_check tags algs allows way with_payload reads (checked.Faulty found) fault stops faulty is =
+  refused_by_check tags target allows way (checked.Faulty found) fault stops faulty is =
       subst (MayRefuseReading renewal old new) (sym is)
       (λ honest. (
-        subst (λ b. IsFirst (IsLookedFor old.bag b) found) (reads old.bag (of honest) deep)
-            (first_looked_for facts algs old mid new options of keeps allows.none with_payload found faulty honest),
-        λ seventh. no_obstacle algs allows way honest,
+        subst (λ b. IsFirst (IsLookedFor old.bag b) found) (allows.decided old.bag (of honest) deep).reads_payload
+            (first_looked_for facts target.algs old mid new options of keeps allows.none target.reads_payload found faulty
+            honest),
+        λ seventh. no_obstacle target allows way honest,
       ))
 
   its_obstacle : (fault : RenewFault)
@@ -399,45 +401,48 @@ module _ (renewal : Renewal) (facts : Facts) (old mid new : TreeState) (options 
     refused_by_facts why.Fetch h = its_obstacle why.Fetch h
 
   -- all was read and checked
-  module _ (algs : List Alg) (allows : AllowsRenewal facts renewal algs)
-      (way : IsTrue old.honest → IsOutOfTheWay old.bag) (with_payload : Bool)
-      (reads : IfBagRead facts (λ bag. with_payload ≡ reads_payload bag renewal))
-      (summed : List SummedFile) (info : List ℕ) (h : HasChecked facts with_payload algs old new summed info) where
+  module _ (target : Target) (allows : AllowsRenewal facts renewal target)
+      (way : IsTrue old.honest → IsOutOfTheWay old.bag) (summed : List SummedFile) (info : List ℕ)
+      (h : HasChecked facts target.reads_payload target.algs old new summed info) where
+    reads : (bag : Bag) → IsFactsOf bag facts → target.reads_payload ≡ reads_payload bag renewal
+    reads bag is = (allows.decided bag is deep).reads_payload
+
     pub has_read_bag : IsBag old.bag → Keeps old new → NothingFailed old new
         → HasReadBag renewal old new facts summed info
     has_read_bag is_bag kept never = record {
       read = record {
         keeps = kept;
         no_failure = never;
-        opened = λ honest. subst (λ b. OpensRead b old new) (reads old.bag (of honest) deep)
-            (opens_read facts with_payload algs old new summed info h honest);
-        can = λ honest. let none = no_obstacle algs allows way honest in record {
+        opened = λ honest. subst (λ b. OpensRead b old new) (reads old.bag (of honest))
+            (opens_read facts target.reads_payload target.algs old new summed info h honest);
+        can = λ honest. let none = no_obstacle target allows way honest in record {
           is_bag = is_bag;
-          damaged = damaged facts with_payload algs old new summed info h honest;
+          damaged = damaged facts target.reads_payload target.algs old new summed info h honest;
           fetch = none.free.fetch;
           nameable = none.names.nameable;
           listed = none.names.listed;
           some_alg = none.free.some_alg;
         };
         valid = λ honest all.
-            none_at_all facts with_payload algs old new summed info h honest (reads old.bag (of honest) deep ∙ all);
-        no_obstacle = no_obstacle algs allows way;
+            none_at_all facts target.reads_payload target.algs old new summed info h honest
+            (reads old.bag (of honest) ∙ all);
+        no_obstacle = no_obstacle target allows way;
       };
       options = options;
       seen = (h.bag, h.is_bag, h.of_it);
       of_bag = of;
       sums = λ honest.
           subst (λ some. AreSummed some (files_to_read (reads_payload old.bag renewal) (files_of old.bag)) summed)
-          (allows.new old.bag (of honest) deep)
-          (subst (λ b. AreSummed algs (files_to_read b (files_of old.bag)) summed) (reads old.bag (of honest) deep)
-          (sums_are facts with_payload algs old new summed info h honest));
+          (allows.decided old.bag (of honest) deep).algs
+          (subst (λ b. AreSummed target.algs (files_to_read b (files_of old.bag)) summed) (reads old.bag (of honest))
+          (sums_are facts target.reads_payload target.algs old new summed info h honest));
       files = h.checked.files;
-      compared = subst (λ b. AreCompared h.bag b h.checked.files old new) (reads h.bag h.of_it deep)
-          (compared facts with_payload algs old new summed info h);
+      compared = subst (λ b. AreCompared h.bag b h.checked.files old new) (reads h.bag h.of_it)
+          (compared facts target.reads_payload target.algs old new summed info h);
       summed_of = λ bag is.
-          subst (λ some. AreSummed some h.checked.files summed) (allows.new bag is deep) h.checked.sums;
+          subst (λ some. AreSummed some h.checked.files summed) (allows.decided bag is deep).algs h.checked.sums;
       info_of = h.checked.info_of;
-      lines = λ honest. info_lines facts with_payload algs old new summed info h honest;
+      lines = λ honest. info_lines facts target.reads_payload target.algs old new summed info h honest;
     }
 
 -- for the checking of a whole bag, and of what is known of it

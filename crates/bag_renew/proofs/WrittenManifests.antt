@@ -15,7 +15,7 @@ use Rattle.bag_tags.specs.Summed.{manifests_by, summed_entry}
 use Rattle.bag_renew.proofs.AlgsMade.{any_where, has_member_where}
 use Rattle.bag_renew.proofs.AlgsWhere.{alg_in, passes}
 use Rattle.bag_renew.proofs.KeptOr.{kept_or_written}
-use Rattle.bag_renew.proofs.Passing.{same_where}
+use Rattle.bag_renew.proofs.AlgsMade.{same_where}
 use Rattle.bag_renew.proofs.SummedFiles.{filter_within}
 use Rattle.bag_renew.specs.Composing.{written_algs}
 use Rattle.bag_renew.specs.NewManifests.{manifests_for}

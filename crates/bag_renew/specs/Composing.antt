@@ -44,6 +44,10 @@ is_tag_path path = not (is_payload_path path)
 abbrev pub AreInPathOrder : List Alg → List File → List SummedFile → Type 0
 AreInPathOrder algs files summed = AreSummed algs (in_path_order files) summed
 
+-- the members of two sets of algorithms
+abbrev pub in_either : List Alg → List Alg → List Alg
+in_either some more = algs_where (λ alg. has_member some alg || has_member more alg)
+
 -- the members of one set of algorithms that aren't in another
 abbrev pub in_first : List Alg → List Alg → List Alg
 in_first set other = algs_where (λ alg. has_member set alg && not (has_member other alg))

@@ -25,6 +25,7 @@ pub mod Request
 pub mod Reserved
 pub mod Stops
 pub mod Summed
+pub mod Target
 pub mod Telling
 pub mod Valid
 pub mod WrittenElements

@@ -70,7 +70,7 @@ unfoldable pub is_named_by_kept : Bag → Renewal → Path → Bool
 is_named_by_kept bag renewal path = list_any (keeps_naming bag renewal path) algs
 
 -- a file of the payload that none of them names
-abbrev pub is_unlisted : Bag → Renewal → Path → Bool
+unfoldable pub is_unlisted : Bag → Renewal → Path → Bool
 is_unlisted bag renewal path =
     is_payload_path path && not (is_named_by_kept bag renewal path)
 

@@ -3,7 +3,6 @@ use Rattle.std.specs.Prelude.{ℕ, ◌≡◌, ◌≢◌, ◌⊎◌, ◌<◌, ◌
 use Rattle.std.specs.List.{list_any}
 use Rattle.bag_text.specs.Code.{stage}
 use Rattle.bag_text.specs.Lines.{lines_of_file}
-use Rattle.bag_text.specs.declared.alg.Alg.{Alg}
 use Rattle.bag_facts.specs.FactsOfBag.{IfBagRead, IsFactsOf}
 use Rattle.bag_facts.specs.Stops.{IsOfListing, MayRefuseFacts, ReportsAnswer}
 use Rattle.bag_facts.specs.TagReader.{OpensAll}
@@ -32,12 +31,14 @@ use Rattle.bag_renew.specs.Request.{is_bad_request}
 use Rattle.bag_renew.specs.Reserved.{IsOutOfTheWay, reserved_names}
 use Rattle.bag_renew.specs.Stops.{IsOfFile}
 use Rattle.bag_renew.specs.Summed.{AreSummed, IsInfoAmong, files_to_read}
+use Rattle.bag_renew.specs.Target.{IsTargetFor}
 use Rattle.bag_renew.specs.Valid.{CanRenew, HasGoodElements}
 use Rattle.bag_renew.specs.declared.checked.Unchecked.{Unchecked}
 use Rattle.bag_renew.specs.declared.checked.Unchecked.TheVariants as checked
 use Rattle.bag_renew.specs.declared.fault.RenewFault.{RenewFault}
 use Rattle.bag_renew.specs.declared.fault.RenewFault.TheVariants as why
 use Rattle.bag_renew.specs.declared.renewal.Renewal.{Renewal}
+use Rattle.bag_renew.specs.declared.target.Target.{Target}
 use Rattle.bag_tags.specs.declared.summed.SummedFile.{SummedFile}
 
 -- the number of the payload's files and of their bytes can be written
@@ -121,14 +122,13 @@ MayRefuseReading renewal old new fault =
     IsTrue old.honest → HasNoEarlyFault old.bag × IsObstacle old.bag renewal fault
 
 -- What is known of a bag allows that it is renewed: there is no fault of the stages that open no
--- payload file, no obstacle, and no element that can't be written; and these are the algorithms of
--- its new manifests.
-pub record AllowsRenewal (facts : Facts) (renewal : Renewal) (algs : List Alg) : Type 0 where
+-- payload file, no obstacle, and no element that can't be written; and this is made of it.
+pub record AllowsRenewal (facts : Facts) (renewal : Renewal) (target : Target) : Type 0 where
   pub none : HasNoneBefore facts 7
   pub free : IfBagRead facts (λ bag. IsFreeToChange bag renewal)
   pub names : IfBagRead facts (λ bag. CanNameFiles bag renewal)
   pub info : IfBagRead facts (λ bag. CanWriteInfo bag renewal)
-  pub new : IfBagRead facts (λ bag. algs ≡ new_algs bag renewal)
+  pub decided : IsTargetFor facts renewal target
 
 -- Or it doesn't: by the first fault; where there is none, by an obstacle, as a folder is that is in
 -- the way; and else by an element that can't be written. Or a look for a folder was refused, or

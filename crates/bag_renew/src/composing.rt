@@ -1,18 +1,17 @@
 //! The changes that renew a bag, composed of what was read of it.
-ghost use Rattle.std.specs.Prelude.{◌≡◌, ◌++◌, IfOk, List, OnOk, is_some, map};
-ghost use Rattle.bag_facts.specs.FactsOfBag.{IfBagRead};
+ghost use Rattle.std.specs.Prelude.{◌≡◌, ◌++◌, IfOk, List, OnOk, map};
 ghost use Rattle.bag_renew.specs.Changes.{put};
 ghost use Rattle.bag_renew.specs.Composed.{IsComposed, PutsFiles};
 ghost use Rattle.bag_renew.specs.Composing.{AreOfFiles, tag_manifests_of};
 ghost use Rattle.bag_renew.specs.Planned.{changes_from};
-ghost use Rattle.bag_renew.specs.Renewed.{File, new_algs, writes_info};
+ghost use Rattle.bag_renew.specs.Renewed.{File, new_algs};
 ghost use Rattle.bag_renew.specs.Summed.{AreSummed};
+ghost use Rattle.bag_renew.specs.Target.{IfTarget, OfTarget};
 
-use crate::Renewal;
-use crate::algorithms::{new_algs, new_rules};
 use crate::named::{named_tag_files, parted};
 use crate::removing::{dropped, opened};
 use crate::tag_files::{first_files, kept_names, last_files};
+use crate::target::Target;
 use bag_facts::Facts;
 use bag_read::Kind;
 use bag_tags::{SummedFile, TagFile, manifests_by};
@@ -36,22 +35,21 @@ pub(crate) struct Composed {
 pub(crate) fn changes_of(
     alloc: Global,
     facts: &Facts,
-    renewal: &Renewal,
+    target: &Target,
     summed: Vec<SummedFile>,
     info: Option<Items<u8>>,
 ) -> Result<Vec<FileChange>, AllocError>
-    ensures changes { IfOk result (λ made. IfBagRead facts.now (λ bag. (files : List File)
-        → AreSummed (new_algs bag renewal.now) files summed.items
-        → is_some info ≡ writes_info bag renewal.now
-        → made.items ≡ changes_from bag renewal.now files info)) }
+    ensures changes { IfOk result (λ made. IfTarget facts.now target.now (λ bag renewal.
+        (files : List File) → AreSummed (new_algs bag renewal) files summed.items
+        → made.items ≡ changes_from bag renewal files info)) }
     ensures files { IfOk result (λ made. AreOfFiles made.items) }
 {
-    let rules = new_rules(facts, renewal);
-    let algs = new_algs(facts, renewal).members(alloc)?;
-    let Composed { first, last, named } = compose(alloc, facts, renewal, summed, info)?;
+    let rules = target.rules;
+    let algs = target.algs.members(alloc)?;
+    let Composed { first, last, named } = compose(alloc, target, summed, info)?;
     let mut changes = opened(alloc, facts)?;
     append(&mut changes, puts(alloc, first)?)?;
-    append(&mut changes, dropped(alloc, facts, renewal)?)?;
+    append(&mut changes, dropped(alloc, target)?)?;
     append(&mut changes, puts(alloc, last)?)?;
     append(&mut changes, tag_manifests(alloc, rules, &algs, &named)?)?;
     Ok(changes)
@@ -60,23 +58,20 @@ pub(crate) fn changes_of(
 /// The files that are put, and the digests of those that tag manifests name.
 fn compose(
     alloc: Global,
-    facts: &Facts,
-    renewal: &Renewal,
+    target: &Target,
     summed: Vec<SummedFile>,
     info: Option<Items<u8>>,
 ) -> Result<Composed, AllocError>
-    ensures composed { IfOk result (λ composed. IfBagRead facts.now (λ bag. (files : List File)
-        → AreSummed (new_algs bag renewal.now) files summed.items
-        → is_some info ≡ writes_info bag renewal.now
-        → IsComposed bag renewal.now files info composed)) }
+    ensures composed { IfOk result (λ composed. OfTarget target.now (λ bag renewal.
+        (files : List File) → AreSummed (new_algs bag renewal) files summed.items
+        → IsComposed bag renewal files info composed)) }
     ensures files { IfOk result PutsFiles }
 {
-    let algs = new_algs(facts, renewal);
-    let kept = kept_names(alloc, facts, renewal, info.is_none())?;
+    let kept = kept_names(alloc, target)?;
     let (payload, tags) = parted(alloc, summed, &kept)?;
-    let first = first_files(alloc, facts, renewal, &payload, info)?;
-    let last = last_files(alloc, facts, renewal)?;
-    let named = named_tag_files(alloc, tags, &first, &last, algs)?;
+    let first = first_files(alloc, target, &payload, info)?;
+    let last = last_files(alloc, target)?;
+    let named = named_tag_files(alloc, tags, &first, &last, target.algs)?;
     Ok(Composed { first, last, named })
 }
 

@@ -14,10 +14,10 @@ ghost use Rattle.bag_renew.specs.Elements.{elements_of, elements_on};
 ghost use Rattle.bag_renew.specs.NewInfo as info;
 ghost use Rattle.bag_renew.specs.NewInfo.{AreTexts, CanBeWritten, CanWriteInfo};
 ghost use Rattle.bag_renew.specs.NewInfo.{IsInfoAfter, IsInfoRefusal};
-ghost use Rattle.bag_renew.specs.Renewed as spec;
+ghost use Rattle.bag_renew.specs.Target.{IsTargetOf};
 
-use crate::algorithms::keeps;
-use crate::elements::{asks_nothing, renewed_elements};
+use crate::elements::renewed_elements;
+use crate::target::Target;
 use crate::{RenewFault, Renewal};
 use bag_facts::Facts;
 use bag_read::read_info;
@@ -27,12 +27,19 @@ use bag_tree::FileEntry;
 use std::alloc::{AllocError, Global};
 
 /// Whether the `bag-info.txt` that is to be written can be, by what is known of the old one.
-pub(crate) fn check_info(alloc: Global, facts: &Facts, renewal: &Renewal) -> Result<(), RenewFault>
-    ensures good { OnOk result (IfBagRead facts.now (λ bag. CanWriteInfo bag renewal.now)) }
+pub(crate) fn check_info(
+    alloc: Global,
+    facts: &Facts,
+    renewal: &Renewal,
+    target: &Target,
+) -> Result<(), RenewFault>
+    ensures good { OnOk result (IfBagRead facts.now (λ bag.
+        IsTargetOf bag renewal.now target.now → CanWriteInfo bag renewal.now)) }
     ensures refused { IfErr result (λ fault. IfBagRead facts.now (λ bag.
-        IsInfoRefusal bag renewal.now (lines_in bag bag_info_txt) fault)) }
+        IsTargetOf bag renewal.now target.now
+        → IsInfoRefusal bag renewal.now (lines_in bag bag_info_txt) fault)) }
 {
-    if !writes_info(facts, renewal) {
+    if !target.writes_info {
         return Ok(());
     }
     let Ok(old) = known_elements(alloc, facts) else {
@@ -50,14 +57,17 @@ pub(crate) fn info_file(
     alloc: Global,
     facts: &Facts,
     renewal: &Renewal,
+    target: &Target,
     old: &[u8],
 ) -> Result<Option<Items<u8>>, RenewFault>
     ensures text { IfOk result (λ text. IfBagRead facts.now (λ bag.
-        IsInfoAfter bag renewal.now (lines_of_file old.now) text)) }
+        IsTargetOf bag renewal.now target.now
+        → IsInfoAfter bag renewal.now (lines_of_file old.now) text)) }
     ensures refused { IfErr result (λ fault. IfBagRead facts.now (λ bag.
-        IsInfoRefusal bag renewal.now (lines_of_file old.now) fault)) }
+        IsTargetOf bag renewal.now target.now
+        → IsInfoRefusal bag renewal.now (lines_of_file old.now) fault)) }
 {
-    if !writes_info(facts, renewal) {
+    if !target.writes_info {
         return Ok(None);
     }
     let Ok(old) = elements_in(alloc, facts.rules(), old) else {
@@ -72,13 +82,6 @@ pub(crate) fn info_file(
         Ok(bytes) => Ok(Some(Items::from_vec(bytes))),
         Err(_) => Err(RenewFault::Memory),
     }
-}
-
-/// Whether `bag-info.txt` is written: something is asked of it, or nothing is kept.
-fn writes_info(facts: &Facts, renewal: &Renewal) -> bool
-    ensures { (bag : Bag) → IsFactsOf bag facts.now → result ≡ spec.writes_info bag renewal.now }
-{
-    !(keeps(facts, renewal) && asks_nothing(&renewal.elements))
 }
 
 /// Whether one of the elements can't be written. Where none is, each is of texts.

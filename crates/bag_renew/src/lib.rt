@@ -21,7 +21,6 @@
 //! payload.
 #![tactic(auto)]
 
-mod alg_choice;
 mod algorithms;
 mod checked;
 mod composing;
@@ -40,6 +39,7 @@ mod renewing;
 mod stages;
 mod summed;
 mod tag_files;
+mod target;
 mod unlisted;
 
 pub use bag_tags::TagFile;

@@ -12,14 +12,15 @@ ghost use Rattle.bag_tree.specs.Bag.{Bag, has_file};
 ghost use Rattle.bag_tree.specs.Tree.{NothingFailed};
 ghost use Rattle.bag_renew.specs.Folders.{OpensNothing};
 ghost use Rattle.bag_renew.specs.Obstacles as spec;
-ghost use Rattle.bag_renew.specs.Renewed as renewed;
 ghost use Rattle.bag_renew.specs.Reserved.{IsOutOfTheWay};
+ghost use Rattle.bag_renew.specs.Target.{IfTarget, IsTargetFor, IsTargetOf};
+ghost use Rattle.bag_renew.specs.declared.renewal.Renewal.{Renewal as Asked};
 
-use crate::algorithms::{keeps, new_algs, new_rules};
+use crate::RenewFault;
 use crate::folders::check_folders;
 use crate::named::is_manifest;
+use crate::target::Target;
 use crate::unlisted::unlisted_path;
-use crate::{RenewFault, Renewal};
 use bag_facts::Facts;
 use bag_read::Kind;
 use bag_tags::is_unnameable as is_unnameable_by_rules;
@@ -50,20 +51,19 @@ pub(crate) fn check_obstacles<T: ReplaceTree>(
     alloc: Global,
     tree: &mut T,
     facts: &Facts,
-    renewal: &Renewal,
+    target: &Target,
 ) -> Result<(), RenewFault>
     ensures still { OpensNothing (T.state tree.old) (T.state tree.new) }
     ensures no_failure { OnOk result (NothingFailed (T.state tree.old) (T.state tree.new)) }
-    ensures free { OnOk result (IfBagRead facts.now (λ bag.
-        spec.IsFreeToChange bag renewal.now)) }
+    ensures free { OnOk result (IfTarget facts.now target.now spec.IsFreeToChange) }
     ensures way { OnOk result
         (IsTrue (T.state tree.old).honest → IsOutOfTheWay (T.state tree.old).bag) }
-    ensures names { OnOk result (IfBagRead facts.now (λ bag.
-        spec.CanNameFiles bag renewal.now)) }
-    ensures obstacle { IfErr result
-        (spec.IsHindered facts.now renewal.now (T.state tree.old) (T.state tree.new)) }
+    ensures names { OnOk result (IfTarget facts.now target.now spec.CanNameFiles) }
+    ensures obstacle { IfErr result (λ fault. (renewal : Asked)
+        → IsTargetFor facts.now renewal target.now
+        → spec.IsHindered facts.now renewal (T.state tree.old) (T.state tree.new) fault) }
 {
-    match obstacle_asked(alloc, facts, renewal) {
+    match obstacle_asked(alloc, facts, target) {
         Ok(None) => {}
         Ok(Some(fault)) => return Err(fault),
         Err(AllocError) => return Err(RenewFault::Memory),
@@ -71,7 +71,7 @@ pub(crate) fn check_obstacles<T: ReplaceTree>(
     if let Err(fault) = check_folders(alloc, tree) {
         return Err(fault);
     }
-    match obstacle_listed(alloc, facts, renewal) {
+    match obstacle_listed(alloc, facts, target) {
         Ok(None) => Ok(()),
         Ok(Some(fault)) => Err(fault),
         Err(AllocError) => Err(RenewFault::Memory),
@@ -83,16 +83,15 @@ pub(crate) fn check_obstacles<T: ReplaceTree>(
 fn obstacle_asked(
     alloc: Global,
     facts: &Facts,
-    renewal: &Renewal,
+    target: &Target,
 ) -> Result<Option<RenewFault>, AllocError>
-    ensures { IfOk result (λ found. IfBagRead facts.now (λ bag.
-        MatchOption found (spec.IsFreeToChange bag renewal.now)
-        (spec.IsObstacle bag renewal.now))) }
+    ensures { IfOk result (λ found. IfTarget facts.now target.now (λ bag renewal.
+        MatchOption found (spec.IsFreeToChange bag renewal) (spec.IsObstacle bag renewal))) }
 {
-    if has_old_fetch(facts, renewal) {
+    if has_old_fetch(facts, target) {
         return Ok(Some(RenewFault::Fetch));
     }
-    if new_algs(facts, renewal).is_empty() {
+    if target.algs.is_empty() {
         return Ok(Some(RenewFault::NoAlgorithm));
     }
     let begun = Text::from_str(alloc, BEGUN_FILE)?;
@@ -110,16 +109,15 @@ fn obstacle_asked(
 fn obstacle_listed(
     alloc: Global,
     facts: &Facts,
-    renewal: &Renewal,
+    target: &Target,
 ) -> Result<Option<RenewFault>, AllocError>
-    ensures { IfOk result (λ found. IfBagRead facts.now (λ bag.
-        MatchOption found (spec.CanNameFiles bag renewal.now)
-        (spec.IsObstacle bag renewal.now))) }
+    ensures { IfOk result (λ found. IfTarget facts.now target.now (λ bag renewal.
+        MatchOption found (spec.CanNameFiles bag renewal) (spec.IsObstacle bag renewal))) }
 {
-    if let Some(path) = unnameable_path(alloc, facts, renewal)? {
+    if let Some(path) = unnameable_path(alloc, facts, target)? {
         return Ok(Some(RenewFault::Unnameable(path)));
     }
-    match unlisted_path(alloc, facts, renewal)? {
+    match unlisted_path(alloc, facts, target)? {
         Some(path) => Ok(Some(RenewFault::Unlisted(path))),
         None => Ok(None),
     }
@@ -165,11 +163,11 @@ fn has_slash(path: &str) -> bool
 }
 
 /// Whether a bag is of version 0.97 and is to become one of 1.0, and has `fetch.txt`.
-fn has_old_fetch(facts: &Facts, renewal: &Renewal) -> bool
+fn has_old_fetch(facts: &Facts, target: &Target) -> bool
     ensures { IfBagRead facts.now (λ bag.
-        result ≡ (not (renewed.keeps bag renewal.now) && has_file bag (tag_path Fetch))) }
+        result ≡ (not target.now.keeps && has_file bag (tag_path Fetch))) }
 {
-    !keeps(facts, renewal) && facts.fetch_list().is_some()
+    !target.keeps && facts.fetch_list().is_some()
 }
 
 /// Whether some tag manifest names a path.
@@ -198,13 +196,12 @@ pub(crate) fn is_named_by(facts: &Facts, kind: Kind, alg: Alg, path: &Text) -> b
 fn unnameable_path(
     alloc: Global,
     facts: &Facts,
-    renewal: &Renewal,
+    target: &Target,
 ) -> Result<Option<Text>, AllocError>
-    ensures { IfOk result (λ found. (bag : Bag) → IsFactsOf bag facts.now
-        → found ≡ spec.first_unnameable bag renewal.now) }
+    ensures { IfOk result (λ found. (bag : Bag) (renewal : Asked) → IsFactsOf bag facts.now
+        → IsTargetOf bag renewal target.now → found ≡ spec.first_unnameable bag renewal) }
 {
-    let rules = new_rules(facts, renewal);
-    match first_unnameable(facts.files(), rules, keeps(facts, renewal)) {
+    match first_unnameable(facts.files(), target.rules, target.keeps) {
         Some(entry) => Ok(Some(entry.path.copy(alloc)?)),
         None => Ok(None),
     }

@@ -6,16 +6,16 @@ ghost use Rattle.bag_renew.specs.Openings.{OpensBefore, OpensForRenewal};
 ghost use Rattle.bag_renew.specs.Reading.{AllowsRenewal, HasReadBag, IsNotReady};
 ghost use Rattle.bag_renew.specs.Reading.{MayRefuseReading};
 ghost use Rattle.bag_renew.specs.Reserved.{IsOutOfTheWay};
+ghost use Rattle.bag_renew.specs.Target.{IsTargetFor};
 
-use crate::algorithms::{new_algs, reads_payload};
 use crate::fault::{refusal, stopped};
 use crate::info::check_info;
 use crate::obstacles::check_obstacles;
 use crate::stages::check_stages;
 use crate::summed::{CheckedFiles, check_files};
+use crate::target::{Target, target_of};
 use crate::{RenewFault, Renewal};
 use bag_facts::{Depth, Facts, Options};
-use bag_text::AlgSet;
 use bag_tree::ReplaceTree;
 use std::alloc::Global;
 
@@ -25,7 +25,8 @@ pub(crate) const FULL: Options = Options {
     clashes: false,
 };
 
-/// Reads a bag, which can be renewed, and the digests by the algorithms of its new manifests.
+/// Reads a bag, which can be renewed, decides what is made of it, and computes the digests by the
+/// algorithms of its new manifests.
 ///
 /// It is refused with the first of its faults of the stages that open no file; then for what stands
 /// in the way of a renewal, as a folder may; then for an element that can't be written; and then for
@@ -36,11 +37,12 @@ pub(crate) fn read_bag<T: ReplaceTree>(
     alloc: Global,
     tree: &mut T,
     renewal: &Renewal,
-) -> Result<(Facts, CheckedFiles), RenewFault>
+) -> Result<(Facts, Target, CheckedFiles), RenewFault>
     ensures keeps { Keeps (T.state tree.old) (T.state tree.new) }
     ensures read { IfOk result (λ read.
-        HasReadBag renewal.now (T.state tree.old) (T.state tree.new) read.0 read.1.summed.items
-        read.1.info) }
+        HasReadBag renewal.now (T.state tree.old) (T.state tree.new) read.0 read.2.summed.items
+        read.2.info) }
+    ensures decided { IfOk result (λ read. IsTargetFor read.0 renewal.now read.1) }
     ensures refused { IfErr result
         (MayRefuseReading renewal.now (T.state tree.old) (T.state tree.new)) }
     ensures opens { OpensForRenewal renewal.now (T.state tree.old) (T.state tree.new) }
@@ -50,29 +52,27 @@ pub(crate) fn read_bag<T: ReplaceTree>(
         Ok(facts) => facts,
         Err(stop) => return Err(stopped(stop)),
     };
-    let algs = match check_facts(alloc, tree, &facts, renewal) {
-        Ok(algs) => algs,
+    let target = match check_facts(alloc, tree, &facts, renewal) {
+        Ok(target) => target,
         Err(fault) => return Err(fault),
     };
-    let with_payload = reads_payload(&facts, renewal);
-    match check_files(alloc, tree, &facts, algs, with_payload) {
-        Ok(checked) => Ok((facts, checked)),
+    match check_files(alloc, tree, &facts, target.algs, target.reads_payload) {
+        Ok(checked) => Ok((facts, target, checked)),
         Err(unchecked) => Err(refusal(unchecked)),
     }
 }
 
-/// Whether what is known of a bag allows that it is renewed, and no folder is in the way; and the
-/// algorithms of its new manifests.
+/// What a renewal makes of a bag, where what is known of it allows that, and no folder is in the way.
 #[tactic(auto, using(crate::proofs::ReadBag::refusing))]
 fn check_facts<T: ReplaceTree>(
     alloc: Global,
     tree: &mut T,
     facts: &Facts,
     renewal: &Renewal,
-) -> Result<AlgSet, RenewFault>
+) -> Result<Target, RenewFault>
     ensures still { OpensNothing (T.state tree.old) (T.state tree.new) }
     ensures no_failure { OnOk result (NothingFailed (T.state tree.old) (T.state tree.new)) }
-    ensures algs { IfOk result (AllowsRenewal facts.now renewal.now) }
+    ensures target { IfOk result (AllowsRenewal facts.now renewal.now) }
     ensures way { OnOk result
         (IsTrue (T.state tree.old).honest → IsOutOfTheWay (T.state tree.old).bag) }
     ensures refused { IfErr result
@@ -81,11 +81,12 @@ fn check_facts<T: ReplaceTree>(
     if let Err(unchecked) = check_stages(alloc, facts) {
         return Err(refusal(unchecked));
     }
-    if let Err(fault) = check_obstacles(alloc, tree, facts, renewal) {
+    let target = target_of(facts, renewal);
+    if let Err(fault) = check_obstacles(alloc, tree, facts, &target) {
         return Err(fault);
     }
-    if let Err(fault) = check_info(alloc, facts, renewal) {
+    if let Err(fault) = check_info(alloc, facts, renewal, &target) {
         return Err(fault);
     }
-    Ok(new_algs(facts, renewal))
+    Ok(target)
 }

@@ -83,13 +83,13 @@ fn read_and_plan<T: ReplaceTree>(
     if is_bad_request(&renewal.elements) {
         return Err(RenewFault::BadValue);
     }
-    let (facts, checked) = read_bag(alloc, tree, renewal)?;
+    let (facts, target, checked) = read_bag(alloc, tree, renewal)?;
     let CheckedFiles { summed, info } = checked;
-    let info = match info_file(alloc, &facts, renewal, info.as_slice()) {
+    let info = match info_file(alloc, &facts, renewal, &target, info.as_slice()) {
         Ok(info) => info,
         Err(fault) => return Err(fault),
     };
-    match changes_of(alloc, &facts, renewal, summed, info) {
+    match changes_of(alloc, &facts, &target, summed, info) {
         Ok(changes) => Ok(changes),
         Err(AllocError) => Err(RenewFault::Memory),
     }

@@ -1,19 +1,18 @@
 //! Which tag files are kept, and the texts of those that are put.
-ghost use Rattle.std.specs.Prelude.{◌≡◌, ◌++◌, not, IfOk, map};
+ghost use Rattle.std.specs.Prelude.{◌≡◌, ◌++◌, ◌∷◌, [], IfOk, OnOk, map, if◌then◌else◌};
 ghost use Rattle.bag_read.specs.ManifestName.{tag_path};
 ghost use Rattle.bag_read.specs.declared.kind.Kind.TheVariants as kind;
 ghost use Rattle.bag_read.specs.declared.tag_name.TagName.TheVariants as tag;
-ghost use Rattle.bag_facts.specs.FactsOfBag.{IfBagRead, IsFactsOf};
+ghost use Rattle.bag_facts.specs.FactsOfBag.{IsFactsOf};
 ghost use Rattle.bag_tags.specs.Declaration.{declaration_text};
 ghost use Rattle.bag_tags.specs.Summed.{manifests_by};
 ghost use Rattle.bag_tree.specs.Bag.{Bag, has_file};
 ghost use Rattle.bag_renew.specs.Changes.{put};
 ghost use Rattle.bag_renew.specs.Composing as spec;
-ghost use Rattle.bag_renew.specs.Renewed.{is_kept, new_rules, with_path, writes_info};
+ghost use Rattle.bag_renew.specs.Renewed.{with_path};
+ghost use Rattle.bag_renew.specs.Target.{OfTarget};
 
-use crate::Renewal;
-use crate::alg_choice::{members_of_first, push_where};
-use crate::algorithms::{keeps, kept_algs, new_algs, new_rules};
+use crate::target::Target;
 use bag_facts::Facts;
 use bag_read::{Kind, TagName};
 use bag_tags::{SummedFile, TagFile, manifests_by, write_declaration};
@@ -25,24 +24,14 @@ pub(crate) const DECLARATION: &str = "bagit.txt";
 pub(crate) const INFO: &str = "bag-info.txt";
 
 /// The tag files whose names a renewal writes, and that are kept.
-pub(crate) fn kept_names(
-    alloc: Global,
-    facts: &Facts,
-    renewal: &Renewal,
-    keeps_info: bool,
-) -> Result<Vec<TagName>, AllocError>
-    ensures { IfOk result (λ names. IfBagRead facts.now (λ bag.
-        keeps_info ≡ not (writes_info bag renewal.now)
-        → names.items ≡ spec.kept_names bag renewal.now)) }
+pub(crate) fn kept_names(alloc: Global, target: &Target) -> Result<Vec<TagName>, AllocError>
+    ensures { IfOk result (λ names. OfTarget target.now (λ bag renewal.
+        names.items ≡ spec.kept_names bag renewal)) }
 {
-    let algs = kept_algs(facts, renewal).members(alloc)?;
+    let algs = target.kept.members(alloc)?;
     let mut names = manifest_names(alloc, &algs)?;
-    push_where(&mut names, TagName::Info, keeps_info)?;
-    push_where(
-        &mut names,
-        TagName::Declaration,
-        keeps_declaration(facts, renewal),
-    )?;
+    push_where(&mut names, TagName::Info, !target.writes_info)?;
+    push_where(&mut names, TagName::Declaration, target.keeps_declaration)?;
     Ok(names)
 }
 
@@ -59,21 +48,18 @@ fn manifest_names(alloc: Global, algs: &[Alg]) -> Result<Vec<TagName>, AllocErro
 /// and the payload manifests that aren't kept, which name these files.
 pub(crate) fn first_files(
     alloc: Global,
-    facts: &Facts,
-    renewal: &Renewal,
+    target: &Target,
     payload: &[SummedFile],
     info: Option<Items<u8>>,
 ) -> Result<Vec<TagFile>, AllocError>
-    ensures texts { IfOk result (λ made. IfBagRead facts.now (λ bag.
-        made.items ≡ with_path (tag_path tag.Info) info
-        ++ manifests_by (new_rules bag renewal.now) kind.Payload
-        (spec.written_algs bag renewal.now) payload.now)) }
+    ensures texts { IfOk result (λ made. made.items
+        ≡ with_path (tag_path tag.Info) info
+        ++ manifests_by target.now.rules kind.Payload target.now.written payload.now) }
     ensures files { IfOk result (λ made. spec.AreOfFiles (map put made.items)) }
 {
-    let algs = members_of_first(alloc, new_algs(facts, renewal), kept_algs(facts, renewal))?;
+    let algs = target.written.members(alloc)?;
     let mut files = info_file(alloc, info)?;
-    let rules = new_rules(facts, renewal);
-    let mut manifests = manifests_by(alloc, rules, Kind::Payload, &algs, payload)?;
+    let mut manifests = manifests_by(alloc, target.rules, Kind::Payload, &algs, payload)?;
     files.append(&mut manifests)?;
     Ok(files)
 }
@@ -91,13 +77,9 @@ fn info_file(alloc: Global, info: Option<Items<u8>>) -> Result<Vec<TagFile>, All
 }
 
 /// The text of the declaration with its name, where it isn't kept.
-pub(crate) fn last_files(
-    alloc: Global,
-    facts: &Facts,
-    renewal: &Renewal,
-) -> Result<Vec<TagFile>, AllocError>
-    ensures texts { IfOk result (λ made. (bag : Bag) → IsFactsOf bag facts.now
-        → made.items ≡ spec.last_files bag renewal.now) }
+pub(crate) fn last_files(alloc: Global, target: &Target) -> Result<Vec<TagFile>, AllocError>
+    ensures texts { IfOk result (λ made. OfTarget target.now (λ bag renewal.
+        made.items ≡ spec.last_files bag renewal)) }
     ensures files { IfOk result (λ made. spec.AreOfFiles (map put made.items)) }
 {
     let mut files = Vec::new(alloc);
@@ -105,7 +87,7 @@ pub(crate) fn last_files(
         path: TagName::Declaration.path(alloc)?,
         content: declaration(alloc)?,
     };
-    push_where(&mut files, file, !keeps_declaration(facts, renewal))?;
+    push_where(&mut files, file, !target.keeps_declaration)?;
     Ok(files)
 }
 
@@ -119,12 +101,19 @@ fn declaration(alloc: Global) -> Result<Items<u8>, AllocError>
     }
 }
 
-/// Whether the declaration is there and is kept.
-fn keeps_declaration(facts: &Facts, renewal: &Renewal) -> bool
-    ensures { (bag : Bag) → IsFactsOf bag facts.now
-        → result ≡ is_kept bag renewal.now (tag_path tag.Declaration) }
+/// Puts an item at the end, where something is so.
+pub(crate) fn push_where<T: Drop>(
+    items: &mut Vec<T>,
+    item: T,
+    is_so: bool,
+) -> Result<(), AllocError>
+    ensures { OnOk result
+        (items.new.items ≡ items.old.items ++ (if is_so then item ∷ [] else [])) }
 {
-    keeps(facts, renewal) && is_listed(facts, DECLARATION)
+    if is_so {
+        items.push(item)?;
+    }
+    Ok(())
 }
 
 /// Whether a file is listed, found in time log n of all files.

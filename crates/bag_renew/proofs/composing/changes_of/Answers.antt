@@ -5,10 +5,9 @@ use Rattle.bag_renew.proofs.OfFiles.{both_of_files, tag_manifests_of_files}
 use Rattle.bag_renew.proofs.composing.changes_of.Goals as goal
 
 pub returns-clause-changes : goal.returns-clause-changes
-returns-clause-changes c = λ bag of deep files are has_info.
-    let renewal = c.args.renewal.now in
+returns-clause-changes c = λ bag of deep renewal aim files are.
     let info = c.args.info in
-    let composed = c.in_ok-first.ensures.composed bag of deep files are has_info in
+    let composed = c.in_ok-first.ensures.composed bag renewal aim files are in
     let before = c.in_ok-changes.changes.items in
     let first = c.in_ok-puts.field-0.items in
     let gone = c.in_ok-dropped.field-0.items in
@@ -17,15 +16,14 @@ returns-clause-changes c = λ bag of deep files are has_info.
     let all : c.append-4.new.changes.items ≡ (((before ++ first) ++ gone) ++ last) ++ manifests =
     c.in_ok-append-4.ensures ∙ ap (λ xs. xs ++ manifests) (c.in_ok-append-3.ensures
     ∙ ap (λ xs. xs ++ last) (c.in_ok-append-2.ensures ∙ ap (λ xs. xs ++ gone) c.in_ok-append.ensures)) in
-    let rules = c.new_rules-rules.ensures bag of in
-    let algs = c.deref.ensures.value ∙ c.in_ok-algs.ensures.items ∙ c.new_algs.ensures bag of deep in
+    let algs = c.deref.ensures.value ∙ c.in_ok-algs.ensures.items ∙ aim.algs in
     changes_are bag renewal files info c.append-4.new.changes.items before first gone last manifests all
     (c.in_ok-changes.ensures.changes bag of deep renewal) (c.in_ok-puts.ensures ∙ ap (map put) composed.first)
-    (c.in_ok-dropped.ensures.changes bag of deep) (c.in_ok-puts-2.ensures ∙ ap (map put) composed.last)
+    (c.in_ok-dropped.ensures.changes bag renewal aim) (c.in_ok-puts-2.ensures ∙ ap (map put) composed.last)
     (c.in_ok-tag_manifests.ensures
-    ∙ ap (tag_manifests_of c.new_rules-rules.result c.deref.result.now) c.deref-2.ensures.value
-    ∙ tag_manifests_put bag renewal files info c.new_rules-rules.result c.deref.result.now
-    c.in_ok-first.field-0.named.items rules algs composed.named)
+    ∙ ap (tag_manifests_of c.args.target.now.rules c.deref.result.now) c.deref-2.ensures.value
+    ∙ tag_manifests_put bag renewal files info c.args.target.now.rules c.deref.result.now
+    c.in_ok-first.field-0.named.items aim.rules algs composed.named)
 
 pub returns-clause-files : goal.returns-clause-files
 returns-clause-files c =
@@ -46,4 +44,4 @@ returns-clause-files c =
     c.in_ok-dropped.ensures.files)
     (subst AreOfFiles (sym c.in_ok-puts-2.ensures) puts.last))
     (subst AreOfFiles (sym c.in_ok-tag_manifests.ensures)
-    (tag_manifests_of_files c.new_rules-rules.result c.deref.result.now c.deref-2.result.now)))
+    (tag_manifests_of_files c.args.target.now.rules c.deref.result.now c.deref-2.result.now)))

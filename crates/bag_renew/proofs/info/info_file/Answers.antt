@@ -6,8 +6,8 @@ use Rattle.bag_renew.specs.NewInfo.{AreRefused, CanBeWritten, elements_after, el
 use Rattle.bag_renew.proofs.info.info_file.Goals as goal
 
 pub returns-in-Err-clause-refused : goal.returns-in-Err-clause-refused
-returns-in-Err-clause-refused c = λ bag of deep. (
-  sym (c.writes_info.ensures bag of) ∙ c.if-not-writes_info.false,
+returns-in-Err-clause-refused c = λ bag of deep aim. (
+  sym aim.writes_info ∙ c.if-not-target.false,
   subst (λ old. AreRefused (elements_from bag c.args.renewal.now old) c.in-Err.fault)
       (c.deref.ensures.value ∙ c.in-Ok.ensures
       ∙ ap (λ rules. elements_on rules (lines_of_file c.args.old.now)) (c.rules.ensures bag of))
@@ -15,7 +15,7 @@ returns-in-Err-clause-refused c = λ bag of deep. (
 )
 
 pub returns-in-Ok-write_long_info-clause-text : goal.returns-in-Ok-write_long_info-clause-text
-returns-in-Ok-write_long_info-clause-text c = λ bag of deep.
+returns-in-Ok-write_long_info-clause-text c = λ bag of deep aim.
     let renewal = c.args.renewal.now in
     let lines = lines_of_file c.args.old.now in
     let given = c.in-Ok-new_elements.ensures in
@@ -23,6 +23,6 @@ returns-in-Ok-write_long_info-clause-text c = λ bag of deep.
     c.deref-2.ensures.value ∙ given.elements bag of
     ∙ ap (elements_from bag renewal) (c.deref.ensures.value ∙ c.in-Ok.ensures
     ∙ ap (λ rules. elements_on rules lines) (c.rules.ensures bag of)) in
-    written bag renewal lines c.deref-2.result.now _ (sym (c.writes_info.ensures bag of) ∙ c.if-not-writes_info.false)
+    written bag renewal lines c.deref-2.result.now _ (sym aim.writes_info ∙ c.if-not-target.false)
     same (subst CanBeWritten (sym c.deref-2.ensures.value) given.good)
     (c.from_vec.ensures ∙ c.in-Ok-write_long_info.ensures.text)

@@ -7,19 +7,20 @@ use Rattle.bag_renew.specs.Obstacles.{CanNameFiles, IsFreeToChange, IsObstacle}
 use Rattle.bag_renew.proofs.obstacles.check_obstacles.Goals as goal
 
 pub returns-in-Ok-Some-clause-obstacle : goal.returns-in-Ok-Some-clause-obstacle
-returns-in-Ok-Some-clause-obstacle g c =
+returns-in-Ok-Some-clause-obstacle g c = λ renewal aim.
     let old = g.T.Tree.state c.args.tree.now in
-    let renewal = c.args.renewal.now in
     hindered_by_facts c.args.facts.now renewal old old c.in-Ok-Some.fault
     (subst (λ found. IfBagRead c.args.facts.now (λ bag.
     MatchOption found (IsFreeToChange bag renewal) (IsObstacle bag renewal)))
-    c.in-Ok-Some.field-0-is c.in-Ok-Some.ensures) (nothing_asked old)
+    c.in-Ok-Some.field-0-is (λ bag of deep. c.in-Ok-Some.ensures bag of deep renewal (aim bag of deep)))
+    (nothing_asked old)
 
 pub returns-in-Ok-Some-obstacle_listed-clause-obstacle : goal.returns-in-Ok-Some-obstacle_listed-clause-obstacle
-returns-in-Ok-Some-obstacle_listed-clause-obstacle g c =
-    let renewal = c.args.renewal.now in
+returns-in-Ok-Some-obstacle_listed-clause-obstacle g c = λ renewal aim.
     hindered_by_facts c.args.facts.now renewal (g.T.Tree.state c.args.tree.now)
     (g.T.Tree.state c.check_folders.new.tree) c.in-Ok-Some-obstacle_listed.fault
     (subst (λ found. IfBagRead c.args.facts.now (λ bag.
     MatchOption found (CanNameFiles bag renewal) (IsObstacle bag renewal)))
-    c.in-Ok-Some-obstacle_listed.field-0-is c.in-Ok-Some-obstacle_listed.ensures) c.in_default.ensures.no_failure
+    c.in-Ok-Some-obstacle_listed.field-0-is
+    (λ bag of deep. c.in-Ok-Some-obstacle_listed.ensures bag of deep renewal (aim bag of deep)))
+    c.in_default.ensures.no_failure

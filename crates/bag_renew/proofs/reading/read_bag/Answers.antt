@@ -36,9 +36,8 @@ returns-in-Err-check_files-clause-refused g c =
     refused_by_check c.args.renewal.now c.in-Ok.facts old now new ok.options ok.seen ok.facts
     (keeps_on old mid now c.read.ensures.keeps still.keeps)
     (nothing_then old mid now ok.no_failure c.in-Ok-check_facts.ensures.no_failure)
-    (all_still c.in-Ok.facts.listing.files old mid now ok.opened still.openings) c.in-Ok-check_facts.algs
-    c.in-Ok-check_facts.ensures.algs (own_way old mid c.read.ensures.keeps c.in-Ok-check_facts.ensures.way)
-    c.reads_payload-with_payload.result c.reads_payload-with_payload.ensures
+    (all_still c.in-Ok.facts.listing.files old mid now ok.opened still.openings) c.in-Ok-check_facts.target
+    c.in-Ok-check_facts.ensures.target (own_way old mid c.read.ensures.keeps c.in-Ok-check_facts.ensures.way)
     c.in-Err-check_files.unchecked c.refusal.result c.in-Err-check_files.ensures.stopped
     c.in-Err-check_files.ensures.faulty c.refusal.ensures
 
@@ -55,11 +54,11 @@ returns-in-Ok-check_files-clause-read g c =
     let files = c.in-Ok.facts.listing.files in
     let given = ok.gave in
     has_read_bag c.args.renewal.now c.in-Ok.facts old now new ok.options ok.seen ok.facts keeps calm
-    c.in-Ok-check_facts.algs c.in-Ok-check_facts.ensures.algs
-    (own_way old mid c.read.ensures.keeps c.in-Ok-check_facts.ensures.way) c.reads_payload-with_payload.result
-    c.reads_payload-with_payload.ensures c.in-Ok-check_files.checked.summed.items c.in-Ok-check_files.checked.info
-    (has_checked c.in-Ok.facts c.in-Ok-check_facts.algs old now new ok.options ok.facts keeps
-    c.in-Ok-check_facts.ensures.algs.none c.reads_payload-with_payload.result c.in-Ok-check_files.checked.summed.items
+    c.in-Ok-check_facts.target c.in-Ok-check_facts.ensures.target
+    (own_way old mid c.read.ensures.keeps c.in-Ok-check_facts.ensures.way)
+    c.in-Ok-check_files.checked.summed.items c.in-Ok-check_files.checked.info
+    (has_checked c.in-Ok.facts c.in-Ok-check_facts.target.algs old now new ok.options ok.facts keeps
+    c.in-Ok-check_facts.ensures.target.none c.in-Ok-check_facts.target.reads_payload c.in-Ok-check_files.checked.summed.items
     c.in-Ok-check_files.checked.info
     (given.0, given.1, given.2, gives_still given.0 files old mid now given.3 still.listed still.gave)
     (all_still files old mid now ok.opened still.openings) c.in-Ok-check_files.ensures.opened
@@ -99,9 +98,9 @@ returns-in-Err-check_files-clause-opens g c =
     let ok = c.in-Ok.ensures in
     let still = c.check_facts.ensures.still in
     for_renewal_of_files c.args.renewal.now old now new (g.met.T.Tree.is_bag c.args.tree.now) c.in-Ok.facts ok.options
-    ok.seen ok.facts (wanted_still old mid now c.read.ensures.opens still.openings) c.in-Ok-check_facts.algs
-    c.in-Ok-check_facts.ensures.algs (own_way old mid c.read.ensures.keeps c.in-Ok-check_facts.ensures.way)
-    c.reads_payload-with_payload.result c.reads_payload-with_payload.ensures c.check_files.ensures.opens
+    ok.seen ok.facts (wanted_still old mid now c.read.ensures.opens still.openings) c.in-Ok-check_facts.target
+    c.in-Ok-check_facts.ensures.target (own_way old mid c.read.ensures.keeps c.in-Ok-check_facts.ensures.way)
+    c.check_files.ensures.opens
 
 pub returns-in-Err-check_files-clause-opens_before : goal.returns-in-Err-check_files-clause-opens_before
 returns-in-Err-check_files-clause-opens_before g c =
@@ -117,6 +116,6 @@ returns-in-Ok-check_files-clause-opens g c =
     let ok = c.in-Ok.ensures in
     let still = c.check_facts.ensures.still in
     for_renewal_of_files c.args.renewal.now old now new (g.met.T.Tree.is_bag c.args.tree.now) c.in-Ok.facts ok.options
-    ok.seen ok.facts (wanted_still old mid now c.read.ensures.opens still.openings) c.in-Ok-check_facts.algs
-    c.in-Ok-check_facts.ensures.algs (own_way old mid c.read.ensures.keeps c.in-Ok-check_facts.ensures.way)
-    c.reads_payload-with_payload.result c.reads_payload-with_payload.ensures c.check_files.ensures.opens
+    ok.seen ok.facts (wanted_still old mid now c.read.ensures.opens still.openings) c.in-Ok-check_facts.target
+    c.in-Ok-check_facts.ensures.target (own_way old mid c.read.ensures.keeps c.in-Ok-check_facts.ensures.way)
+    c.check_files.ensures.opens

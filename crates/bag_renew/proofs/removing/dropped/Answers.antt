@@ -1,15 +1,15 @@
 use Rattle.bag_renew.proofs.Common.{◌≡◌, ◌∙◌, ap, sym, subst, dropping, Payload}
 use Rattle.std.proofs.lemmas.Result.{IfOk-weaker}
-use Rattle.bag_facts.specs.FactsOfBag.{IfBagRead}
 use Rattle.bag_renew.specs.Composing.{AreOfFiles, removals_of}
+use Rattle.bag_renew.specs.Target.{OfTarget}
 use Rattle.bag_renew.proofs.OfFiles.{removals_of_files}
 use Rattle.bag_renew.proofs.removing.dropped.Goals as goal
 
 pub returns-clause-changes : goal.returns-clause-changes
 returns-clause-changes c =
     IfOk-weaker c.removals.result _ (λ made.
-    IfBagRead c.args.facts.now (λ bag. made.items ≡ dropping bag c.args.renewal.now)) (λ made h bag of deep.
-    h ∙ ap (removals_of Payload) (c.deref.ensures.value ∙ c.in_ok-gone.ensures bag of deep)) c.removals.ensures
+    OfTarget c.args.target.now (λ bag renewal. made.items ≡ dropping bag renewal)) (λ made h bag renewal aim.
+    h ∙ ap (removals_of Payload) (c.deref.ensures.value ∙ c.in_ok-gone.ensures.items ∙ aim.dropped)) c.removals.ensures
 
 pub returns-clause-files : goal.returns-clause-files
 returns-clause-files c =

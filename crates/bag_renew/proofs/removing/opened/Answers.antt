@@ -7,7 +7,7 @@ use Rattle.bag_renew.proofs.removing.opened.Goals as goal
 pub returns-clause-changes : goal.returns-clause-changes
 returns-clause-changes c = λ bag of deep renewal.
     let removed : c.in_ok-changes.changes.items ≡ opening bag renewal =
-    c.in_ok-changes.ensures ∙ ap (removals_of Tag) (c.deref.ensures.value ∙ c.in_ok-there.ensures bag of deep) in
+    c.in_ok-changes.ensures ∙ ap (removals_of Tag) (c.deref.ensures.value ∙ c.in_ok-there.ensures.items ∙ c.algs_there.ensures bag of deep) in
     c.in_ok-push_where.ensures
     ∙ (λ j. removed j ++ cond (c.is_listed.ensures bag of j) (Remove (c.in_ok-from_str.ensures j) ∷ []) [])
 

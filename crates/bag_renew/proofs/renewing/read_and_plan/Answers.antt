@@ -14,7 +14,7 @@ returns-in-Err-clause-refused g c =
     info_refused renewal (g.T.Tree.state c.args.tree.now) (g.T.Tree.state c.read_bag.new.tree) facts
     c.in_ok-facts.checked.summed.items c.in_ok-facts.checked.info c.in_ok-facts.ensures.read c.in-Err.fault
     (subst (λ bytes. IfBagRead facts (λ bag. IsInfoRefusal bag renewal (lines_of_file bytes) c.in-Err.fault))
-    c.as_slice.ensures c.in-Err.ensures.refused)
+    c.as_slice.ensures (λ bag of deep. c.in-Err.ensures.refused bag of deep (c.in_ok-facts.ensures.decided bag of deep)))
 
 pub returns-in-Ok-changes_of-clause-planned : goal.returns-in-Ok-changes_of-clause-planned
 returns-in-Ok-changes_of-clause-planned g c =
@@ -23,8 +23,9 @@ returns-in-Ok-changes_of-clause-planned g c =
     planned renewal (g.T.Tree.state c.args.tree.now) (g.T.Tree.state c.read_bag.new.tree) facts
     c.in_ok-facts.checked.summed.items c.in_ok-facts.checked.info c.in_ok-facts.ensures.read c.in-Ok.info
     (subst (λ bytes. IfBagRead facts (λ bag. IsInfoAfter bag renewal (lines_of_file bytes) c.in-Ok.info))
-    c.as_slice.ensures c.in-Ok.ensures.text)
-    c.in-Ok-changes_of.changes.items c.in-Ok-changes_of.ensures.changes
+    c.as_slice.ensures (λ bag of deep. c.in-Ok.ensures.text bag of deep (c.in_ok-facts.ensures.decided bag of deep)))
+    c.in-Ok-changes_of.changes.items
+    (λ bag of deep. c.in-Ok-changes_of.ensures.changes bag of deep renewal (c.in_ok-facts.ensures.decided bag of deep))
     (sym c.is_bad_request.ensures ∙ c.if-is_bad_request.false) c.in-Ok-changes_of.ensures.files
 
 pub returns-then-is_bad_request-clause-opens : goal.returns-then-is_bad_request-clause-opens
@@ -39,7 +40,8 @@ returns-in-Err-clause-opens_before g c =
     let new = g.T.Tree.state c.read_bag.new.tree in
     let facts = c.in_ok-facts.facts in
     let has = c.in_ok-facts.ensures.read in
+    let far = deep renewal old new facts c.in_ok-facts.checked.summed.items c.in_ok-facts.checked.info has in
     before_by_info has.seen.0 renewal (lines_of_file c.in_ok-facts.checked.info) old new c.in-Err.fault
     (subst (λ bytes. IfBagRead facts (λ bag. IsInfoRefusal bag renewal (lines_of_file bytes) c.in-Err.fault))
-    c.as_slice.ensures c.in-Err.ensures.refused has.seen.0 has.seen.2
-    (deep renewal old new facts c.in_ok-facts.checked.summed.items c.in_ok-facts.checked.info has))
+    c.as_slice.ensures (λ bag of at. c.in-Err.ensures.refused bag of at (c.in_ok-facts.ensures.decided bag of at))
+    has.seen.0 has.seen.2 far)

@@ -4,5 +4,5 @@ use Rattle.bag_renew.proofs.tag_files.first_files.Goals as goal
 
 pub returns-clause-files : goal.returns-clause-files
 returns-clause-files c =
-    first_of_files c.new_rules-rules.result c.append.new.self.items c.args.info c.deref.result.now c.args.payload.now
+    first_of_files c.args.target.now.rules c.append.new.self.items c.args.info c.deref.result.now c.args.payload.now
     (c.in_ok-append.ensures.items ∙ (λ i. c.in_ok-files.ensures i ++ c.in_ok-manifests.ensures i))

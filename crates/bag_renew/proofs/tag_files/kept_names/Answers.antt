@@ -7,15 +7,13 @@ turned true some = refl
 turned false some = refl
 
 pub returns : goal.returns
-returns c = λ bag of deep keeps_info.
-    let renewal = c.args.renewal.now in
+returns c = λ bag renewal aim.
     let kept : List TagName = map (Manifest Payload) (algs_where (is_kept_alg bag renewal)) in
     let manifests : c.in_ok-names.names.items ≡ kept =
-    c.in_ok-names.ensures ∙ ap (map (Manifest Payload))
-    (c.deref.ensures.value ∙ c.in_ok-algs.ensures.items ∙ c.kept_algs.ensures bag of deep) in
-    let info : cond c.args.keeps_info (Info ∷ []) [] ≡ cond (writes_info bag renewal) [] (Info ∷ []) =
-    ap (λ b. cond b (Info ∷ []) []) keeps_info ∙ turned (writes_info bag renewal) (Info ∷ []) in
+    c.in_ok-names.ensures ∙ ap (map (Manifest Payload)) (c.deref.ensures.value ∙ c.in_ok-algs.ensures.items ∙ aim.kept) in
+    let info : cond (not c.args.target.now.writes_info) (Info ∷ []) [] ≡ cond (writes_info bag renewal) [] (Info ∷ []) =
+    ap (λ b. cond (not b) (Info ∷ []) []) aim.writes_info ∙ turned (writes_info bag renewal) (Info ∷ []) in
     c.in_ok-push_where-2.ensures
     ∙ (λ i. (c.in_ok-push_where.ensures ∙ (λ j. manifests j ++ info j)) i
-    ++ cond (c.keeps_declaration.ensures bag of i) (Declaration ∷ []) [])
+    ++ cond (aim.keeps_declaration i) (Declaration ∷ []) [])
     ∙ append_assoc kept _ _

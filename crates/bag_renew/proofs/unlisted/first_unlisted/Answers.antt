@@ -6,6 +6,6 @@ use Rattle.bag_renew.specs.Obstacles.{is_unlisted}
 use Rattle.bag_renew.proofs.unlisted.first_unlisted.Goals as goal
 
 pub returns : goal.returns
-returns c = λ bag facts deep.
-    find_from_yields_List (λ (entry : FileEntry). is_unlisted bag c.args.renewal.now entry.path) _ _ c.find.result
+returns c = λ bag facts deep renewal aim.
+    find_from_yields_List (λ (entry : FileEntry). is_unlisted bag renewal entry.path) _ _ c.find.result
     c.find.ensures.ran (YieldsList-from_slice c.args.facts.now.listing.files cc) (λ x b q k. search (rules, tests))

@@ -7,6 +7,6 @@ use Rattle.bag_renew.proofs.unlisted.is_named_by_kept.Goals as goal
 
 pub returns : goal.returns
 unfolding is_named_by_kept
-returns c = λ bag facts deep.
-    any_from_yields_List (keeps_naming bag c.args.renewal.now c.args.path.now) _ _ c.any.result c.any.ensures.ran
+returns c = λ bag facts deep renewal aim.
+    any_from_yields_List (keeps_naming bag renewal c.args.path.now) _ _ c.any.result c.any.ensures.ran
     (YieldsList-from_slice algs cc) (λ x b q k. search (rules, tests))
