@@ -44,8 +44,8 @@ pub fn renew<T: ReplaceTree>(
 ) -> Result<(), RenewFault>
     ensures { IsRenewal renewal.now (T.state tree.old) (T.state tree.new) result }
 {
-    let changes = read_and_plan(alloc, tree, renewal)?;
-    put_changes(tree, changes)
+    let changes = plan_renewal(alloc, tree, renewal)?;
+    put_changes(tree, changes.into_vec())
 }
 
 /// The changes in which a bag would be renewed, in their order. The bag stays as it is.
@@ -62,24 +62,6 @@ pub fn plan_renewal<T: ReplaceTree>(
     ensures opens { OpensForRenewal renewal.now (T.state tree.old) (T.state tree.new) }
     ensures opens_before { IfErr result (OpensBefore (T.state tree.old) (T.state tree.new)) }
 {
-    Ok(Items::from_vec(read_and_plan(alloc, tree, renewal)?))
-}
-
-/// Reads all, and composes the changes.
-fn read_and_plan<T: ReplaceTree>(
-    alloc: Global,
-    tree: &mut T,
-    renewal: &Renewal,
-) -> Result<Vec<FileChange>, RenewFault>
-    ensures keeps { Keeps (T.state tree.old) (T.state tree.new) }
-    ensures untouched { is_bad renewal.now.elements ≡ true → tree.new ≡ tree.old }
-    ensures planned { IfOk result (λ changes.
-        HasPlanned renewal.now (T.state tree.old) (T.state tree.new) changes.items) }
-    ensures refused { IfErr result
-        (MayRefuseReading renewal.now (T.state tree.old) (T.state tree.new)) }
-    ensures opens { OpensForRenewal renewal.now (T.state tree.old) (T.state tree.new) }
-    ensures opens_before { IfErr result (OpensBefore (T.state tree.old) (T.state tree.new)) }
-{
     if is_bad_request(&renewal.elements) {
         return Err(RenewFault::BadValue);
     }
@@ -90,7 +72,7 @@ fn read_and_plan<T: ReplaceTree>(
         Err(fault) => return Err(fault),
     };
     match changes_of(alloc, &facts, &target, summed, info) {
-        Ok(changes) => Ok(changes),
+        Ok(changes) => Ok(Items::from_vec(changes)),
         Err(AllocError) => Err(RenewFault::Memory),
     }
 }

@@ -5,7 +5,8 @@ use Rattle.bag_renew.proofs.Openings.{before_by_info, for_renewal_of_none}
 use Rattle.bag_renew.proofs.PlannedRenewal.{planned}
 use Rattle.bag_renew.proofs.ReadForRenewal.{deep, info_refused}
 use Rattle.bag_renew.specs.NewInfo.{IsInfoAfter, IsInfoRefusal}
-use Rattle.bag_renew.proofs.renewing.read_and_plan.Goals as goal
+use Rattle.bag_renew.specs.Renew.{HasPlanned}
+use Rattle.bag_renew.proofs.renewing.plan_renewal.Goals as goal
 
 pub returns-in-Err-clause-refused : goal.returns-in-Err-clause-refused
 returns-in-Err-clause-refused g c =
@@ -20,13 +21,16 @@ pub returns-in-Ok-changes_of-clause-planned : goal.returns-in-Ok-changes_of-clau
 returns-in-Ok-changes_of-clause-planned g c =
     let facts = c.in_ok-facts.facts in
     let renewal = c.args.renewal.now in
-    planned renewal (g.T.Tree.state c.args.tree.now) (g.T.Tree.state c.read_bag.new.tree) facts
+    let old = g.T.Tree.state c.args.tree.now in
+    let new = g.T.Tree.state c.read_bag.new.tree in
+    subst (HasPlanned renewal old new) (sym c.from_vec.ensures)
+    (planned renewal old new facts
     c.in_ok-facts.checked.summed.items c.in_ok-facts.checked.info c.in_ok-facts.ensures.read c.in-Ok.info
     (subst (λ bytes. IfBagRead facts (λ bag. IsInfoAfter bag renewal (lines_of_file bytes) c.in-Ok.info))
     c.as_slice.ensures (λ bag of deep. c.in-Ok.ensures.text bag of deep (c.in_ok-facts.ensures.decided bag of deep)))
     c.in-Ok-changes_of.changes.items
     (λ bag of deep. c.in-Ok-changes_of.ensures.changes bag of deep renewal (c.in_ok-facts.ensures.decided bag of deep))
-    (sym c.is_bad_request.ensures ∙ c.if-is_bad_request.false) c.in-Ok-changes_of.ensures.files
+    (sym c.is_bad_request.ensures ∙ c.if-is_bad_request.false) c.in-Ok-changes_of.ensures.files)
 
 pub returns-then-is_bad_request-clause-opens : goal.returns-then-is_bad_request-clause-opens
 returns-then-is_bad_request-clause-opens g c =
