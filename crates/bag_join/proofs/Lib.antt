@@ -18,6 +18,5 @@ pub mod PartsOfBag
 pub mod Placing
 pub mod Plain
 pub mod Turns
-pub mod Walk
 pub mod WholeReport
 pub mod Words

@@ -11,6 +11,6 @@ case_reports_state reports = record {
   held = [];
   open_one = reports.number;
   given = reports.given.bytes;
-  earlier = reports.earlier.texts;
+  earlier = reports.earlier.items;
   has_failed = reports.has_failed;
 }
