@@ -1,6 +1,7 @@
-use Rattle.bag_renew_cli.proofs.Common.{inl, inr, [], refl, sym, ap, ◌∙◌, append-nil, Err, Ok}
+use Rattle.bag_renew_cli.proofs.Common.{inl, inr, [], refl, sym, ap, ◌∙◌, append-nil, Err}
 use Rattle.bag_cli.specs.Folders.{visits_of}
 use Rattle.bag_arguments.specs.Plan.{usage_status}
+use Rattle.bag_cli.proofs.Runs.{words_run}
 use Rattle.bag_renew_cli.proofs.whole_program.run_renewal.Goals as goal
 
 pub returns-in-Err : goal.returns-in-Err
@@ -25,20 +26,11 @@ returns-in-Err g c = (
 
 pub returns-in-Ok-texts_of : goal.returns-in-Ok-texts_of
 returns-in-Ok-texts_of g c =
-    let asked = c.in-Ok.ensures in
-    let done = c.renewal_program.ensures in (
+    let done = c.renewal_program.ensures in
+    words_run c.in-Ok.ensures (
       done.0,
       done.1,
-      inr (
-        Ok asked.0,
-        asked.1,
-        inr (rw (
-          c.deref-in-Ok-texts_of.ensures.value,
-          c.in-Ok-texts_of.ensures,
-          c.deref.ensures.value,
-          asked.2,
-        ) at done.2),
-      ),
+      rw (c.deref-in-Ok-texts_of.ensures.value, c.in-Ok-texts_of.ensures, c.deref.ensures.value) at done.2,
     )
 
 pub returns : goal.returns

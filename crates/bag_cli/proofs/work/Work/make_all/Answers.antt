@@ -11,7 +11,7 @@ returns-in_err-info g c =
 
 pub returns : goal.returns
 returns g c =
-    let done = c.make_each.ensures in (
+    let done = c.in_turn.ensures in (
       done.0,
       done.1,
       inr (rw (c.deref.ensures.value, c.in_ok-info.ensures.elements, c.as_slice.ensures) at done.2),
