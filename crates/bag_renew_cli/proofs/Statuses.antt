@@ -1,9 +1,11 @@
 -- The statuses of what is done with bags.
 use Rattle.bag_renew_cli.proofs.Common.{ℕ, List, Ok, OutState, Result, arith, inl, inr}
 use Rattle.std.proofs.Common.{◌≤◌, Err}
+use Rattle.std.specs.Prelude.{IfOk}
 use Rattle.bag_disk.specs.Disk.{DiskState}
 use Rattle.bag_store.specs.FileTree.{tree_state}
 use Rattle.bag_tree.specs.Tree.{TreeState}
+use Rattle.bag_tree.specs.declared.out.Refused.{Refused}
 use Rattle.bag_cli.proofs.Arms.{said_status}
 use Rattle.bag_cli.proofs.Makings.{deeds_status}
 use Rattle.bag_cli.specs.Visits.{Event}
@@ -29,7 +31,7 @@ unprinted_status : (unchecked : Unchecked) (n : ℕ) → is_status_of unchecked 
 unprinted_status (Faulty fault) n is = omega (arith, is)
 unprinted_status (Stopped stop) n is = omega (arith, is)
 
-pub deed_status : (plan : RenewPlan) (action : BagAction) (name : List ℕ) (tree new : TreeState)
+deed_status : (plan : RenewPlan) (action : BagAction) (name : List ℕ) (tree new : TreeState)
     (before after : OutState) (n : ℕ) → IsDone plan action name tree new before after (Ok n) → n ≤ 3
 deed_status plan Renew name tree new before after n done =
     omega (arith, done.reports.0, renewed_status done.renewed)
@@ -39,6 +41,14 @@ deed_status plan (Print alg) name tree new before after n done = elim done.print
   | inl is ↦ omega (arith, is.reports.0)
   | inr isnt ↦ unprinted_status isnt.unchecked n isnt.reports
 ]
+
+-- what was reported of a bag has a status
+pub reported_status : (plan : RenewPlan) (action : BagAction) (name : List ℕ) (tree new : TreeState)
+    (before after : OutState) (reported : Result ℕ Refused) → IsDone plan action name tree new before after reported
+    → IfOk reported (λ n. n ≤ 3)
+reported_status plan action name tree new before after (Ok n) done =
+    deed_status plan action name tree new before after n done
+reported_status plan action name tree new before after (Err refused) done = tt
 
 done_status : (action : RenewAction) (below : List ℕ → DiskState) (plan : RenewPlan) (before after : OutState)
     (visits : List Event) (n : ℕ) → IsDoneBy action below plan before after visits n → n ≤ 3

@@ -7,7 +7,7 @@ use crate::{BagAction, RenewPlan};
 use bag_cli::FolderDeed;
 use bag_disk::ReplaceDisk;
 use bag_store::FileTree;
-use bag_tree::{Out, Refused};
+use bag_tree::{Out, Refused, ReplaceTree};
 use std::alloc::Global;
 
 /// What a plan does with each bag.
@@ -16,6 +16,29 @@ pub(crate) struct Renewals<'w> {
     pub(crate) alloc: Global,
     pub(crate) plan: &'w RenewPlan,
     pub(crate) action: BagAction,
+}
+
+impl Renewals<'_> {
+    /// Does it with a tree, and reports that. Gives the status.
+    fn do_by<T: ReplaceTree, O: Out, E: Out>(
+        &self,
+        tree: &mut T,
+        name: &str,
+        out: &mut O,
+        err: &mut E,
+    ) -> Result<u8, Refused>
+        ensures { IsDone self.now.plan.now self.now.action name.now
+            (T.state tree.old) (T.state tree.new) (O.state out.old) (O.state out.new) result }
+    {
+        let alloc = self.alloc;
+        let renewal = &self.plan.renewal;
+        let quiet = self.plan.quiet;
+        match self.action {
+            BagAction::Renew => renew_and_report(alloc, tree, name, renewal, quiet, out),
+            BagAction::DryRun => plan_and_report(alloc, tree, name, renewal, quiet, out),
+            BagAction::Print(alg) => print_manifest(alloc, tree, name, alg, out, err),
+        }
+    }
 }
 
 impl FolderDeed for Renewals<'_> {
@@ -29,14 +52,7 @@ impl FolderDeed for Renewals<'_> {
         err: &mut E,
     ) -> (FileTree<K>, Result<u8, Refused>) {
         let mut tree = tree;
-        let alloc = self.alloc;
-        let renewal = &self.plan.renewal;
-        let quiet = self.plan.quiet;
-        let told = match self.action {
-            BagAction::Renew => renew_and_report(alloc, &mut tree, name, renewal, quiet, out),
-            BagAction::DryRun => plan_and_report(alloc, &mut tree, name, renewal, quiet, out),
-            BagAction::Print(alg) => print_manifest(alloc, &mut tree, name, alg, out, err),
-        };
+        let told = self.do_by(&mut tree, name, out, err);
         (tree, told)
     }
 }
