@@ -31,28 +31,10 @@ pub use Rattle.bag_tree.specs.Pieces.{Writes}
 pub use Rattle.bag_walk.specs.declared.outcome.Outcome.{Outcome}
 pub use Rattle.bag_walk.specs.declared.outcome.Outcome.TheVariants.{Clean, Unread, Unwritten}
 pub use Rattle.bag_walk.specs.declared.outcome.Request.{Request}
-pub use base.Logic.{SProp, emp, ent, fst∗, id⊢, sep, via}
-pub use contract.Monad.{Fun}
-pub use contract.Running.{tables}
-pub use denote.Steps.{closes, nothing, opens}
-pub use denote.Triple.Entry.{on_entry}
-pub use denote.Triple.Spec.{Meets, triple_of}
-pub use denote.Triple.Table.{entered}
-pub use denote.Triple.Walked.{AllGo, Goes-ref, Stays, Walks, ends_at, says, stay_ref, walk_Meets, walk_of, walked}
-pub use mir.Val.{Val, vcons, vnil, vptr, vstruct, vunit}
-pub use prog.Memory.{Memory}
-pub use prog.Routine.{Routine}
-pub use prog.Wp.{Calls, Loops, Tables, WpFn}
-pub use seplogic.Ra.Ura.{Ura}
-pub use sound.WpLaws.{WpFn-mono}
-pub use types.ByLocal.{alloc_all, free_all, get, look_at, pass_all, sets}
-pub use types.Kit.{ !, by, done, feq_i, fjoin, fjoin3, frame, fsplit, fsplit3, join, keep, move, qed, raw, split}
-pub use types.Kit.{suffices, use1, ‵, ◌$◌, ◌∵◌, ◌⊛◌}
-pub use types.Logic.{Logic}
-pub use types.Run.{and_then, enter, no_more, of_opd, returns, unit_lit}
 pub use Rattle.bag_cli.specs.Checked.{HaveNoFailure, AreChecksOf, HasRunOut, IsCheckOf, IsLastCheck}
 pub use Rattle.bag_cli.specs.Checking.{IsCheckOfSample}
 pub use Rattle.bag_cli.specs.Checked.{IsVisitToCheck, IsWholeCheck, profile_of, request_of, sum_of, visit_of}
+pub use Rattle.bag_cli.specs.FolderDeeds.{AreDoneWith, IsWholeDeed, TreeDeed}
 pub use Rattle.bag_cli.specs.Folders.{disks_of, tree_in, visits_of}
 pub use Rattle.bag_cli.specs.Halt.{status_of}
 pub use Rattle.bag_cli.specs.Honest.{HonestFoldersAreReported, IsReportedMade, IsReportedNotMade}
@@ -60,7 +42,7 @@ pub use Rattle.bag_cli.specs.InTurn.{AreInTurn, HasVisited, Last, Whole}
 pub use Rattle.bag_cli.specs.Joined.{AreJoined, IsJoin, IsJoinAt, Reported, join_status}
 pub use Rattle.bag_make.specs.WholeMaking.{IsMake}
 pub use Rattle.bag_cli.specs.Making.{ReportsMaking}
-pub use Rattle.bag_cli.specs.Makings.{AreMakingsOf, IsLastMaking, IsMakingReported, IsWholeMaking, element_of}
+pub use Rattle.bag_cli.specs.Makings.{AreMakingsOf, IsMakingBy, element_of}
 pub use Rattle.bag_cli.specs.CheckedAs.{AreCheckedAs, AreCheckedInForm, IsLastAs, IsWholeAs, in_form}
 pub use Rattle.bag_cli.specs.Performed.{AreChecked, AreMade, AreTarsChecked, Checks, IsChecked, IsDoneBy}
 pub use Rattle.bag_cli.specs.Performed.{IsPerformed, IsSaid}
@@ -74,4 +56,3 @@ pub use Rattle.bag_tar.specs.Archive.{ArchiveState}
 pub use Rattle.bag_cli.specs.UncheckedKeys.{unchecked_line, unchecked_lines}
 pub use Rattle.bag_cli.specs.Visits.{Asked, Closed, Entered, Event, Left, NotGiven, Opened, Read, Shut}
 pub use Rattle.bag_cli.specs.declared.profile_file.SummedProfile.{SummedProfile}
-pub use Rattle.bag_cli.specs.declared.record.Record.{Record}

@@ -1,5 +1,5 @@
 -- What is checked of the words of a plan: the bags in folders, or those in tar files.
-use Rattle.std.specs.Prelude.{ℕ, List, Option, Some, None, Result, MatchResult}
+use Rattle.std.specs.Prelude.{ℕ, List, Option, Some, None, Result}
 use Rattle.bag_disk.specs.Disk.{DiskState}
 use Rattle.bag_store.specs.FileTree.{tree_state}
 use Rattle.bag_tree.specs.Out.{OutState}
@@ -8,7 +8,7 @@ use Rattle.bag_arguments.specs.declared.plan.Action.{Action}
 use Rattle.bag_arguments.specs.declared.plan.Action.TheVariants.{CheckTars}
 use Rattle.bag_arguments.specs.declared.plan.Plan.{Plan}
 use Rattle.bag_cli.specs.Checked.{IsLastCheck, IsWholeCheck}
-use Rattle.bag_cli.specs.InTurn.{AreInTurn, Deed, Last, Whole}
+use Rattle.bag_cli.specs.InTurn.{AreInTurn, Deed, IsTurn, Last, Whole}
 use Rattle.bag_cli.specs.TarChecked.{Archived, IsLastTarCheck, IsWholeTarCheck}
 use Rattle.bag_cli.specs.Visits.{Event}
 use Rattle.bag_cli.specs.declared.profile_file.SummedProfile.{SummedProfile}
@@ -39,9 +39,9 @@ IsLastAs action below archived plan profile name =
 -- the bag of a name was checked, and has a status; or that was the last check
 abbrev pub ChecksAs : {E : Type 0} → Action → (List ℕ → DiskState) → Archived → Plan
     → Option SummedProfile → List ℕ → OutState → OutState → List Event → Result ℕ E → Type 0
-ChecksAs action below archived plan profile name before after visits answer = MatchResult answer
-    (λ n. IsWholeAs action below archived plan profile name before after visits n)
-    (λ _. IsLastAs action below archived plan profile name before after visits)
+ChecksAs action below archived plan profile =
+    IsTurn (IsLastAs action below archived plan profile)
+    (IsWholeAs action below archived plan profile)
 
 -- the bags of a plan's names were checked, one after the other
 abbrev pub AreCheckedAs : Action → (List ℕ → DiskState) → Archived → Plan

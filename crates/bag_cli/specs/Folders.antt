@@ -28,7 +28,7 @@ reports_in reported folders paths = reported (disks_of folders) paths
 
 -- what was done with folders, in order
 abbrev pub visits_of : {D : Type 0} → Visits D → List Event
-visits_of visits = visits.record.events
+visits_of visits = visits.record.items
 
 -- this was done with them, and no more
 abbrev pub AddsEvent : {D : Type 0} → Visits D → Visits D → Event → Type 0

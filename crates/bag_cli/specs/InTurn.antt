@@ -1,5 +1,5 @@
 -- What is done for names one after another, and the exit status.
-use Rattle.std.specs.Prelude.{ℕ, ◌≡◌, ◌⊎◌, List, [], ◌∷◌, ◌++◌, max}
+use Rattle.std.specs.Prelude.{ℕ, ◌≡◌, ◌⊎◌, List, [], ◌∷◌, ◌++◌, MatchResult, Result, max}
 use Rattle.bag_tree.specs.Out.{OutState}
 use Rattle.bag_tree.specs.declared.out.Out as Out
 use Rattle.bag_cli.specs.Folders.{visits_of}
@@ -16,6 +16,13 @@ Last = List ℕ → OutState → OutState → List Event → Type 0
 
 abbrev pub Whole : Type 1
 Whole = List ℕ → Deed
+
+-- it was done for a name, and has a status; or that was the last
+abbrev pub IsTurn : {E : Type 0} → Last → Whole → List ℕ → OutState → OutState → List Event
+    → Result ℕ E → Type 0
+IsTurn Ends Goes name before after visits answer = MatchResult answer
+    (λ n. Goes name before after visits n)
+    (λ _. Ends name before after visits)
 
 -- it went on to the others, and the status is the greatest
 pub record GoesToOthers (First : Deed) (Others : OutState → List Event → ℕ → Type 0)

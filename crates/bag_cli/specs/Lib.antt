@@ -1,6 +1,7 @@
 pub mod Checked
 pub mod CheckedAs
 pub mod Checking
+pub mod FolderDeeds
 pub mod Folders
 pub mod Halt
 pub mod Honest

@@ -7,7 +7,6 @@ use Rattle.bag_disk.specs.Disk.{DiskState}
 use Rattle.bag_tree.specs.Out.{IsCut, OutState}
 use Rattle.bag_cli.specs.Visits.{Event, Read}
 use Rattle.bag_store.specs.FileTree.{tree_state}
-use Rattle.bag_tags.specs.Element.{NewElement}
 use Rattle.bag_profile.specs.Profile.{Profile}
 use Rattle.bag_cli.specs.ProfileFile.{IsAnswer, IsReadAs}
 use Rattle.bag_cli.specs.ProfileRefusal.{refusal_status}
@@ -22,7 +21,7 @@ use Rattle.bag_cli.specs.Checked.{AreChecksOf, IsSampleChecked}
 use Rattle.bag_cli.specs.CheckedAs.{in_form}
 use Rattle.bag_cli.specs.InTurn.{Deed}
 use Rattle.bag_cli.specs.Joined.{AreJoined, Reported}
-use Rattle.bag_cli.specs.Makings.{AreMakingsOf, AreMakingsWith}
+use Rattle.bag_cli.specs.Makings.{AreMakingsOf}
 use Rattle.bag_cli.specs.TarChecked.{Archived, AreTarChecksOf}
 use Rattle.bag_cli.specs.declared.profile_file.SummedProfile.{SummedProfile}
 
@@ -94,12 +93,6 @@ IsChecked checked file plan (Some path) before after visits n =
     × (own : List Event) × (visits ≡ Read path answer ∷ own)
     × IsAnswer (file path) answer × IsReadAs answer read
     × IsCheckedFor checked plan read before after own n
-
--- the folders of a plan were made bags with these elements, on disks that hold this below each base
--- folder
-abbrev pub AreMadeWith : Below → Plan → List NewElement → Deed
-AreMadeWith below plan info =
-    AreMakingsWith plan info (λ name. tree_state (below name) 0) plan.directories
 
 -- the folders of a plan were made bags, on disks that hold this below each base folder; or memory
 -- for the elements, of which there are some, ran out

@@ -30,27 +30,25 @@ pub record IsProgram (below : Below) (archived : Archived) (reported : Reported)
   pub taken : clap_takes words ≡ true → IsNotRefused planned
   pub done : IsPlanPerformed below archived reported file planned before after visits n
 
--- what the words ask for was done, or memory for them ran out, and then nothing is written
-abbrev pub IsProgramOrNone : Below → Archived → Reported → ReadableFiles → List (List ℕ) → Deed
-IsProgramOrNone below archived reported file words before after visits n =
-    IsNothing 3 before after visits n
-    ⊎ IsProgram below archived reported file words before after visits n
+-- what a program does for an answer: where there are no words, it refuses them; else it does what
+-- they ask for without the program's name, or memory for them ran out, and then nothing is written
+abbrev pub IsDoneFor : (Usage → Deed) → (List (List ℕ) → Deed) → Result (List (List ℕ)) Usage → Deed
+IsDoneFor Refuses Does (Err usage) before after visits n = Refuses usage before after visits n
+IsDoneFor Refuses Does (Ok words) before after visits n =
+    IsNothing 3 before after visits n ⊎ Does (drop 1 words) before after visits n
 
--- where there are no words, nothing is written; else what they ask for without the program's name
--- was done
-abbrev pub IsDoneFor : Below → Archived → Reported → ReadableFiles
-    → Result (List (List ℕ)) Usage → Deed
-IsDoneFor below archived reported file (Err usage) before after visits n =
-    IsNothing (usage_status usage) before after visits n
-IsDoneFor below archived reported file (Ok words) before after visits n =
-    IsProgramOrNone below archived reported file (drop 1 words) before after visits n
-
--- The program was given one of these answers, and did what it asks for on disks that hold this
--- below each base folder, where tar files and reports are these and files have these bytes; or
--- memory for the words ran out, and then nothing is written.
-abbrev pub IsWholeProgram : (Result (List (List ℕ)) Usage → Type 0) → Below → Archived → Reported
-    → ReadableFiles → Deed
-IsWholeProgram answers below archived reported file before after visits n =
+-- A program was given one of these answers, and did what it asks for; or memory for the words ran
+-- out, and then nothing is written.
+abbrev pub IsRun : (Result (List (List ℕ)) Usage → Type 0) → (Usage → Deed)
+    → (List (List ℕ) → Deed) → Deed
+IsRun answers Refuses Does before after visits n =
     IsNothing 3 before after visits n
     ⊎ ((answer : Result (List (List ℕ)) Usage) × answers answer
-    × IsDoneFor below archived reported file answer before after visits n)
+    × IsDoneFor Refuses Does answer before after visits n)
+
+-- The same of this program, on disks that hold this below each base folder, where tar files and
+-- reports are these and files have these bytes.
+abbrev pub IsWholeProgram : (Result (List (List ℕ)) Usage → Type 0) → Below → Archived → Reported
+    → ReadableFiles → Deed
+IsWholeProgram answers below archived reported file =
+    IsRun answers (λ usage. IsNothing (usage_status usage)) (IsProgram below archived reported file)

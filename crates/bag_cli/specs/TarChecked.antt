@@ -15,8 +15,8 @@ use Rattle.bag_tree.specs.Tree.{TreeState}
 use Rattle.bag_tree.specs.declared.out.Refused.{Refused}
 use Rattle.bag_arguments.specs.declared.plan.Plan.{Plan}
 use Rattle.bag_cli.specs.Checked.{IsLastCheck, IsWholeCheck}
+use Rattle.bag_cli.specs.FolderDeeds.{IsNotGiven, Reports}
 use Rattle.bag_cli.specs.InTurn.{AreInTurn, Deed}
-use Rattle.bag_cli.specs.Makings.{IsNotGiven}
 use Rattle.bag_cli.specs.TarLine.{no_tree_line}
 use Rattle.bag_cli.specs.Visits.{Event, Opened, Shut}
 use Rattle.bag_cli.specs.declared.profile_file.SummedProfile.{SummedProfile}
@@ -42,11 +42,7 @@ pub record MakesNoTree (archive new : ArchiveState) (stop : TarStop) : Type 0 wh
 -- prefix
 abbrev pub TellsNoTree : List ℕ → List ℕ → TarFault
     → OutState → OutState → Result ℕ Refused → Type 0
-TellsNoTree name member cause before after told =
-    MatchResult told
-    (λ n. (n ≡ 3) × Appends before.taken after.taken (no_tree_line name member cause))
-    (λ _. IsCut before.taken after.taken (no_tree_line name member cause)
-    × (after.has_refused ≡ true))
+TellsNoTree name member cause = Reports (no_tree_line name member cause) 3
 
 -- the name of the member at a place of an archive that is read again; or that was refused
 abbrev pub IsReadAgain : ArchiveState → ArchiveState → ℕ → Option (List ℕ) → Type 0

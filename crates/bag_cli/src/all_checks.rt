@@ -1,14 +1,14 @@
 //! Checks of bags, one after the other.
 ghost use Rattle.std.specs.Option.{option_copied};
 ghost use Rattle.bag_cli.specs.Checked.{IsSampleChecked};
-ghost use Rattle.bag_cli.specs.CheckedAs.{AreCheckedAs, ChecksAs};
-ghost use Rattle.bag_cli.specs.Folders.{disks_of, visits_of};
+ghost use Rattle.bag_cli.specs.CheckedAs.{AreCheckedAs, IsLastAs, IsWholeAs};
+ghost use Rattle.bag_cli.specs.Folders.{disks_of};
 ghost use Rattle.bag_cli.specs.Halt.{status_of};
-ghost use Rattle.bag_cli.specs.InTurn.{Does, HasVisited};
+ghost use Rattle.bag_cli.specs.InTurn.{Does};
 
 use crate::check::{check_sample, whole_status};
 use crate::work::Work;
-use crate::{Disks, Halt, SummedProfile, Visits};
+use crate::{Disks, Halt, SummedProfile, Turn, Visits, in_turn};
 use bag_arguments::{Action, Plan};
 use bag_tree::Out;
 use std::alloc::Global;
@@ -18,6 +18,40 @@ pub(crate) fn check_samples<O: Out>(alloc: Global, plan: &Plan, out: &mut O) -> 
     ensures { IsSampleChecked plan.now (O.state out.old) (O.state out.new) (status_of result) }
 {
     whole_status(check_sample(alloc, plan, out))
+}
+
+/// The checks of the bags of a plan's words, by this profile or without one.
+#[derive(Drop)]
+struct Checks<'w, D> {
+    work: &'w Work<'w, D>,
+    profile: Option<&'w SummedProfile>,
+}
+
+impl<D: Disks> Turn<D> for Checks<'_, D> {
+    ghost last = { λ it. IsLastAs it.work.now.plan.now.action
+        (D.below (disks_of it.work.now.folders.now)) (D.archived (disks_of it.work.now.folders.now))
+        it.work.now.plan.now (option_copied it.profile) };
+
+    ghost whole = { λ it. IsWholeAs it.work.now.plan.now.action
+        (D.below (disks_of it.work.now.folders.now)) (D.archived (disks_of it.work.now.folders.now))
+        it.work.now.plan.now (option_copied it.profile) };
+
+    /// Checks the bag of a word: in the folder of this name, or in the tar file, by the plan.
+    fn do_for<O: Out, E: Out>(
+        &self,
+        name: &str,
+        visits: &mut Visits<D>,
+        out: &mut O,
+        err: &mut E,
+    ) -> Result<u8, Halt> {
+        let work = self.work;
+        match &work.plan.action {
+            Action::CheckTars => work.check_tar(self.profile, name, visits, out, err),
+            Action::Sample | Action::Help(_) | Action::Check | Action::Join | Action::Make => {
+                work.check_folder(self.profile, name, visits, out, err)
+            }
+        }
+    }
 }
 
 impl<D: Disks> Work<'_, D> {
@@ -35,33 +69,10 @@ impl<D: Disks> Work<'_, D> {
             (D.archived (disks_of self.now.folders.now)) self.now.plan.now
             (option_copied profile.entry)) }
     {
-        let mut greatest = 0;
-        for directory in self.plan.directories.as_slice() {
-            let status = self.check_word(profile, directory.as_str(), visits, out, err)?;
-            greatest = greatest.max(status);
-        }
-        Ok(greatest)
-    }
-
-    /// Checks the bag of a word: in the folder of this name, or in the tar file, by the plan.
-    fn check_word<O: Out, E: Out>(
-        &self,
-        profile: Option<&SummedProfile>,
-        word: &str,
-        visits: &mut Visits<D>,
-        out: &mut O,
-        err: &mut E,
-    ) -> Result<u8, Halt>
-        ensures { HasVisited (visits_of visits.old) (visits_of visits.new) (λ own.
-            ChecksAs self.now.plan.now.action (D.below (disks_of self.now.folders.now))
-            (D.archived (disks_of self.now.folders.now)) self.now.plan.now
-            (option_copied profile.entry) word.now (O.state out.old) (O.state out.new) own result) }
-    {
-        match &self.plan.action {
-            Action::CheckTars => self.check_tar(profile, word, visits, out, err),
-            Action::Sample | Action::Help(_) | Action::Check | Action::Join | Action::Make => {
-                self.check_folder(profile, word, visits, out, err)
-            }
-        }
+        let checks = Checks {
+            work: self,
+            profile,
+        };
+        in_turn(&checks, self.plan.directories.as_slice(), visits, out, err)
     }
 }

@@ -1,16 +1,18 @@
 //! Bags that are made of folders, one after the other.
 ghost use Rattle.std.specs.Prelude.{◌≡◌, ◌≢◌, [], IfOk, OnErr, map};
-ghost use Rattle.bag_cli.specs.Folders.{disks_of, tree_in, visits_of};
+ghost use Rattle.bag_cli.specs.Folders.{disks_of};
 ghost use Rattle.bag_cli.specs.Halt.{status_of};
-ghost use Rattle.bag_cli.specs.InTurn.{Does, HasVisited};
-ghost use Rattle.bag_cli.specs.Makings.{element_of, AnswersMaking};
-ghost use Rattle.bag_cli.specs.Performed.{AreMade, AreMadeWith};
+ghost use Rattle.bag_cli.specs.InTurn.{Does};
+ghost use Rattle.bag_cli.specs.Makings.{element_of, IsMakingBy};
+ghost use Rattle.bag_cli.specs.Performed.{AreMade};
 
 use crate::work::Work;
-use crate::{Disks, Halt, Visits, make_and_report, say_trouble};
-use bag_arguments::InfoItem;
+use crate::{Disks, FolderDeed, Halt, InFolders, Visits, in_turn, make_and_report};
+use bag_arguments::{InfoItem, Plan};
+use bag_disk::ReplaceDisk;
+use bag_store::FileTree;
 use bag_text::{Text, said};
-use bag_tree::Out;
+use bag_tree::{Out, Refused};
 use std::alloc::{AllocError, Global};
 
 /// The labels and values of a plan's elements, in their order, which are copied. It fails only when
@@ -26,6 +28,31 @@ pub fn elements(alloc: Global, info: &[InfoItem]) -> Result<Vec<(Text, Text)>, A
     Ok(elements)
 }
 
+/// What makes a folder a bag, with these elements.
+#[derive(Drop)]
+struct Making<'w> {
+    alloc: Global,
+    plan: &'w Plan,
+    info: &'w [(Text, Text)],
+}
+
+impl FolderDeed for Making<'_> {
+    ghost done = { λ it. IsMakingBy it.plan.now it.info.now };
+
+    fn do_with<K: ReplaceDisk + Drop, O: Out, E: Out>(
+        &self,
+        tree: FileTree<K>,
+        name: &str,
+        out: &mut O,
+        _err: &mut E,
+    ) -> (FileTree<K>, Result<u8, Refused>) {
+        let plan = self.plan;
+        make_and_report(
+            self.alloc, tree, name, plan.algs, self.info, plan.quiet, out,
+        )
+    }
+}
+
 impl<D: Disks> Work<'_, D> {
     /// Makes the folders of the plan bags in place, one after the other. Gives the greatest status.
     pub(crate) fn make_all<O: Out, E: Out>(
@@ -37,51 +64,20 @@ impl<D: Disks> Work<'_, D> {
         ensures { Does O.Out visits.old visits.new out.old out.new (status_of result)
             (AreMade (D.below (disks_of self.now.folders.now)) self.now.plan.now) }
     {
-        let info = elements(self.alloc, self.plan.info.as_slice())?;
-        self.make_each(&info, visits, out, err)
-    }
-
-    /// The same, with these elements.
-    fn make_each<O: Out, E: Out>(
-        &self,
-        info: &[(Text, Text)],
-        visits: &mut Visits<D>,
-        out: &mut O,
-        err: &mut E,
-    ) -> Result<u8, Halt>
-        ensures { Does O.Out visits.old visits.new out.old out.new (status_of result)
-            (AreMadeWith (D.below (disks_of self.now.folders.now)) self.now.plan.now info.now) }
-    {
-        let mut greatest = 0;
-        for directory in self.plan.directories.as_slice() {
-            let status = self.make_folder(info, directory.as_str(), visits, out, err)?;
-            greatest = greatest.max(status);
-        }
-        Ok(greatest)
-    }
-
-    /// Makes a folder a bag, with these elements. Gives the status where that was reported, and
-    /// says on `err` why the system refused.
-    fn make_folder<O: Out, E: Out>(
-        &self,
-        info: &[(Text, Text)],
-        directory: &str,
-        visits: &mut Visits<D>,
-        out: &mut O,
-        err: &mut E,
-    ) -> Result<u8, Halt>
-        ensures { HasVisited (visits_of visits.old) (visits_of visits.new) (λ own.
-            AnswersMaking self.now.plan.now info.now
-            (tree_in D.below self.now.folders.now directory.now) directory.now
-            (O.state out.old) (O.state out.new) own result) }
-    {
+        let alloc = self.alloc;
         let plan = self.plan;
-        let tree = self.folders.enter(self.alloc, directory, visits)?;
-        let (tree, told) = make_and_report(
-            self.alloc, tree, directory, plan.algs, info, plan.quiet, out,
-        );
-        say_trouble(self.alloc, said::PROGRAM, self.folders.trouble(&tree), err);
-        self.folders.leave(tree, visits);
-        Ok(told?)
+        let info = elements(alloc, plan.info.as_slice())?;
+        let deed = Making {
+            alloc,
+            plan,
+            info: &info,
+        };
+        let makings = InFolders {
+            alloc,
+            folders: self.folders,
+            program: said::PROGRAM,
+            deed,
+        };
+        in_turn(&makings, plan.directories.as_slice(), visits, out, err)
     }
 }

@@ -1,6 +1,6 @@
 //! What ends the program before all is done.
 ghost use Rattle.std.specs.Prelude.{◌≡◌, ◌++◌};
-ghost use Rattle.bag_cli.specs.Halt.{halt_line};
+ghost use Rattle.bag_cli.specs.Halt.{halt_line, status_of};
 ghost use Rattle.bag_cli.specs.Saying.{Says};
 ghost use Rattle.bag_cli.specs.declared.halt.Halt.TheVariants.{Memory, Unwritten};
 
@@ -33,6 +33,16 @@ impl Halt {
             Halt::Memory => say_on(err, &[program, said::OUT_OF_MEMORY, "\n"]),
         }
         REFUSED
+    }
+}
+
+/// The status of what was done. What ended it is said on `err`, after this name of the program.
+pub fn told_status<E: Out>(done: Result<u8, Halt>, program: &str, err: &mut E) -> u8
+    ensures { result ≡ status_of done }
+{
+    match done {
+        Ok(status) => status,
+        Err(halt) => halt.tell(program, err),
     }
 }
 

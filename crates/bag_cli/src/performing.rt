@@ -10,7 +10,9 @@ ghost use Rattle.bag_cli.specs.Performed.{AreCheckedBy, IsChecked, IsPerformed, 
 use crate::all_checks::check_samples;
 use crate::unchecked_keys::say_unchecked;
 use crate::work::Work;
-use crate::{Disks, Folders, Halt, SummedProfile, Visits, read_profile, refuse_profile};
+use crate::{
+    Disks, Folders, Halt, SummedProfile, Visits, read_profile, refuse_profile, told_status,
+};
 use bag_arguments::{Action, Plan};
 use bag_text::said;
 use bag_tree::{Out, put_pieces};
@@ -50,10 +52,8 @@ pub fn perform<D: Disks, O: Out, E: Out>(
         folders,
         plan,
     };
-    match work.perform(visits, out, err) {
-        Ok(status) => status,
-        Err(halt) => halt.tell(said::PROGRAM, err),
-    }
+    let done = work.perform(visits, out, err);
+    told_status(done, said::PROGRAM, err)
 }
 
 impl<D: Disks> Work<'_, D> {

@@ -3,7 +3,8 @@ ghost use Rattle.std.specs.Prelude.{◌≡◌, []};
 ghost use Rattle.bag_cli.specs.Folders.{visits_of, AddsEvent};
 ghost use Rattle.bag_cli.specs.Visits.{Event};
 
-use crate::record::Record;
+use crate::happening::Happening;
+use bag_join::Noted;
 use std::marker::PhantomData;
 
 /// Which folders were looked into that disks of the type `D` reach, one after another, as what
@@ -15,7 +16,7 @@ use std::marker::PhantomData;
 #[derive(Drop)]
 pub struct Visits<D> {
     of: PhantomData<D>,
-    record: Record,
+    record: Noted<Happening>,
 }
 
 impl<D> Visits<D> {
@@ -25,7 +26,7 @@ impl<D> Visits<D> {
     {
         Visits {
             of: PhantomData,
-            record: Record::none(),
+            record: Noted::none(),
         }
     }
 
@@ -34,6 +35,6 @@ impl<D> Visits<D> {
         ghost event: { Event }
         ensures { AddsEvent self.old self.new event }
     {
-        self.record.note();
+        self.record.note_of(_value);
     }
 }

@@ -1,14 +1,13 @@
 -- The manifest of one algorithm, as it is written.
 use Rattle.bag_renew_cli.proofs.Common.{◌≡◌, ◌∷◌, ◌∙◌, ℕ, List, [], inl, refl, ap, subst, Alg, OutState, Refused, Result}
-use Rattle.std.proofs.Common.{append-nil, IsTrue, true}
-use Rattle.std.specs.Prelude.{flat_map, MatchResult}
-use Rattle.std.specs.Io.KnownBytes.{Appends}
+use Rattle.std.proofs.Common.{append-nil, IsTrue}
+use Rattle.std.specs.Prelude.{flat_map}
 use Rattle.bag_text.specs.AlgList.{with_member}
 use Rattle.bag_text.specs.declared.alg.Alg.TheVariants.{Md5, Sha1, Sha224, Sha256, Sha384, Sha512}
 use Rattle.bag_facts.specs.Facts.{rules_in}
 use Rattle.bag_stages.specs.Payload.{payload}
 use Rattle.bag_tree.specs.Tree.{Keeps, TreeState}
-use Rattle.bag_tree.specs.Out.{IsCut}
+use Rattle.bag_cli.specs.FolderDeeds.{Reports}
 use Rattle.bag_renew.specs.NewManifests.{AreOfSameBytes, manifests_for}
 use Rattle.bag_renew.specs.Openings.{OpensAllInTurn}
 use Rattle.bag_renew.specs.Renewed.{File, manifest}
@@ -29,8 +28,7 @@ module _ (alg : Alg) (algs : List Alg) (is : algs ≡ alg ∷ []) (old new : Tre
   pub printed : Keeps old new → OpensAllInTurn old new → AreOfSameBytes algs old new made
       → (IsTrue old.honest → HasNoFault old.bag)
       → (IsTrue old.honest → made ≡ manifests_for (rules_in old.bag) algs (payload old.bag))
-      → MatchResult reported (λ n. (n ≡ 0) × Appends before.taken after.taken (flat_map text_of made))
-      (λ _. IsCut before.taken after.taken (flat_map text_of made) × (after.has_refused ≡ true))
+      → Reports (flat_map text_of made) 0 before after reported
       → IsPrinting alg old new before after reported
   printed keeps opens same valid manifests reports = record {
     keeps = keeps;

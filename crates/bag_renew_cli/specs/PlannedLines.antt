@@ -6,7 +6,6 @@ use Rattle.bag_facts.specs.FaultLine.{field}
 use Rattle.bag_tree.specs.declared.file_change.FileChange.{FileChange}
 use Rattle.bag_tree.specs.declared.file_change.FileChange.TheVariants.{Put, Remove}
 use Rattle.bag_renew.specs.declared.fault.RenewFault.{RenewFault}
-use Rattle.bag_renew.specs.declared.fault.RenewFault.TheVariants as why
 use Rattle.bag_renew_cli.specs.RenewalLine.{not_renewed_line, reason}
 
 -- the line that says this of a file of the bag of this name, with its end
@@ -26,9 +25,3 @@ change_lines name changes = flat_map (change_line name) changes
 abbrev pub planned_lines : List ℕ → Result (List FileChange) RenewFault → Bool → List ℕ
 planned_lines name (Ok changes) quiet = if quiet then [] else change_lines name changes
 planned_lines name (Err fault) quiet = not_renewed_line name (reason fault)
-
--- the exit status
-abbrev pub plan_status : Result (List FileChange) RenewFault → ℕ
-plan_status (Ok changes) = 0
-plan_status (Err (why.Faulty fault)) = 1
-plan_status (Err fault) = 3

@@ -1,14 +1,14 @@
 -- Writing the new manifest of a bag without a fault.
-use Rattle.std.specs.Prelude.{ℕ, ◌≡◌, ◌⊎◌, ◌∷◌, List, [], true, IsTrue, Result, MatchResult}
+use Rattle.std.specs.Prelude.{ℕ, ◌≡◌, ◌⊎◌, ◌∷◌, List, [], IsTrue, Result, MatchResult}
 use Rattle.std.specs.Prelude.{flat_map}
-use Rattle.std.specs.Io.KnownBytes.{Appends}
 use Rattle.bag_text.specs.declared.alg.Alg.{Alg}
 use Rattle.bag_facts.specs.Facts.{rules_in}
 use Rattle.bag_stages.specs.Payload.{payload}
-use Rattle.bag_tree.specs.Out.{IsCut, OutState}
+use Rattle.bag_tree.specs.Out.{OutState}
 use Rattle.bag_tree.specs.Tree.{Keeps, TreeState}
 use Rattle.bag_tree.specs.declared.out.Refused.{Refused}
 use Rattle.bag_report.specs.Valid.{HasNoFault}
+use Rattle.bag_cli.specs.FolderDeeds.{Reports}
 use Rattle.bag_renew.specs.NewManifests.{AreOfSameBytes, IsRefusedFor}
 use Rattle.bag_renew.specs.Openings.{OpensAllInTurn, OpensBeforeFiles}
 use Rattle.bag_renew.specs.Renewed.{File, manifest}
@@ -41,9 +41,7 @@ pub record IsPrinted (alg : Alg) (old new : TreeState) (before after : OutState)
   pub valid : IsTrue old.honest → HasNoFault old.bag
   pub text : IsTrue old.honest
       → flat_map text_of made ≡ manifest (rules_in old.bag) alg (payload old.bag)
-  pub reports : MatchResult reported
-      (λ n. (n ≡ 0) × Appends before.taken after.taken (flat_map text_of made))
-      (λ _. IsCut before.taken after.taken (flat_map text_of made) × (after.has_refused ≡ true))
+  pub reports : Reports (flat_map text_of made) 0 before after reported
 
 -- The bag was refused, and nothing was written.
 pub record IsNotPrinted (old new : TreeState) (before after : OutState)

@@ -1,10 +1,11 @@
 -- What the whole program does, and which folders it looks into meanwhile.
-use Rattle.std.specs.Prelude.{ℕ, ◌≡◌, ◌⊎◌, true, List, Result, Ok, Err, codes, drop}
+use Rattle.std.specs.Prelude.{ℕ, ◌≡◌, ◌⊎◌, true, List, Result, Ok, Err, codes}
 use Rattle.bag_tree.specs.Out.{OutState}
 use Rattle.bag_arguments.specs.Plan.{usage_status as status_without_words}
 use Rattle.bag_arguments.specs.declared.usage.Usage.{Usage}
 use Rattle.bag_cli.specs.InTurn.{Deed}
 use Rattle.bag_cli.specs.Performed.{Below, IsNothing}
+use Rattle.bag_cli.specs.Program.{IsRun}
 use Rattle.bag_cli.specs.Visits.{Event}
 use Rattle.bag_renew_cli.specs.Plan.{IsNotRefused, IsPlanned, usage_status}
 use Rattle.bag_renew_cli.specs.Renewals.{IsPerformed}
@@ -30,11 +31,6 @@ pub record IsProgram (below : Below) (words : List (List ℕ))
   pub taken : clap_takes words ≡ true → IsNotRefused planned
   pub done : IsPlanPerformed below planned before after visits n
 
--- what the words ask for was done, or memory for them ran out, and then nothing is written
-abbrev pub IsProgramOrNone : Below → List (List ℕ) → Deed
-IsProgramOrNone below words before after visits n =
-    IsNothing 3 before after visits n ⊎ IsProgram below words before after visits n
-
 -- why there are no words is told by a usage of the same status
 abbrev pub is_usage_of : Usage → RenewUsage → Type 0
 is_usage_of usage told =
@@ -45,19 +41,11 @@ abbrev pub IsUnread : RenewUsage → Type 0
 IsUnread usage =
     (usage ≡ Refused (codes "bagit-renew: a word isn't UTF-8\n")) ⊎ (usage ≡ Memory)
 
--- where there are no words, nothing is written; else what they ask for without the program's name
--- was done
-abbrev pub IsDoneFor : Below → Result (List (List ℕ)) Usage → Deed
-IsDoneFor below (Err usage) before after visits n =
-    IsNothing (status_without_words usage) before after visits n
-    ⊎ IsNothing 3 before after visits n
-IsDoneFor below (Ok words) before after visits n =
-    IsProgramOrNone below (drop 1 words) before after visits n
-
 -- The program was given one of these answers, and did what it asks for on disks that hold this
 -- below each base folder; or memory for the words ran out, and then nothing is written.
 abbrev pub IsWholeProgram : (Result (List (List ℕ)) Usage → Type 0) → Below → Deed
-IsWholeProgram answers below before after visits n =
-    IsNothing 3 before after visits n
-    ⊎ ((answer : Result (List (List ℕ)) Usage) × answers answer
-    × IsDoneFor below answer before after visits n)
+IsWholeProgram answers below =
+    IsRun answers
+    (λ usage before after visits n. IsNothing (status_without_words usage) before after visits n
+    ⊎ IsNothing 3 before after visits n)
+    (IsProgram below)

@@ -48,8 +48,8 @@ abbrev pub line : List ℕ → Result (Unit {0}) RenewFault → Bool → List �
 line name (Ok _) quiet = if quiet then [] else renewed_line name
 line name (Err fault) quiet = not_renewed_line name (reason fault)
 
--- the exit status
-abbrev pub renewal_status : Result (Unit {0}) RenewFault → ℕ
+-- the exit status, also of what would be done
+abbrev pub renewal_status : {T : Type 0} → Result T RenewFault → ℕ
 renewal_status (Ok _) = 0
 renewal_status (Err (why.Faulty fault)) = 1
 renewal_status (Err fault) = 3

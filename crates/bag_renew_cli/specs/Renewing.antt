@@ -1,24 +1,17 @@
 -- What is done with one bag, and what is reported of it.
-use Rattle.std.specs.Prelude.{ℕ, ◌≡◌, Bool, true, List, Result, MatchResult, IfErr, IfOk}
-use Rattle.std.specs.Io.KnownBytes.{Appends}
-use Rattle.bag_tree.specs.Out.{IsCut, OutState}
+use Rattle.std.specs.Prelude.{ℕ, Bool, List, Result, IfErr, IfOk}
+use Rattle.bag_tree.specs.Out.{OutState}
 use Rattle.bag_tree.specs.Tree.{Keeps, TreeState}
 use Rattle.bag_tree.specs.declared.file_change.FileChange.{FileChange}
 use Rattle.bag_tree.specs.declared.out.Refused.{Refused}
+use Rattle.bag_cli.specs.FolderDeeds.{Reports}
 use Rattle.bag_renew.specs.Openings.{OpensBefore, OpensForRenewal}
 use Rattle.bag_renew.specs.Reading.{MayRefuseReading}
 use Rattle.bag_renew.specs.Renew.{HasPlanned, IsRenewal}
 use Rattle.bag_renew.specs.declared.fault.RenewFault.{RenewFault}
 use Rattle.bag_renew.specs.declared.renewal.Renewal.{Renewal}
-use Rattle.bag_renew_cli.specs.PlannedLines.{plan_status, planned_lines}
+use Rattle.bag_renew_cli.specs.PlannedLines.{planned_lines}
 use Rattle.bag_renew_cli.specs.RenewalLine.{line, renewal_status}
-
--- the output took the text, and this is the status; or it refused, and took a proper prefix
-abbrev pub Reports : List ℕ → ℕ → OutState → OutState → Result ℕ Refused → Type 0
-Reports text status before after reported =
-    MatchResult reported
-    (λ n. (n ≡ status) × Appends before.taken after.taken text)
-    (λ _. IsCut before.taken after.taken text × (after.has_refused ≡ true))
 
 abbrev pub ReportsRenewal : List ℕ → Result (Unit {0}) RenewFault → Bool
     → OutState → OutState → Result ℕ Refused → Type 0
@@ -33,7 +26,7 @@ pub record IsRenewing (name : List ℕ) (renewal : Renewal) (quiet : Bool)
 
 abbrev pub ReportsPlan : List ℕ → Result (List FileChange) RenewFault → Bool
     → OutState → OutState → Result ℕ Refused → Type 0
-ReportsPlan name planned quiet = Reports (planned_lines name planned quiet) (plan_status planned)
+ReportsPlan name planned quiet = Reports (planned_lines name planned quiet) (renewal_status planned)
 
 -- what would be put and removed, or why nothing is, was reported under this name; the bag stays as
 -- it is, and files are opened as for a renewal

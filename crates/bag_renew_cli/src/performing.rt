@@ -8,7 +8,7 @@ ghost use Rattle.bag_renew_cli.specs.Renewals.{IsPerformed};
 use crate::renewals::Renewals;
 use crate::said::PROGRAM;
 use crate::{RenewAction, RenewPlan};
-use bag_cli::{Disks, Folders, Halt, Visits, write_text};
+use bag_cli::{Disks, Folders, Halt, InFolders, Visits, in_turn, told_status, write_text};
 use bag_tree::Out;
 use std::alloc::Global;
 
@@ -30,10 +30,8 @@ pub fn perform<D: Disks, O: Out, E: Out>(
     ensures performed { Does O.Out visits.old visits.new out.old out.new result
         (IsPerformed (D.below (disks_of folders.now)) plan.now) }
 {
-    match do_plan(alloc, folders, plan, visits, out, err) {
-        Ok(status) => status,
-        Err(halt) => halt.tell(PROGRAM, err),
-    }
+    let done = do_plan(alloc, folders, plan, visits, out, err);
+    told_status(done, PROGRAM, err)
 }
 
 /// Does a plan. Gives the status.
@@ -51,13 +49,18 @@ fn do_plan<D: Disks, O: Out, E: Out>(
     match &plan.action {
         RenewAction::Help(text) => write_text(text.as_str(), out),
         RenewAction::Bags(action) => {
-            let renewals = Renewals {
+            let deed = Renewals {
                 alloc,
-                folders,
                 plan,
                 action: *action,
             };
-            renewals.do_each(visits, out, err)
+            let renewals = InFolders {
+                alloc,
+                folders,
+                program: PROGRAM,
+                deed,
+            };
+            in_turn(&renewals, plan.directories.as_slice(), visits, out, err)
         }
     }
 }

@@ -36,12 +36,13 @@ pub fn put_renewal<W: Out>(
     }
 }
 
-/// The exit status: 1 where the bag has a fault, and 3 where it wasn't renewed for another reason.
-pub fn renewal_status(renewed: &Result<(), RenewFault>) -> u8
+/// The exit status of a renewal, or of what it would do: 1 where the bag has a fault, and 3 where
+/// it isn't renewed for another reason.
+pub fn renewal_status<T>(renewed: &Result<T, RenewFault>) -> u8
     ensures { result ≡ spec.renewal_status renewed.now }
 {
     match renewed {
-        Ok(()) => 0,
+        Ok(_) => 0,
         Err(RenewFault::Faulty(_)) => 1,
         Err(_) => 3,
     }

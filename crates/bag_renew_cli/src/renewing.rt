@@ -1,6 +1,4 @@
 //! Renewing one bag, and saying how it went.
-ghost use Rattle.std.specs.Prelude.{◌≡◌};
-ghost use Rattle.bag_renew_cli.specs.PlannedLines.{plan_status as status_of_plan};
 ghost use Rattle.bag_renew_cli.specs.Renewing.{IsDryRun, IsRenewing, ReportsPlan, ReportsRenewal};
 
 use crate::planned_lines::put_planned;
@@ -70,16 +68,5 @@ fn tell_plan<W: Out>(
     ensures { ReportsPlan name.now planned.now quiet (W.state out.old) (W.state out.new) result }
 {
     put_planned(name, planned, quiet, out)?;
-    Ok(plan_status(planned))
-}
-
-/// The exit status.
-fn plan_status(planned: &Result<Items<FileChange>, RenewFault>) -> u8
-    ensures { result ≡ status_of_plan planned.now }
-{
-    match planned {
-        Ok(_) => 0,
-        Err(RenewFault::Faulty(_)) => 1,
-        Err(_) => 3,
-    }
+    Ok(renewal_status(planned))
 }

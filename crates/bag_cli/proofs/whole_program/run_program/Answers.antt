@@ -1,5 +1,7 @@
-use Rattle.bag_cli.proofs.Common.{inl, inr, [], refl, sym, ap, ◌∙◌, append-nil, Err, Ok, visits_of}
+use Rattle.bag_cli.proofs.Common.{inl, inr, [], refl, sym, ap, ◌∙◌, append-nil, disks_of, Err, visits_of}
 use Rattle.bag_arguments.specs.Plan.{usage_status}
+use Rattle.bag_cli.proofs.Runs.{words_run}
+use Rattle.bag_cli.specs.Program.{IsProgram}
 use Rattle.bag_cli.proofs.whole_program.run_program.Goals as goal
 
 pub returns-in-Err : goal.returns-in-Err
@@ -14,20 +16,13 @@ returns-in-Err g c = (
 
 pub returns-in-Ok-texts_of : goal.returns-in-Ok-texts_of
 returns-in-Ok-texts_of g c =
-    let asked = c.in-Ok.ensures in
-    let done = c.program.ensures in (
+    let done = c.program.ensures in
+    let disks = disks_of c.args.folders.now in
+    words_run (IsProgram (g.D.Disks.below disks) (g.D.Disks.archived disks) (g.D.Disks.reported disks) (g.D.Disks.file disks))
+    (visits_of c.args.visits.now) c.in-Ok.words.items c.in-Ok.ensures (
       done.0,
       done.1,
-      inr (
-        Ok asked.0,
-        asked.1,
-        inr (rw (
-          c.deref-in-Ok-texts_of.ensures.value,
-          c.in-Ok-texts_of.ensures,
-          c.deref.ensures.value,
-          asked.2,
-        ) at done.2),
-      ),
+      rw (c.deref-in-Ok-texts_of.ensures.value, c.in-Ok-texts_of.ensures, c.deref.ensures.value) at done.2,
     )
 
 pub returns : goal.returns

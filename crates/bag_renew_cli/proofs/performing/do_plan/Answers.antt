@@ -24,4 +24,5 @@ returns-in-Help g c = (
 
 pub returns-in-Bags : goal.returns-in-Bags
 returns-in-Bags g c =
-    let done = c.do_each.ensures in (done.0, done.1, performed _ _ _ _ _ _ _ c.in-Bags.is done.2)
+    let done = rw c.as_slice.ensures at c.in_turn.ensures in
+    (done.0, done.1, performed _ _ _ _ _ _ _ c.in-Bags.is done.2)

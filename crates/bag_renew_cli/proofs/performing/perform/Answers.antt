@@ -1,21 +1,12 @@
-use Rattle.bag_renew_cli.proofs.Common.{arith}
 use Rattle.bag_cli.specs.Folders.{disks_of}
 use Rattle.bag_renew_cli.proofs.Statuses.{performed_status}
 use Rattle.bag_renew_cli.proofs.performing.perform.Goals as goal
 
-pub returns-in-Ok : goal.returns-in-Ok
-returns-in-Ok g c =
-    let done = c.in-Ok.ensures in record {
+pub returns : goal.returns
+returns g c =
+    let done = c.do_plan-done.ensures in
+    rw c.told_status.ensures (record {
       status =
-          performed_status (g.D.Disks.below (disks_of c.args.folders.now)) c.args.plan.now
-          (g.O.Out.state c.args.out.now)
-          (g.O.Out.state c.do_plan.new.out) done.0 c.in-Ok.status done.2;
+          performed_status (g.D.Disks.below (disks_of c.args.folders.now)) c.args.plan.now _ _ done.0 _ done.2;
       performed = done;
-    }
-
-pub returns-in-Err : goal.returns-in-Err
-returns-in-Err g c =
-    let done = c.in-Err.ensures in record {
-      status = omega (arith, c.tell.ensures.status);
-      performed = (done.0, done.1, rw c.tell.ensures.status done.2);
-    }
+    })

@@ -1,6 +1,8 @@
-use Rattle.bag_renew_cli.proofs.Common.{inl, inr, [], refl, sym, ap, ◌∙◌, append-nil, Err, Ok}
-use Rattle.bag_cli.specs.Folders.{visits_of}
+use Rattle.bag_renew_cli.proofs.Common.{inl, inr, [], refl, sym, ap, ◌∙◌, append-nil, Err}
+use Rattle.bag_cli.specs.Folders.{disks_of, visits_of}
 use Rattle.bag_arguments.specs.Plan.{usage_status}
+use Rattle.bag_cli.proofs.Runs.{words_run}
+use Rattle.bag_renew_cli.specs.Program.{IsProgram}
 use Rattle.bag_renew_cli.proofs.whole_program.run_renewal.Goals as goal
 
 pub returns-in-Err : goal.returns-in-Err
@@ -25,20 +27,12 @@ returns-in-Err g c = (
 
 pub returns-in-Ok-texts_of : goal.returns-in-Ok-texts_of
 returns-in-Ok-texts_of g c =
-    let asked = c.in-Ok.ensures in
-    let done = c.renewal_program.ensures in (
+    let done = c.renewal_program.ensures in
+    words_run (IsProgram (g.D.Disks.below (disks_of c.args.folders.now))) (visits_of c.args.visits.now) c.in-Ok.words.items
+    c.in-Ok.ensures (
       done.0,
       done.1,
-      inr (
-        Ok asked.0,
-        asked.1,
-        inr (rw (
-          c.deref-in-Ok-texts_of.ensures.value,
-          c.in-Ok-texts_of.ensures,
-          c.deref.ensures.value,
-          asked.2,
-        ) at done.2),
-      ),
+      rw (c.deref-in-Ok-texts_of.ensures.value, c.in-Ok-texts_of.ensures, c.deref.ensures.value) at done.2,
     )
 
 pub returns : goal.returns

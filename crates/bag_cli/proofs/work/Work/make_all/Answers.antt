@@ -11,8 +11,8 @@ returns-in_err-info g c =
 
 pub returns : goal.returns
 returns g c =
-    let done = c.make_each.ensures in (
+    let done = c.in_turn.ensures in (
       done.0,
       done.1,
-      inr (rw (c.deref.ensures.value, c.in_ok-info.ensures.elements, c.as_slice.ensures) at done.2),
+      inr (rw (c.deref.ensures.value, c.in_ok-info.ensures.elements, c.as_slice.ensures, c.as_slice-2.ensures) at done.2),
     )

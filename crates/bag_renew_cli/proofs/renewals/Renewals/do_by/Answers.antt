@@ -1,4 +1,4 @@
-use Rattle.bag_renew_cli.proofs.renewals.Renewals.do_with.Goals as goal
+use Rattle.bag_renew_cli.proofs.renewals.Renewals.do_by.Goals as goal
 
 pub returns-in-Renew : goal.returns-in-Renew
 returns-in-Renew g c = rw c.in-Renew.is c.renew_and_report.ensures
