@@ -299,15 +299,17 @@ for locks in '' SYS LCK; do
         # shellcheck disable=SC2086
         BAGIT=$work/holding NO_LOCKS=$locks LD_PRELOAD=$preload "$keep" check --wait 0 $words d report >first 2>&1 &
         until [[ -e held ]]; do sleep 0.05; done
-        # shellcheck disable=SC2086
-        BAGIT=$work/holding NO_LOCKS=$locks LD_PRELOAD=$preload check $words d report
-        has_no_report "two at once, with $words"
-        says 'another process is at work in report.parts'
-        [[ ! $locks ]] || says "$(hostname) $!. If it isn't, remove that file"
+        for others in '--parts 2' '--task 1/2'; do
+            # shellcheck disable=SC2086
+            BAGIT=$work/holding NO_LOCKS=$locks LD_PRELOAD=$preload check $others d report
+            has_no_report "two at once, with $words and $others"
+            says 'another process is at work in report.parts'
+            [[ ! $locks ]] || says "$(hostname) $!. If it isn't, remove that file"
+        done
         kill -KILL $!
         wait $! 2>/dev/null || true
+        rm -f report.parts/*.locked
     done
-    rm -f report.parts/*.locked
     touch go
     BAGIT=$work/holding NO_LOCKS=$locks LD_PRELOAD=$preload check --jobs 2 d report
     has_report 'd is valid' 0 'one after the other'

@@ -14,8 +14,8 @@ from typing import Iterator, List, Optional, Sequence, Tuple
 from . import usage
 from .checks import obstacle, told_of
 from .files import (
-    EXCLUSIVE, has_lock, is_within, locked, place, read_bytes, sha256_of,
-    whole, write_synced,
+    EXCLUSIVE, has_lock, identity, is_within, locked, place, read_bytes,
+    refuse_claim, sha256_of, whole, write_synced,
 )
 from .fingerprint import altered, fingerprint
 from .lines import MOST_PARTS, Closing, Unchecked, encoded, line_of, report_of
@@ -188,7 +188,8 @@ def clear_left(folder: str, report: str) -> None:
     its name; where it was killed before, its parts are taken back."""
     with suppress(Refused):
         parts = Parts(folder, head_in(folder, "joined"))
-        if os.path.lexists(parts.at("report")) and not os.path.lexists(report):
+        mark = identity(parts.at("report"))
+        if mark is not None and mark != identity(report):
             os.rename(parts.at("joined"), parts.at("asked"))
         else:
             parts.clear()
@@ -203,6 +204,12 @@ def alone(parts: Parts, number: Optional[int]) -> Iterator[None]:
     with open(parts.at("lock"), "ab") as file:
         is_locked = has_lock(fcntl.lockf, file, EXCLUSIVE, *place)
         with locked(is_locked, claim, busy):
+            for name in os.listdir(parts.folder) if is_locked is None else ():
+                # one at a part stands against one at all, which locks say
+                if name.endswith(".locked") and (
+                    (name == "all.locked") != (number is None)
+                ):
+                    refuse_claim(parts.at(name), busy)
             yield
 
 

@@ -114,16 +114,20 @@ class Checks:
     def try_bag(self, number: int, directory: bytes, is_alone: bool) -> None:
         """Checks a bag, and leaves its record and its report."""
         begun, why = now(), obstacle(directory)
+        real = os.path.realpath(directory)
         if find() is None:
             why = why or f"was not checked: there is no program {sought()}"
         if why is not None:
             why = f"{encoded(directory)} {why}"
-            self.note(number, begun, why)
+            self.note(number, real, begun, why)
             say(why)
             return
         file = self.round.new_try(number)
         with naming(file), open(file, "x+b") as out:
             verdict, seal = self.check(directory, out)
+            if verdict.status != 3 and os.path.realpath(directory) != real:
+                why = "it names another folder than when its check began"
+                verdict = Verdict(3, why, verdict.faults)
             os.fsync(out)
         if verdict.status == 3 and self.program.stopped.is_set():
             return
@@ -131,6 +135,7 @@ class Checks:
         files, size = found_of(directory, payload_of) or (None, None)
         self.note(
             number,
+            real,
             begun,
             verdict.result if verdict.closing is None else None,
             version=__version__,
@@ -147,14 +152,19 @@ class Checks:
             say(told_of(directory, verdict, file))
 
     def note(
-        self, number: int, begun: str, why: Optional[str], **known: Any
+        self,
+        number: int,
+        real: bytes,
+        begun: str,
+        why: Optional[str],
+        **known: Any,
     ) -> None:
         """Writes a line for a check that has ended, and syncs it. It begins a
         line of its own, also below one that was cut off."""
         bag = self.round.directories[number - 1]
         record = Record(
-            number, text_of(bag), text_of(os.path.realpath(bag)), begun,
-            now(), time.time_ns(), why, **known,
+            number, text_of(bag), text_of(real), begun, now(),
+            time.time_ns(), why, **known,
         )
         with naming(self._records), self._writing:
             with open(self._records, "ab") as file:

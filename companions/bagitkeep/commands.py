@@ -57,6 +57,9 @@ class Interrupted(BaseException):
 
 
 def interrupt(number: int, frame: Any) -> NoReturn:
+    """Ends the command. What it does to end isn't interrupted again."""
+    for it in SIGNALS:
+        signal.signal(it, signal.SIG_IGN)
     raise Interrupted(signal.Signals(number).name)
 
 
@@ -121,8 +124,9 @@ def run() -> NoReturn:
     for number in SIGNALS:
         if signal.getsignal(number) is not signal.SIG_IGN:
             signal.signal(number, interrupt)
-    status = status_of(sys.argv[1:])
-    with suppress(OSError):
+    status = 3
+    with suppress(OSError, Interrupted):
+        status = status_of(sys.argv[1:])
         if sys.stderr is not None:
             sys.stderr.flush()
     os._exit(status)  # what a stream refused was said, and isn't tried again

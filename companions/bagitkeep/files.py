@@ -9,7 +9,7 @@ import socket
 import stat
 from contextlib import contextmanager, suppress
 from typing import (
-    IO, Callable, Dict, Iterable, Iterator, Optional, Tuple, Union,
+    IO, Callable, Dict, Iterable, Iterator, NoReturn, Optional, Tuple, Union,
 )
 
 from .errors import BagError
@@ -204,6 +204,14 @@ def has_lock(lock: Callable[..., None], *words: object) -> Optional[bool]:
     return True
 
 
+def refuse_claim(claim: str, busy: str) -> NoReturn:
+    """Refuses what another process has claimed."""
+    who = first_line(read_bytes(claim))
+    raise BagError(
+        f"{busy}, by {shown(claim)}: {who}. If it isn't, remove that file"
+    )
+
+
 @contextmanager
 def locked(is_locked: Optional[bool], claim: str, busy: str) -> Iterator[None]:
     """Refuses what isn't locked. Where the system has no locks a file stands
@@ -216,13 +224,9 @@ def locked(is_locked: Optional[bool], claim: str, busy: str) -> Iterator[None]:
         if is_locked is None:
             write_synced(claim, who)
             is_claimed = True
-    except FileExistsError as error:
-        found = read_bytes(claim)
-        if found != who:
-            raise BagError(
-                f"{busy}, by {shown(claim)}: {first_line(found)}. If it isn't,"
-                " remove that file"
-            ) from error
+    except FileExistsError:
+        if read_bytes(claim) != who:
+            refuse_claim(claim, busy)
     try:
         yield
     finally:

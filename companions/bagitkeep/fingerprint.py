@@ -34,7 +34,8 @@ class Fingerprint:
 
 def listing(directory: Path) -> Iterator[str]:
     """A line for a bag and all that is below it, in the order of `place`; of
-    the bag in a .tar for this file."""
+    the bag in a .tar for this file. A link that names the bag is in the bag's
+    line, too: it may have named another one for a while."""
     devices: Dict[int, int] = {}
     left = [("-", os.fsencode(directory))]
     while left:
@@ -43,6 +44,9 @@ def listing(directory: Path) -> Iterator[str]:
         device = devices.setdefault(it.st_dev, len(devices))
         kind = stat.S_IFMT(it.st_mode)
         times = f"{it.st_mtime_ns} {it.st_ctime_ns}"
+        link = os.lstat(name.rstrip(b"/") or b"/") if path == "-" else it
+        if link.st_ino != it.st_ino or link.st_dev != it.st_dev:
+            times += f" {link.st_ctime_ns} {link.st_ino}"
         yield f"{path} {kind:o} {it.st_size} {times} {it.st_ino} {device}\n"
         if kind == stat.S_IFDIR:
             above = "" if path == "-" else f"{path}/"

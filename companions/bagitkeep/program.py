@@ -34,16 +34,15 @@ MARK = "BAGIT_KEEP_GUARD"
 
 GUARD = """
 import os, sys, time
-os.read(0, 1)
-mark, is_found = sys.argv[1].encode(), True
-while is_found:
-    is_found = False
+mark, left = sys.argv[1].encode(), 1 if os.read(0, 1) else 100
+while left:
+    left -= 1
     for number in filter(str.isdigit, os.listdir("/proc")):
         try:
             with open(f"/proc/{number}/environ", "rb") as file:
                 if mark in file.read().split(b"\\0"):
                     os.kill(int(number), 9)
-                    is_found = True
+                    left = max(left, 1)
         except OSError:
             pass
     time.sleep(0.01)
@@ -274,7 +273,7 @@ class Program(AbstractContextManager["Program"]):
         `out`, a file that is empty, and can be read and written."""
         name, folder = named(directory)
         tar = ["--tar"] if is_tar(directory) else []
-        words = [*asked.words(), *tar, "--", name]
+        words = [*asked.words(), *tar, "--", name.encode()]
         ended = self.run(words, out, folder, seconds)
         out.seek(0)
         return verdict_of(ended, report_of(out), name, asked)
@@ -314,7 +313,7 @@ class Program(AbstractContextManager["Program"]):
                 kill(process)
             if self._guard is not None:
                 with suppress(subprocess.TimeoutExpired):
-                    self._guard.communicate(timeout=LONGEST_STOP)
+                    self._guard.communicate(b"x", LONGEST_STOP)
                 self._guard = None
 
     def _start(

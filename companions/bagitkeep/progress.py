@@ -78,7 +78,7 @@ class Far:
         if len(self.sizes) == of:
             whole = sum(self.sizes.values())
             share, total = min(1, read / max(1, whole)), size(whole)
-        if share > 0:
+        with suppress(OverflowError, ZeroDivisionError):  # by a false oxum
             left = str(timedelta(seconds=int(seconds / share - seconds)))
         names = ", ".join(map(self.name_of, at_work[:MOST_NAMES]))
         if len(at_work) > MOST_NAMES:

@@ -145,10 +145,16 @@ class Round:
         closing = report.closing
         status = None if closing is None else closing.status
         verdict = self.judge(status, report, bag)
-        for it in records if verdict.status != 3 else ():
-            if (it.report_sha256, it.bag) == (digest, text_of(bag)):
-                result, faults = verdict.result, verdict.faults
-                return Row(verdict.status, result, bag, faults, path, it)
+        ours = [
+            it
+            for it in records
+            if (it.report_sha256, it.bag, it.why)
+            == (digest, text_of(bag), None)
+        ]
+        if ours and verdict.status != 3:
+            last = max(ours, key=lambda it: it.at)
+            result, faults = verdict.result, verdict.faults
+            return Row(verdict.status, result, bag, faults, path, last)
         return Row(3, f"{ALTERED} ({encoded(path)})", bag, is_altered=True)
 
     def judge(

@@ -39,6 +39,16 @@ class Fingerprints(unittest.TestCase):
         (self.bag / "data" / "a").read_text()
         self.assertEqual(fingerprint(self.bag), self.before)
 
+    def test_a_link_that_named_another_bag_for_a_while(self) -> None:
+        link = self.bag.parent / "link"
+        link.symlink_to(self.bag)
+        before = fingerprint(link)
+        self.assertEqual(fingerprint(link), before)
+        time.sleep(0.05)
+        link.unlink()
+        link.symlink_to(self.bag)
+        self.assertNotEqual(fingerprint(link).digest, before.digest)
+
     def test_lines_come_in_the_order_of_places(self) -> None:
         lines = list(listing(self.bag))
         self.assertEqual(lines, sorted(lines, key=place))

@@ -80,6 +80,15 @@ class Rounds(unittest.TestCase):
             row = self.row(VALID, record)
             self.assertEqual((row.status, row.is_altered), (3, True))
 
+    def test_the_last_check_that_came_to_its_end_counts(self) -> None:
+        first, killed = a_record(VALID), replace(a_record(VALID), why="x")
+        last = replace(first, real="/b/c", at=2)
+        self.assertEqual(self.row(VALID, killed).status, 3)
+        a_round = load(os.fsencode(self.round))
+        for records in [killed, first, last], [last, first, killed]:
+            row = replace(a_round, records={1: records}).row(1)
+            self.assertEqual((row.status, row.record), (0, last))
+
     def test_what_is_no_report_of_the_bag(self) -> None:
         others = (
             b"",
