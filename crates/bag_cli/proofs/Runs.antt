@@ -1,5 +1,5 @@
 -- How a program was run.
-use Rattle.bag_cli.proofs.Common.{◌≡◌, ◌∷◌, inr, ℕ, List, map, drop, string_bytes, Ok, Result, OutState, Event, HasVisited}
+use Rattle.bag_cli.proofs.Common.{◌≡◌, inr, ℕ, List, map, drop, string_bytes, Ok, Result, OutState, Event, HasVisited}
 use Rattle.std.specs.Prelude.{String}
 use Rattle.std.specs.declared.alloc.Global.{Global}
 use Rattle.bag_arguments.specs.declared.usage.Usage.{Usage}

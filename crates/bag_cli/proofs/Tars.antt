@@ -1,5 +1,5 @@
 -- Checks of tar files.
-use Rattle.bag_cli.proofs.Common.{AreCheckedAs, AreCheckedInForm, Some, None, arith, in_form}
+use Rattle.bag_cli.proofs.Common.{AreCheckedAs, AreCheckedInForm, Some, arith, in_form}
 use Rattle.bag_cli.proofs.Common.{◌≡◌, ◌⊎◌, tree_state, inl, inr, ◌∷◌, ℕ, List, Option, refl, subst, sym, Result, Ok, Err, OutState}
 use Rattle.bag_cli.proofs.Common.{ArchiveState, DiskState, Event, IsTreeOf, Opened, Plan, SummedProfile, TreeState, Refused}
 use Rattle.bag_arguments.specs.declared.plan.Action.{Action}

@@ -1,7 +1,6 @@
 -- What checks of the bags in tar files write, and the exit status after them.
-use Rattle.std.specs.Prelude.{ℕ, ◌≡◌, ◌⊎◌, true, IsTrue, List, [], ◌∷◌, Option, None, unwrap_or}
+use Rattle.std.specs.Prelude.{ℕ, ◌≡◌, ◌⊎◌, IsTrue, List, [], ◌∷◌, Option, None, unwrap_or}
 use Rattle.std.specs.Prelude.{Result, Ok, Err, MatchResult}
-use Rattle.std.specs.Io.KnownBytes.{Appends}
 use Rattle.bag_tar.specs.Archive.{ArchiveState, SameArchive}
 use Rattle.bag_tar.specs.MemberName.{IsNameAt}
 use Rattle.bag_tar.specs.Tar.{IsTarOf}
@@ -10,7 +9,7 @@ use Rattle.bag_tar.specs.Walk.{MayStop, StopsAt}
 use Rattle.bag_tar.specs.declared.tar_fault.TarFault.{TarFault}
 use Rattle.bag_tar.specs.declared.tar_fault.TarFault.TheVariants.{Device, Memory}
 use Rattle.bag_tar.specs.declared.tar_fault.TarStop.{TarStop}
-use Rattle.bag_tree.specs.Out.{IsCut, OutState}
+use Rattle.bag_tree.specs.Out.{OutState}
 use Rattle.bag_tree.specs.Tree.{TreeState}
 use Rattle.bag_tree.specs.declared.out.Refused.{Refused}
 use Rattle.bag_arguments.specs.declared.plan.Plan.{Plan}
