@@ -377,11 +377,14 @@ said "$work/links/current names another folder now"
 has_table linked 1 < <(bad "$work/links/current" 1 && good "$work/away")
 rm -r away
 ln -sfn ../bags/a links/current
-printf '#!/bin/bash\n"%s" "$@"; status=$?; ln -sfn ../damaged "%s/links/current"; exit $status\n' "$program" "$work" >turning
+cp -r bags/a bags/turned
+printf X >>"$(find bags/turned/data -type f | head -n 1)"
+printf '#!/bin/bash\n"%s" "$@"; status=$?; ln -sfn ../bags/turned "%s/links/current"; exit $status\n' "$program" "$work" >turning
 chmod +x turning
 BAGIT=$work/turning ends 3 turned links/current
 said 'it names another folder than when its check began'
 ends 1 turned links/current
+rm -r bags/turned links/current
 
 # What an earlier try found isn't lost before the next has come to its end.
 printf '#!/bin/bash\n"%s" "$@" | sed "\$d"; echo "%s unread data/g device, faults: 1"; exit 3\n' "$program" "$work/damaged" >failing
