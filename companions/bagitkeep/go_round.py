@@ -171,8 +171,8 @@ def write_table(asked: Namespace) -> int:
         since = rounds.load(absolute(asked.since))
     text, status = table_of(a_round, since, asked.format or "tsv")
     if sys.stdout.isatty():  # which a name mustn't command
-        rows = [map(printable, it.split("\t")) for it in text.splitlines()]
-        text = "".join("\t".join(row) + "\n" for row in rows)
+        lines = [it.rstrip("\r").split("\t") for it in text.split("\n")[:-1]]
+        text = "".join("\t".join(map(printable, it)) + "\n" for it in lines)
     sys.stdout.buffer.write(text.encode("utf-8", "surrogateescape"))
     return status
 
