@@ -45,11 +45,37 @@ take_renew() {
 # A line that says what the system refused, and why.
 refusal_line='^bagit(-renew)?: [^ ]+: (not there|not a folder|permission denied|.+ \(os error [0-9]+\))$'
 
+# Gives up unless a command takes a time in proportion: for MANY, its last word, which is four times
+# as much as FEW, less than eight times as long of a processor, where the square would be sixteen
+# times. One of three tries has to, since others may be at work on the machine.
+takes_in_proportion() { # FEW MANY COMMAND..
+    local TIMEFORMAT='%U %S' words=("${@:3}") number
+    for _ in 1 2 3; do
+        : >took
+        for number in "$1" "$2"; do { time "${words[@]}" "$number"; } 2>>took; done
+        awk '{ took[NR] = $1 + $2 } END { exit took[2] >= 8 * took[1] }' took && return
+    done
+    give_up "${words[*]}: for $1 and for $2 it takes these seconds of a processor: $(paste -s took)"
+}
+
 # Goes into a new folder, `work`, which is removed at the end.
 enter() {
     work=$(mktemp -d "/tmp/bagit-$1.XXXXXX")
     trap 'rm -rf "$work"' EXIT
     cd "$work"
+}
+
+# Puts a `python3` in front of all others: the interpreter itself, where that name is of a script that looks for one, without what is
+# installed beside its own library, which no script needs that calls this; and what it compiles is kept in the folder `work`. Where it
+# is started again and again, that is most of the time.
+quick_python() {
+    local found
+    found=$(python3 -c 'import os, sys; print(os.path.realpath(sys.executable))')
+    mkdir -p "$work/python/bin"
+    ln -s "$found" "$work/python/bin/python3"
+    printf 'home = %s\ninclude-system-site-packages = false\n' "${found%/*}" >"$work/python/pyvenv.cfg"
+    export PATH=$work/python/bin:$PATH PYTHONPYCACHEPREFIX=$work/python/compiled
+    unset PYTHONDONTWRITEBYTECODE
 }
 
 # Digests of no byte, `a`, `b` and `abc`.

@@ -29,8 +29,8 @@ NAMES = r"`[^`\n]+`(?:(?:,| and|, and)\s+`[^`\n]+`)*"
 CITATION = re.compile(rf"`([\w/]+\.(?:rt|antt))`:\s+({NAMES})")
 LINKED = re.compile(r"\[(`[^\]]+`)\]\((?:\.\./)+crates/([^)#\s]+)\)")
 QUOTED = re.compile(r"\]\(\.\./crates/([^)#\s]+)\)\):\n\n((?:    .*\n)+)")
-ADAPTORS = ["bag_disk/src/system_disk.rt", "bag_disk/src/base_folder.rt", "bag_disk/src/system_fault.rt"]
-ADAPTORS += ["bag_cli/src/system_file.rt", "bag_disk/src/ownership.rt", "bag_disk/src/trouble.rt"]
+ADAPTORS = ["bag_system/src/system_disk.rt", "bag_system/src/base_folder.rt", "bag_system/src/system_fault.rt"]
+ADAPTORS += ["bag_program/src/system_file.rt", "bag_system/src/ownership.rt", "bag_system/src/trouble.rt"]
 MODULES = re.compile(rf"`(\w+)`'s ({NAMES})")
 ANSWERS = {  # what a reader looks for: the page, and what stands there
     "how to go back after a failed creation": ("docs/RECOVERY.md", r"^## A bag wasn't created$.*^ +rmdir \.bagit-new$"),

@@ -10,12 +10,19 @@ build_refuser() {
     cc -shared -fPIC -O1 -fno-builtin-malloc -o "$work/refuse.so" "$tests/refuse.c" -ldl
 }
 
+# Takes the text of a file into a variable, whole, as the shell does it alone: there are thousands of files to look at.
+take() { # VARIABLE FILE
+    ! IFS= read -rd '' "$1" <"$2" || give_up "$2 has a byte of 0"
+}
+
 # Runs a program of which the growth of a number is refused, from 1, or none for 0. Its output, its errors and its status stand in
-# the files `output` and `errors` and in `status` then, and its growths in `grown`: KIND BYTES, with `refused` after the one.
+# `output`, `errors` and `status` then, and its growths in `grown`: KIND BYTES, with `refused` after the one.
 refusing() {
     status=0
     REFUSED=$1 LD_PRELOAD=$work/refuse.so "${@:2}" >"$work/output" 2>"$work/errors" 9>"$work/growths" || status=$?
     mapfile -t grown <"$work/growths"
+    take output "$work/output"
+    take errors "$work/errors"
 }
 
 # Runs a program of which no growth is refused, and finds out how many it has, and what the largest asks for.
@@ -39,7 +46,7 @@ refusing_each() {
         growths=$((growths + 1))
         count_refused "${grown[number - 1]%% *}"
         if ! "$is_right"; then
-            echo "$*: growth $number is refused, and the status is $status: $(cat "$work/output" "$work/errors")"
+            echo "$*: growth $number is refused, and the status is $status: $output$errors"
             wrong=$((wrong + 1))
         fi
     done
@@ -51,10 +58,7 @@ refusing_each() {
 count_refused() { refused[$1]=$((${refused[$1]:-0} + 1)); }
 
 # Whether nothing is reported but that memory ran out, where errors are.
-is_out_of_memory() { [[ $status == 3 && $(<"$work/errors") == 'bagit: out of memory' ]]; }
-
-# Whether the file `front` is the first lines of a file.
-begins() { head -c "$(stat -c %s "$work/front")" "$1" | cmp -s - "$work/front"; }
+is_out_of_memory() { [[ $status == 3 && $errors == $'bagit: out of memory\n' ]]; }
 
 # Compares the growths of the last program, where a payload file has 1,000,000 bytes, with their number and the largest where it has 1.
 compare_sizes() {

@@ -94,6 +94,9 @@ def kill(process, draw):
     _, said = process.communicate(timeout=60)  # which comes once all of them have ended, as they hold standard error
     if process.returncode not in (0, 1, 3, -signal.SIGKILL, -signal.SIGTERM):
         raise Wrong(f"killed, it ends with {process.returncode}: {said}")
+    if way != "by TERM":  # which it can't see: so a folder that isn't there yet under its name is left as it is
+        for begun in pathlib.Path().glob("report.parts.*"):
+            shutil.rmtree(begun)
     COUNTS["killed"] += 1
 
 
@@ -360,6 +363,21 @@ def see_unprinted():
     REPORT.unlink()
 
 
+def see_statuses():
+    """A task over a damaged part ends with 1, also if that was checked before; one over a good part with 0."""
+    good_bag()
+    pathlib.Path("d/data/inner/a").write_text("X" * 9)
+    files = [path for path in pathlib.Path("d").rglob("*") if path.is_file()]
+    counts = f"files: {len(files)}, bytes: {sum(path.stat().st_size for path in files)}"
+    for number, faults in (1, 1), (2, 0), (1, 1), (2, 0):
+        wanted_line = f"d part {number} of 2 done, {counts}, faults: {faults}\n"
+        ended = check("--task", f"{number}/2")
+        if ended != (wanted_line, "", faults):
+            raise Wrong(f"task {number}/2, with {faults} faults: it ends with {ended}")
+        COUNTS["tasks"] += 1
+    is_joined(check("--join"), "a damaged part and a good one")
+
+
 def see_array():
     """Tasks of a job array, each with its number in its environment; one is cancelled, and the array is asked for it again."""
     faulty_bag()
@@ -393,7 +411,7 @@ def main(program, keep, bags):
             try_bag(seed)
         for see in (see_altered, see_exchanged, see_files, see_others):
             see()
-        for see in (see_failures, see_left, see_unprinted, see_array):
+        for see in (see_failures, see_left, see_unprinted, see_statuses, see_array):
             see()
     except Wrong as wrong:
         sys.exit(f"{wrong}")

@@ -200,13 +200,27 @@ def refuse_what_is_no_file(program):
         raise Wrong(f"a full output: {ended}")
 
 
-def peak(program, files):
-    """The memory that joining them takes, in KiB, and the output and status."""
-    with subprocess.Popen([program, "--validate", "--join", *files], stdout=subprocess.PIPE) as at_work:
-        out = at_work.stdout.read()
-        _, status, used = os.wait4(at_work.pid, 0)
-        at_work.returncode = os.waitstatus_to_exitcode(status)
-    return used.ru_maxrss, out, at_work.returncode
+def join_within(program, files, room):
+    """Joins them in so many KiB of address space: the status and the output."""
+    def bounded():
+        resource.setrlimit(resource.RLIMIT_AS, (room * 1024, room * 1024))
+    ended = subprocess.run([program, "--validate", "--join", *files], preexec_fn=bounded,
+                           stdout=subprocess.PIPE, stderr=subprocess.DEVNULL, check=False)
+    return ended.returncode, ended.stdout
+
+
+def least_room(program, files, wanted):
+    """The least address space, in KiB, in which they are joined; to 64 KiB."""
+    least, most = 0, 1 << 20
+    if join_within(program, files, most) != wanted:
+        raise Wrong(f"large reports: not joined in {most} KiB")
+    while most - least > 64:
+        middle = (least + most) // 2
+        if join_within(program, files, middle) == wanted:
+            most = middle
+        else:
+            least = middle
+    return most
 
 
 def closing(number, parts, faults):
@@ -222,12 +236,9 @@ def join_large(program):
             file = pathlib.Path(f"large {part}")
             file.write_bytes(b"".join(lines) + closing(part, 2, count))
             files.append(file)
-        used, out, status = peak(program, files)
         whole = b"".join(without_closing(file) for file in files) + f"d has faults: {2 * count}\n".encode()
-        if (out, status) != (whole, 1):
-            raise Wrong(f"large reports: status {status}, {len(out)} bytes, wanted {len(whole)}")
         COUNTS["joined"] += 1
-        return used
+        return least_room(program, files, (1, whole))
     small, much = large(10), large(10_000)
     if much > small + 512:
         raise Wrong(f"large reports take {much} KiB, small ones {small}")

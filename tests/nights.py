@@ -5,6 +5,8 @@ usage: nights.py ROOT FOLDER
 FOLDER is an empty one. BAGIT and BAGIT_RENEW name the programs. Each command is a process, forked from this one.
 """
 import contextlib
+import errno
+import fcntl
 import hashlib
 import io
 import json
@@ -29,7 +31,11 @@ who = ['--by', 'Ada', '--why', 'a test']
 seen = 0
 
 
-def begin(*words, env=None, blocks=None, is_killed=True):
+def no_lock(*words):
+    raise OSError(errno.ENOLCK, os.strerror(errno.ENOLCK))
+
+
+def begin(*words, env=None, blocks=None, is_killed=True, has_locks=True):
     """Begins a command, which may write no file of more than so many blocks of 512 bytes. It is killed then, or is told so."""
     out, said = tempfile.TemporaryFile(), tempfile.TemporaryFile()
     number = os.fork()
@@ -42,6 +48,8 @@ def begin(*words, env=None, blocks=None, is_killed=True):
         if blocks is not None:
             signal.signal(signal.SIGXFSZ, signal.SIG_DFL if is_killed else signal.SIG_IGN)
             resource.setrlimit(resource.RLIMIT_FSIZE, (blocks * 512, blocks * 512))
+        if not has_locks:
+            fcntl.lockf = no_lock
         sys.argv = ['bagit-keep', *map(str, words)]
         sys.stdout = io.TextIOWrapper(io.FileIO(1, 'w', closefd=False), encoding='utf-8')
         sys.stderr = io.TextIOWrapper(io.FileIO(2, 'w', closefd=False), encoding='utf-8')
@@ -614,6 +622,18 @@ def night_of_two_in_turn():
         assert (status, out.splitlines()[1:2]) == (len(lines), lines), out + said
         (work / 'go').unlink()
     change(18, '18')
+    news()
+
+
+def night_without_locks():
+    """Where nothing can be locked nothing is done: two at once would take each other's checks for their own."""
+    change(13, 'x')
+    before = run('dump', register)
+    for words in ['audit', register], ['audit', register, '--task', '1/2'], ['adopt', register], ['accept', register, bag(12), *who]:
+        assert run(*words, wanted=3, has_locks=False) == []
+    assert run('dump', register) == before
+    news(damaged(13, '13', 'x'))
+    change(13, '13')
     news()
 
 

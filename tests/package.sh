@@ -14,6 +14,7 @@ renewing=$program
 take_program bagit "${1:-}"
 for tool in dpkg-deb strip python3; do needs "$tool"; done
 enter package
+quick_python
 
 build() { "$root/packaging/build" --program "$program" --renewing "$renewing" "$1"; }
 package=$(build first)
@@ -26,7 +27,7 @@ dpkg-deb --control "$package" control
 (cd tree && md5sum --check --quiet ../control/md5sums)
 
 # The programs: bagit, bagit-renew and bagit-keep.
-export PATH=$work/tree/usr/bin:$PATH PYTHONDONTWRITEBYTECODE=1
+export PATH=$work/tree/usr/bin:$PATH
 programs=$(ls tree/usr/bin)
 diff <(printf '%s\n' bagit bagit-keep bagit-renew) <(sort <<<"$programs") ||
     give_up 'it has other programs'

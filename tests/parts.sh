@@ -15,9 +15,7 @@ source "$(dirname "$0")/common.sh"
 take_program bagit "${1:-}"
 needs python3
 enter parts
-mkdir bin
-ln -s "$(python3 -c 'import sys; print(sys.executable)')" bin/python3
-export PATH=$work/bin:$PATH
+quick_python
 LC_ALL=C.UTF-8 python3 -B "$tests/parts.py" "$program" "${2:-60}" >counted || { cat counted; give_up 'a check in parts is another than one check'; }
 [[ $(<counted) == "${2:-60} bags, "* ]] || give_up "it says: $(<counted)"
 cat counted

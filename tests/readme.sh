@@ -22,6 +22,7 @@ ln -s "$program" bin/bagit
 ln -s "$renewing" bin/bagit-renew
 ln -s "$root/companions/bagit-keep" bin/
 export PATH=$work/bin:$PATH
+quick_python
 followed=0
 
 # The indented blocks of a section of a page, without their indentation; each ends with a line that has a form feed.

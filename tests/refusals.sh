@@ -1,6 +1,7 @@
 #!/usr/bin/env bash
 # Sees that standard error names what the system refused, and says why, of checks, makings and renewals: a folder that isn't there, a file in
-# its place, a folder and a file without permission, a full disk, and a disk that fails. The report has its closing line, and the status is 3.
+# its place, a folder and a file without permission, a full disk, and a disk that fails; also of tar files. The report has its closing
+# line, and the status is 3.
 #
 # usage: tests/refusals.sh [BAGIT [BAGIT_RENEW]]
 #
@@ -87,5 +88,17 @@ refuses deposit/.bagit-begun write ENOSPC
 says 'deposit not renewed: put manifest-md5.txt device' "bagit-renew: deposit/.bagit-begun: $why" ./bagit-renew --add md5 deposit
 refuses letters/bagit.txt write ENOSPC
 says 'letters not made: step 5 device' "bagit: letters/bagit.txt: $why" ./bagit letters
+
+# A tar file whose first folder is called as a packed file begins is no packed file, and nothing is said of it; a read of it is refused.
+disk=()
+new_folders
+mv deposit BZh9
+tar -cf BZh9.tar BZh9
+[[ $(./bagit --validate --tar BZh9.tar 2>&1) == 'BZh9.tar is valid' ]] || give_up 'BZh9.tar: something else is said'
+gzip -k BZh9.tar
+packed=$(./bagit --validate --tar BZh9.tar.gz 2>&1 >/dev/null) || true
+[[ $packed == 'bagit: BZh9.tar.gz: gzip, unpack it first' ]] || give_up "BZh9.tar.gz: $packed"
+refuses BZh9.tar read EIO
+says 'BZh9.tar unread - device, faults: 0' 'bagit: BZh9.tar: Input/output error (os error 5)' ./bagit --validate --tar BZh9.tar
 
 echo "standard error says what was refused, and why, $answers times"

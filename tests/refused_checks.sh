@@ -22,24 +22,31 @@ build_refuser
 # Whether an answer is one that a refused growth may have: the whole report, with its status; its first lines and the closing line;
 # or that memory ran out, after the keys that aren't checked, where they were written.
 is_right() {
-    if [[ $status == "$wanted" && ! -s errors ]] && cmp -s whole output; then return; fi
+    local front
+    if [[ $status == "$wanted" && ! $errors && $output == "$whole" ]]; then return; fi
     reported=$((reported + 1))
-    if [[ -s errors ]]; then
-        cp output front
-        is_out_of_memory && begins lines && ! grep -qv '^unchecked ' front
+    if [[ $errors ]]; then
+        count_faults "$output"
+        is_out_of_memory && [[ $lines == "$output"* ]] && ((faults == 0))
         return
     fi
-    head -n -1 output >front
-    [[ $status == 3 ]] && begins lines &&
-        printf '%s unread - memory, faults: %d\n' "$name" "$(grep -vc '^unchecked ' front)" | cmp -s - <(tail -n 1 output)
+    front=${output%"$name unread - memory, faults: "*}
+    count_faults "$front"
+    [[ $status == 3 && $lines == "$front"* && $output == "$front$name unread - memory, faults: $faults"$'\n' ]]
+}
+
+# Counts the lines of a text that aren't of a key that isn't checked.
+count_faults() {
+    local line
+    faults=0
+    [[ ! $1 ]] || while IFS= read -r line; do [[ $line == 'unchecked '* ]] || faults=$((faults + 1)); done <<<"${1%$'\n'}"
 }
 
 # Whether an answer of joined reports is: the whole report; or its first lines, and that memory ran out.
 is_right_joined() {
-    if [[ $status == "$wanted" && ! -s errors ]] && cmp -s whole output; then return; fi
+    if [[ $status == "$wanted" && ! $errors && $output == "$whole" ]]; then return; fi
     reported=$((reported + 1))
-    cp output front
-    is_out_of_memory && begins lines
+    is_out_of_memory && [[ $lines == "$output"* ]]
 }
 
 # Refuses each growth of a check. Its arguments are the status and the words; standard input is what is written where no growth is
@@ -48,11 +55,13 @@ in_turn() {
     wanted=$1 reported=0
     shift
     cat >whole
-    head -n -1 whole >lines
+    take whole whole
+    lines=${whole%$'\n'}
+    lines=${lines%"${lines##*$'\n'}"}
     rm -rf kept
     [[ ! -e d ]] || cp -r d kept
     refusing_none "$program" "$@"
-    [[ $status == "$wanted" && ! -s errors ]] && diff whole output || give_up "$*: something else is written, with the status $status"
+    [[ $status == "$wanted" && ! $errors ]] && diff whole output || give_up "$*: something else is written, with the status $status"
     refusing_each : "$right" "$program" "$@"
     ((reported > 0)) || give_up "$*: no refusal is reported"
     [[ ! -e d ]] || diff -r kept d

@@ -47,31 +47,33 @@ plan() {
 }
 write() { cp "../composed/$1" .; }
 
-# Makes `expected` the folder as its first steps leave it, so many of them.
+# Makes folders `after-0`, `after-1`, and so on, of the folder as its first steps leave it, so many of them; and `whole` after all.
 take_steps() {
-    local step
-    rm -rf expected
-    cp -r folder expected
-    for step in "${steps[@]:0:$1}"; do (cd expected && $step); done
+    local number
+    rm -rf after-* whole
+    cp -r folder after-0
+    for ((number = 1; number <= ${#steps[@]}; number++)); do
+        cp -r "after-$((number - 1))" "after-$number"
+        (cd "after-$number" && ${steps[number - 1]})
+    done
+    cp -r "after-${#steps[@]}" whole
 }
 
 # Whether the bag is as the steps before this one leave it, with a first part of the tag file that this one writes, if it writes one.
 is_stopped_at() {
     local step=${steps[$1 - 1]:-} file
-    take_steps $(($1 - 1))
     file=${step#write }
     if [[ $step == 'write '* && -e bag/$file ]]; then
-        cp "bag/$file" front
-        begins "composed/$file" || return
-        cp front "expected/$file"
+        cmp -s -n "$(stat -c %s "bag/$file")" "composed/$file" "bag/$file" || return
+        rm "bag/$file"
     fi
-    [[ -n $step ]] && diff -r expected bag
+    [[ -n $step ]] && diff -r "after-$(($1 - 1))" bag
 }
 
 # Whether what is reported and the folder agree; counts the answer by its kind.
 is_right() {
-    local answer=$(<output)
-    if [[ -s errors ]]; then
+    local answer=${output%$'\n'}
+    if [[ $errors ]]; then
         is_out_of_memory && [[ -z $answer ]] && diff -r folder bag && words=$((words + 1))
     elif [[ $answer == 'bag made' ]]; then
         [[ $status == 0 ]] && diff -r whole bag && made=$((made + 1))
@@ -93,12 +95,10 @@ fresh() {
 in_turn() {
     compose "$@"
     plan "$@"
-    take_steps "${#steps[@]}"
-    rm -rf whole
-    mv expected whole
+    take_steps
     fresh
     refusing_none "$program" bag
-    [[ $status == 0 && ! -s errors && $(<output) == 'bag made' ]] && diff -r whole bag || give_up "not made: $(cat output errors)"
+    [[ $status == 0 && ! $errors && $output == $'bag made\n' ]] && diff -r whole bag || give_up "not made: $output$errors"
     refusing_each fresh is_right "$program" bag
 }
 

@@ -15,12 +15,11 @@ from pathlib import Path
 from typing import NamedTuple
 
 import renew
+from injections import injecting, injections, is_injected
 from renew import BEGUN, Options
 from renewals import Look, Programs, Wrong, demand, look
 
-ERRORS = ("EIO", "EACCES", "ENOSPC", "EINTR", "ENOMEM")
 SECONDS = 60
-LEFT_ALONE = ("execve", "exit", "exit_group")
 CAUSES = "device|special|name|not-found|changed|too-many|exists|memory"
 NOT_RENEWED = re.compile(rf"d not renewed: (?:(read|put|remove) (\S+) ({CAUSES})|out of memory)\n")
 COMPLAINT = re.compile(r"bagit-renew: (out of memory|output refused)\n")
@@ -80,44 +79,20 @@ class Ended(NamedTuple):
     status: int
     said: str
     complaint: str
-    calls: list
+    calls: str
 
 
 def run(programs, case, folder, injection=""):
     """Renews `d` in the folder, under strace."""
-    inject = ["-e", f"inject={injection}"] if injection else []
-    words = ["strace", "-f", "-y", "-s", "300", "-o", "calls", *inject, programs.renewing, *case.options.words(), "d"]
+    options = injecting(injection) if injection else ["-y", "-s", "300"]
+    words = ["strace", "-f", "-o", "calls", *options, programs.renewing, *case.options.words(), "d"]
     try:
         ended = subprocess.run(words, cwd=folder, capture_output=True, check=False, timeout=SECONDS)
     except subprocess.TimeoutExpired as error:
         raise Wrong("it hangs") from error
-    calls = (folder / "calls").read_text(errors="replace").splitlines()
+    calls = (folder / "calls").read_text(errors="replace")
     status = 137 if ended.returncode == -9 else ended.returncode
     return Ended(status, ended.stdout.decode(), ended.stderr.decode(), calls)
-
-
-def numbered(calls):
-    """The calls of the program, each with how many of its name came before it, after those of the loader."""
-    counts, found, is_cached, begun = {}, [], False, None
-    for line in calls:
-        match = re.match(r"(?:\d+ +)?([a-z0-9_]+)\(", line)
-        if not match:
-            continue
-        name = match[1]
-        counts[name] = counts.get(name, 0) + 1
-        found.append((name, counts[name]))
-        is_cached |= "ld.so.cache" in line
-        if is_cached and begun is None and name == "munmap":
-            begun = len(found)
-    return [call for call in found[begun or 0 :] if call[0] not in LEFT_ALONE]
-
-
-def injections(calls):
-    """(`brk` answers where memory ends, and no error; the C library asks `mmap` then.)"""
-    for name, number in numbered(calls):
-        for how in ["retval=0"] if name == "brk" else [f"error={error}" for error in ERRORS]:
-            yield f"{name}:{how}:when={number}"
-        yield f"{name}:signal=KILL:when={number}"
 
 
 def check_openings(case, calls):
@@ -192,13 +167,15 @@ class Judge:
             demand(files == self.first, f"it said {ended.said!r}, and the bag was changed")
 
     def check_bag(self, folder, files):
-        """A valid bag is left, and the same command makes the renewed one."""
+        """A valid bag is left, and the same command makes the renewed one. Says whether that was tried in this folder."""
         key = frozenset(files.items())
         with self.lock:
             known = self.known.setdefault(key, [])
-        if not known:
+        is_new = not known
+        if is_new:
             known.append(self.reason_against(folder))
         demand(not known[0], known[0])
+        return is_new
 
     def reason_against(self, folder):
         top = str(folder / "d")
@@ -212,22 +189,36 @@ class Judge:
         return None
 
 
-def try_injection(programs, judge, folder, injection):
-    """Renews a new copy of the bag, and looks. What is wrong, or None."""
-    top = folder / "d"
-    shutil.rmtree(top, ignore_errors=True)
-    shutil.copytree(judge.case.top, top)
-    try:
-        before = look(top)
-        ended = run(programs, judge.case, folder, injection)
-        is_refused = any("(INJECTED)" in line or "killed by SIGKILL" in line for line in ended.calls)
-        demand(is_refused, "no call was refused")
-        after: Look = look(top)
-        judge.check(before, after, ended, injection)
-        judge.check_bag(folder, after.files)
-    except Wrong as wrong:
-        return f"{judge.case.name}, {injection}: {wrong}"
-    return None
+class Worker:
+    """Tries one injection after the other in a folder of its own. `standing` is the bag there, where it is as it was copied: all its
+    files are the very ones."""
+
+    def __init__(self, programs, judge, folder):
+        self.programs, self.judge, self.folder, self.standing = programs, judge, folder, None
+        folder.mkdir()
+
+    def fresh(self):
+        top = self.folder / "d"
+        if self.standing is None:
+            shutil.rmtree(top, ignore_errors=True)
+            shutil.copytree(self.judge.case.top, top, copy_function=shutil.copy)
+        standing, self.standing = self.standing, None
+        return standing or look(top)
+
+    def try_injection(self, injection):
+        """Renews a copy of the bag, and looks. What is wrong, or None."""
+        try:
+            before: Look = self.fresh()
+            ended = run(self.programs, self.judge.case, self.folder, injection)
+            demand(is_injected(ended.calls), "no call was refused")
+            after: Look = look(self.folder / "d")
+            self.judge.check(before, after, ended, injection)
+            is_changed = self.judge.check_bag(self.folder, after.files)
+            if not is_changed and after.same() == before.same():
+                self.standing = after
+        except Wrong as wrong:
+            return f"{self.judge.case.name}, {injection}: {wrong}"
+        return None
 
 
 def try_case(programs, case, pool):
@@ -237,16 +228,16 @@ def try_case(programs, case, pool):
     ended = run(programs, case, folder)
     demand(ended[:3] == (0, "d renewed\n", ""), f"{case.name}: without a refusal it ends with {ended[:3]}")
     demand(renew.held(folder / "d") == judge.wanted.files, f"{case.name}: it isn't the renewed bag")
-    check_openings(case, ended.calls)
+    calls = ended.calls.splitlines()
+    check_openings(case, calls)
     local = threading.local()
 
     def one(injection):
-        if not hasattr(local, "folder"):
-            local.folder = folder / f"worker-{threading.get_ident()}"
-            local.folder.mkdir()
-        return try_injection(programs, judge, local.folder, injection)
+        if not hasattr(local, "worker"):
+            local.worker = Worker(programs, judge, folder / f"worker-{threading.get_ident()}")
+        return local.worker.try_injection(injection)
 
-    found = list(pool.map(one, injections(ended.calls)))
+    found = list(pool.map(one, injections(calls)))
     demand(len(found) > 100, f"{case.name}: only {len(found)} calls were refused")
     demand(len(judge.known) > 5, f"{case.name}: only {len(judge.known)} folders were left")
     return len(found), len(judge.known), [wrong for wrong in found if wrong]

@@ -80,8 +80,13 @@ def listed(folder):
 
 def held(folder):
     """The bytes of its files, by path."""
+    return contents(folder, listed(folder))
+
+
+def contents(folder, paths):
+    """The bytes of some of its files."""
     files = {}
-    for path in listed(folder):
+    for path in paths:
         with open(os.path.join(os.fsencode(folder), path), "rb") as file:
             files[path] = file.read()
     return files

@@ -190,7 +190,8 @@ class Look(NamedTuple):
 
 def look(top):
     folders = {f"{folder}/{name}" for folder, names, _ in os.walk(top) for name in names}
-    return Look(renew.held(top), renew.listed(top), folders)
+    stats = renew.listed(top)
+    return Look(renew.contents(top, stats), stats, folders)
 
 
 class Programs(NamedTuple):

@@ -12,6 +12,7 @@ source "$(dirname "$0")/common.sh"
 take_program bagit "${1:-}"
 needs python3
 enter report
+quick_python
 export PATH=$root/companions:$PATH
 data=$root/crates/test_cases/data
 
@@ -320,6 +321,15 @@ echo 'd has faults: 100000' >>many
 status=0
 (ulimit -v 60000 && bagit-keep report --csv many >printed) || status=$?
 ((status == 1 && $(wc -l <printed) == 100002)) || give_up "many lines end with $status"
+
+# Four times as many reports don't take sixteen times as long.
+sums_up() {
+    seq -f '/srv/bags/%.0f is valid' "$1" >reports
+    ends_with 0 --summary reports
+    printf 'reports by how they end:\n%9d is valid\n' "$1" | cmp - <(head -n 2 printed) ||
+        give_up "of $1 reports it counts others"
+}
+takes_in_proportion 5000 20000 sums_up
 
 echo "$faults lines of faults, $(cat status-* | wc -l) lines of whole reports and $(wc -l <endings) endings come back" \
     "from JSON, CSV and tab-separated values; $(wc -l <no-faults) lines are rejected; $damaged files of odd names" \

@@ -11,6 +11,7 @@ source "$(dirname "$0")/common.sh"
 take_program bagit "${1:-}"
 needs python3
 enter rounds
+quick_python
 trap 'umount "$work/disk" 2>/dev/null || true; rm -rf "$work"' EXIT
 export BAGIT=$program
 keep=$root/companions/bagit-keep
@@ -514,7 +515,7 @@ has_table killed 1 < <(wanted)
 new_bag faulty faulty
 for ((file = 100; file < 260; file++)); do printf x >"faulty/data/$file"; done
 status=0
-(ulimit -f 4 && "$keep" round full bags/a faulty bags/b) >printed 2>&1 || status=$?
+(ulimit -f 4 && PYTHONDONTWRITEBYTECODE=1 "$keep" round full bags/a faulty bags/b) >printed 2>&1 || status=$?
 [[ $status == 3 ]] || give_up "a report that can't be written whole ends with $status"
 ends 3 full --table
 sed 1d printed | cut -f 1,4 | diff - <(printf '%s\t%s\n' 3 "$work/faulty" 0 "$bags/a" 0 "$bags/b") ||

@@ -246,6 +246,8 @@ def take_in(
         a_round = rounds.load(folder_of(register, row["name"]))
         results = list(zip(a_round.directories, a_round.rows()))
     with register.changing():
+        if row is not None and open_round(register) != row:
+            row, results = None, []  # as another audit has taken it in
         bags = {bag["path"]: bag for bag in register.rows("bags", "is_kept")}
         statuses, over = {}, accepted_after(register, row)
         for path, result in results:

@@ -7,7 +7,7 @@ import os
 import re
 import time
 from contextlib import contextmanager, suppress
-from dataclasses import asdict, dataclass, replace
+from dataclasses import dataclass, replace
 from itertools import groupby
 from typing import Iterator, List, Optional, Sequence, Tuple
 
@@ -97,15 +97,11 @@ class Parts:
         profile = head.profile and os.path.abspath(self.at("profile.json"))
         return Asked("full", head.clashes, profile, part, quiet=number > 1)
 
-    def remove(self, ours: "re.Pattern[str]") -> None:
-        """Removes the files with such names."""
-        for name in filter(ours.fullmatch, os.listdir(self.folder)):
-            with suppress(FileNotFoundError):
-                os.unlink(self.at(name))
-
     def clear(self) -> None:
         """Removes the folder; what isn't of a check stays."""
-        self.remove(OURS)
+        for name in filter(OURS.fullmatch, os.listdir(self.folder)):
+            with suppress(FileNotFoundError):
+                os.unlink(self.at(name))
         with suppress(OSError):
             os.rmdir(self.folder)
 
@@ -169,7 +165,7 @@ def begin(folder: str, head: Head, profile: Optional[bytes]) -> None:
         )
         if profile is not None:
             write_synced(parts.at("profile.json"), profile)
-        text = json.dumps(asdict(head)).encode() + b"\n"
+        text = json.dumps(vars(head)).encode() + b"\n"
         write_synced(parts.at("asked"), text)
         time.sleep(COARSE if found.is_coarse else FINE)
 
@@ -253,11 +249,10 @@ class Work:
         return replace(asked, after=after, quiet=True)
 
     def keep(self, number: int, file: str) -> None:
-        """Gives the report of a part its name, and removes what is left of
-        the part."""
+        """Gives the report of a part its name. Tries that were killed go with
+        the folder: it isn't listed for each part."""
         with suppress(FileExistsError):
             place(file, self.parts.at(f"{number}.part"))
-            self.parts.remove(re.compile(rf"{number}\..*\.(try|past)"))
 
     def persist(self, number: int, asked: Asked) -> Tuple[Verdict, str]:
         """Tries a part until it is done, or can't be; gives the last try."""

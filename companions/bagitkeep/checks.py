@@ -1,7 +1,6 @@
 """The checks of a round: several at a time, each by a process of `bagit`."""
 import fcntl
 import os
-import socket
 import stat
 import threading
 import time
@@ -65,7 +64,7 @@ class Checks:
         self.program = Program(find() or sought())
         self._locks: Optional[IO[bytes]] = None
         self._writing = threading.Lock()
-        host = encoded(socket.gethostname()).replace("/", "%2F")
+        host = encoded(os.uname().nodename).replace("/", "%2F")
         name = f"{host}-{os.getpid()}-".encode() + random_name() + b".jsonl"
         self._records = join(a_round.folder, b"records", name)
 
@@ -197,7 +196,7 @@ class Checks:
         except FileExistsError:
             self.worst = max(self.worst, verdict.status)
             return file
-        for name in self.round.tries_of(number) if is_alone else ():
+        for name in self.round.take_tries(number) if is_alone else ():
             with suppress(OSError):
                 os.unlink(name)
         return path

@@ -5,7 +5,6 @@ import fcntl
 import hashlib
 import os
 import shutil
-import socket
 import stat
 from contextlib import contextmanager, suppress
 from typing import (
@@ -219,7 +218,7 @@ def locked(is_locked: Optional[bool], claim: str, busy: str) -> Iterator[None]:
     Nobody can say whether one on another host is at work."""
     if is_locked is False:
         raise BagError(busy)
-    who, is_claimed = f"{socket.gethostname()} {os.getpid()}\n".encode(), False
+    who, is_claimed = f"{os.uname().nodename} {os.getpid()}\n".encode(), False
     try:
         if is_locked is None:
             write_synced(claim, who)

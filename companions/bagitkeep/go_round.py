@@ -124,10 +124,8 @@ def go(asked: Namespace) -> int:
     if not numbers:
         print(f"{share}: no bags")
         return 0
-    rows = {number: a_round.row(number) for number in numbers}
-    left = left_of(a_round, rows)
-    say_left(rows, left, share)
     checks = Checks(a_round, asked.timeout)
+    left = told_left(a_round, numbers, share)
     checks.run(left, asked.jobs, asked.progress)
     a_round = rounds.load(folder)
     count = Counter(a_round.row(number).status for number in numbers)
@@ -138,23 +136,26 @@ def go(asked: Namespace) -> int:
     return max(checks.worst, *count)
 
 
-def say_left(rows: Dict[int, Row], left: List[int], share: str) -> None:
-    """Says what is altered in a round, and whether it goes on."""
+def told_left(a_round: Round, numbers: List[int], share: str) -> List[int]:
+    """The numbers of the bags of these that have no result yet. Says what is
+    altered in a round, and whether it goes on."""
+    rows = {number: a_round.row(number) for number in numbers}
+    left = left_of(a_round, rows)
     if not left:
         raise Refused(
             f"{share} is finished, and nothing was checked; see --table, and"
             " begin another round"
         )
-    done = {**rows}
-    for row in map(done.pop, left):
+    for row in map(rows.pop, left):
         if row.is_altered:
             say(f"{encoded(row.bag)}: {row.result}")
-    begun = [row.record.begun for row in done.values() if row.record]
+    begun = [row.record.begun for row in rows.values() if row.record]
     if begun:
         say(
             f"{share} goes on: {len(begun)} bags have a result, of a check"
             f" since {min(begun)}"
         )
+    return left
 
 
 def write_table(asked: Namespace) -> int:

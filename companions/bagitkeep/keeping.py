@@ -40,7 +40,10 @@ def checked(register: Register, paths: List[bytes], jobs: Any) -> Round:
     a_round = rounds.begin(folder, paths, FULL, None)
     asked = Namespace(hours=None, jobs=jobs, progress=None)
     check(a_round, list(range(1, len(paths) + 1)), asked)
-    return rounds.load(folder)
+    a_round = rounds.load(folder)
+    if a_round.directories != paths:
+        raise Refused(f"{encoded(folder)} is of another process by now", 3)
+    return a_round
 
 
 def good(result: Result) -> Optional[Dict[str, Any]]:
@@ -213,8 +216,9 @@ def accept(
 
 def retire(register: Register, asked: Namespace, paths: List[bytes]) -> int:
     """Notes that a bag isn't kept any more."""
-    said, bag = who_of(asked), register.bag_at(paths[0])
+    said = who_of(asked)
     with register.changing():
+        bag = register.bag_at(paths[0])
         forget(register, bag)
         register.alter("bags", bag, is_kept=0)
         register.note("retired", bag["id"], **said)

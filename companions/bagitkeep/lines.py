@@ -9,15 +9,22 @@ import json
 import re
 from contextlib import suppress
 from dataclasses import dataclass, field
-from pathlib import Path
+from os.path import dirname, join
 from typing import Any, Dict, Iterable, Iterator, List, Optional, Union
 from urllib.parse import quote, unquote_to_bytes
 
-TEXTS = Path(__file__).parent / "templates"
+TEXTS = join(dirname(__file__), "templates")
+
+
+def template(name: str) -> str:
+    """A text that lies in the package."""
+    with open(join(TEXTS, name), encoding="utf-8") as file:
+        return file.read()
+
 
 FAULTS: Dict[int, List[str]] = {
     int(code): row
-    for code, row in json.loads((TEXTS / "faults.json").read_bytes()).items()
+    for code, row in json.loads(template("faults.json")).items()
 }
 """The word of each code, what it means, and what to do, as docs/FAULTS.md has
 them; a test compares the two."""
@@ -62,7 +69,7 @@ FAULT = re.compile(
 )
 UNCHECKED = re.compile(f"unchecked (?P<key>{TEXT})")
 CLOSINGS = [
-    re.compile(f"(?P<bag>{TEXT}) {form}")
+    f"(?P<bag>{TEXT}) {form}"
     for form in (
         f"(?P<ended>{'|'.join(VERDICTS.values())}|made)",
         f"(?P<ended>has faults): (?P<faults>{NUMBER})",
@@ -80,6 +87,7 @@ CLOSINGS = [
         f"(?P<ended>not made): (?P<reason>step {NUMBER}) {CAUSE}",
     )
 ]
+"""The forms of closing lines, which are compiled where they are needed."""
 
 
 class NotALine(ValueError):
@@ -181,7 +189,7 @@ def line_of(text: bytes) -> Line:
         if found := UNCHECKED.fullmatch(line):
             return Unchecked(decoded(found["key"]))
         for form in CLOSINGS:
-            if found := form.fullmatch(line):
+            if found := re.fullmatch(form, line):
                 return closing_of(found)
     raise NotALine("bagit writes no such line")
 

@@ -302,7 +302,7 @@ def templates() -> Any:
     except ImportError as error:
         raise Refused("there is no Jinja2 (python3-jinja2)", 3) from error
     pages = jinja2.Environment(
-        loader=jinja2.FileSystemLoader(str(TEXTS)), autoescape=True,
+        loader=jinja2.FileSystemLoader(TEXTS), autoescape=True,
         trim_blocks=True, lstrip_blocks=True, auto_reload=False,
     )
     pages.globals.update(now=now(), version=__version__)

@@ -284,23 +284,29 @@ class Program(AbstractContextManager["Program"]):
         """Does the work for these numbers, so many at a time. If it fails for
         one, or this is interrupted, all processes are killed, and no other is
         started."""
+        left, jobs = iter(numbers), min(jobs, len(numbers))
 
-        def do(number: int) -> None:
-            self.at_work.append(number)
-            try:
-                work(number)
-            finally:
-                self.at_work.remove(number)
-                self.done.append(number)
+        def take() -> Optional[int]:
+            with self._lock:
+                return None if self.stopped.is_set() else next(left, None)
 
-        pool = ThreadPoolExecutor(min(jobs, len(numbers)))
+        def do() -> None:
+            for number in iter(take, None):
+                self.at_work.append(number)
+                try:
+                    work(number)
+                finally:
+                    self.at_work.remove(number)
+                    self.done.append(number)
+
+        pool = ThreadPoolExecutor(jobs)
         try:
-            begun = [pool.submit(do, it) for it in numbers]
+            begun = [pool.submit(do) for _ in range(jobs)]
             for it in wait(begun, return_when=FIRST_EXCEPTION).done:
                 it.result()
         except BaseException:
             self.stop()
-            pool.shutdown(False, cancel_futures=True)
+            pool.shutdown(False)
             raise
         pool.shutdown()
 

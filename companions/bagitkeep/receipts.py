@@ -10,7 +10,7 @@ from . import __version__, tags
 from .bagit import Bag
 from .info import description_of
 from .files import sha256_of
-from .lines import FAULTS, TEXTS, Fault, encoded
+from .lines import FAULTS, Fault, encoded, template
 from .members import Member, folder_content, folders_of, key_of
 from .messages import printable
 from .places import place_text
@@ -125,7 +125,7 @@ def page_of(receipt: Dict[str, Any]) -> str:
     """A receipt as a page to be printed and signed."""
     title = f"Receipt {receipt['number']}: {receipt['decision']}"
     known = {key: it for key, it in receipt.items() if it is not None}
-    return (TEXTS / "receipt.html").read_text("utf-8").format(
+    return template("receipt.html").format(
         title=html.escape(title),
         says=html.escape(printable(sentence_of(receipt))),
         body=shown_value(known),

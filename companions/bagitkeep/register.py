@@ -41,7 +41,8 @@ DAMAGE = (
     "decode",
 )
 """What is in a message of SQLite if the database isn't what was written; all
-others are of a disk that is full, or of a file that can't be used."""
+others are of a disk that is full, or of a file that can't be used. Before
+Python 3.11 a message that isn't UTF-8 is empty."""
 
 UNIQUE = {
     "settings": "name",
@@ -143,8 +144,8 @@ class Register:
             if "locked" in text:
                 text = f"{where} is in use by another process"
                 raise Refused(text, 3) from error
-            if any(it in text for it in DAMAGE):
-                raise self.altered(text) from error
+            if not text or any(it in text for it in DAMAGE):
+                raise self.altered(text or "malformed") from error
             if "is full" in text:
                 why = "make room, and give the command again"
             else:
@@ -325,12 +326,17 @@ def alone(
     folder: bytes, name: bytes = b"lock", shared: bool = False
 ) -> Iterator[None]:
     """Locks a register for one process of a kind, or for those that share
-    the work."""
+    the work. Nothing is done where nothing can be locked, as in a database
+    there."""
     if not os.path.isdir(folder):
         raise Refused(f"{encoded(folder)} is no register")
     how = fcntl.LOCK_SH | fcntl.LOCK_NB if shared else EXCLUSIVE
     with open(join(folder, name), "a+b") as file:
-        if has_lock(fcntl.lockf, file, how) is False:
+        is_locked = has_lock(fcntl.lockf, file, how)
+        if is_locked is None:
+            text = "a register is kept on a disk that has locks"
+            raise Refused(f"{encoded(folder)} can't be locked: {text}", 3)
+        if not is_locked:
             text = f"another process is at work in {encoded(folder)}"
             raise Refused(text, 3)
         yield

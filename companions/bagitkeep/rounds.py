@@ -25,7 +25,7 @@ import json
 import os
 import re
 from contextlib import suppress
-from dataclasses import asdict, dataclass, field, fields
+from dataclasses import dataclass, field, fields
 from os.path import join
 from typing import IO, Dict, Iterator, List, Optional, Set, Tuple, get_args
 
@@ -68,7 +68,7 @@ class Record:
 
     def line(self) -> bytes:
         """The record as a line of JSON."""
-        return json.dumps(asdict(self)).encode() + b"\n"
+        return json.dumps(vars(self)).encode() + b"\n"
 
 
 def record_of(line: bytes) -> Optional[Record]:
@@ -111,7 +111,7 @@ class Round:
     asked: Asked
     options: Dict[str, object]
     records: Dict[int, List[Record]]
-    tried: Set[bytes]
+    tried: Dict[bytes, List[bytes]]
     pruned: Set[int] = field(default_factory=set)
 
     def name_of(self, number: int) -> bytes:
@@ -125,14 +125,16 @@ class Round:
 
     def new_try(self, number: int) -> bytes:
         """A name for the report of a check that hasn't come to its end."""
-        name = b"%s.%s.txt" % (self.name_of(number), random_name())
-        return join(self.folder, b"tries", name)
+        name = self.name_of(number)
+        file = b"%s.%s.txt" % (name, random_name())
+        self.tried.setdefault(name, []).append(file)
+        return join(self.folder, b"tries", file)
 
-    def tries_of(self, number: int) -> List[bytes]:
-        """The reports of those that didn't."""
-        place, name = join(self.folder, b"tries"), self.name_of(number)
-        found = names_in(place)
-        return [join(place, it) for it in found if tried_in(it) == name]
+    def take_tries(self, number: int) -> List[bytes]:
+        """The reports of those that hadn't, as far as this process knows, and
+        from now on doesn't, since they are removed."""
+        found = self.tried.pop(self.name_of(number), [])
+        return [join(self.folder, b"tries", it) for it in found]
 
     def row(self, number: int) -> Row:
         """How the bag of a number is."""
@@ -247,14 +249,11 @@ def load(folder: bytes) -> Round:
     asked = Asked(found["depth"], bool(found["clashes"]), rules)
     if asked.profile and sha256_of(profile) != found["profile"]:
         raise Refused(f"{encoded(profile)} was altered", 3)
-    tried = set(map(tried_in, names_in(join(folder, b"tries"))))
+    tried: Dict[bytes, List[bytes]] = {}
+    for file in names_in(join(folder, b"tries")):
+        tried.setdefault(file.rsplit(b".", 2)[0], []).append(file)
     records, pruned = read_records(folder), read_pruned(folder)
     return Round(folder, directories, asked, found, records, tried, pruned)
-
-
-def tried_in(name: bytes) -> bytes:
-    """What the files of a bag are called, by the name of one of its tries."""
-    return name.rsplit(b".", 2)[0]
 
 
 def read_pruned(folder: bytes) -> Set[int]:

@@ -8,7 +8,7 @@ import argparse
 import re
 from typing import Any, Callable, Dict, NoReturn, Sequence, Tuple
 
-from .lines import TEXTS
+from .lines import template
 from .messages import Refused
 
 OPTION = re.compile(r"^  (--[a-z-]+)(?: (\S+))?( \.\.)?(?=  |$)", re.M)
@@ -43,7 +43,7 @@ def read(
     command = Command(
         f"bagit-keep {name}", "", add_help=False, allow_abbrev=False
     )
-    command.text = (TEXTS / f"{name}.txt").read_text("utf-8")
+    command.text = template(f"{name}.txt")
     command.add_argument("operands", nargs="*")
     command.add_argument("-h", "--help", action="help")
     options = OPTION.findall(command.text)

@@ -1,14 +1,23 @@
 """What is compared between the parts of a check, and how many there are."""
 import hashlib
+import io
 import os
 import tempfile
 import time
 import unittest
+from contextlib import redirect_stdout
 from pathlib import Path
 from typing import Callable, Dict
 from unittest import mock
 
-from bagitkeep.check import MOST_PARTS, parts_for, ranges_of
+from bagitkeep.check import (
+    MOST_PARTS,
+    Head,
+    Parts,
+    parts_for,
+    ranges_of,
+    task,
+)
 from bagitkeep.fingerprint import (
     altered,
     difference,
@@ -16,6 +25,7 @@ from bagitkeep.fingerprint import (
     listing,
     place,
 )
+from bagitkeep.messages import Refused
 
 GIB = 1 << 30
 
@@ -120,6 +130,36 @@ def exchange(path: Path) -> None:
     other.write_text(path.read_text())
     os.utime(other, ns=(state.st_atime_ns, state.st_mtime_ns))
     other.rename(path)
+
+
+class Tasks(unittest.TestCase):
+    FAULT = "701 payload-sum-differs data/a md5 - 0:1\n"
+    LINE = "d part 1 of 2 done, files: 3, bytes: 4, faults: {}\n"
+
+    def setUp(self) -> None:
+        folder = tempfile.TemporaryDirectory()
+        self.addCleanup(folder.cleanup)
+        head = Head("d", "/d", 2, False, None, "", "")
+        self.parts = Parts(folder.name, head)
+
+    def test_the_status_of_a_part_is_that_of_its_report(self) -> None:
+        for faults, status in (0, 0), (1, 1), (2, 1):
+            line = self.LINE.format(faults)
+            with open(self.parts.at("1.part"), "w") as file:
+                file.write(self.FAULT * faults + line)
+            with redirect_stdout(io.StringIO()) as out:
+                self.assertEqual(task(self.parts, 1), status)
+            self.assertEqual(out.getvalue(), line)
+
+    def test_a_part_without_a_whole_report(self) -> None:
+        self.assertEqual(task(self.parts, 1), 3)
+        one = self.LINE.format(1)
+        for text in "", self.FAULT, one, self.FAULT + one[:-1], one + one:
+            with open(self.parts.at("1.part"), "w") as file:
+                file.write(text)
+            with self.assertRaises(Refused) as refused:
+                task(self.parts, 1)
+            self.assertEqual(refused.exception.status, 3)
 
 
 class Numbers(unittest.TestCase):

@@ -55,6 +55,6 @@ class Meanings(unittest.TestCase):
 if __name__ == "__main__":
     if sys.argv[1:] == ["--write"]:
         text = json.dumps(rows_in(PAGE.read_text("utf-8")), indent=1)
-        (TEXTS / "faults.json").write_text(text + "\n", "utf-8")
+        (Path(TEXTS) / "faults.json").write_text(text + "\n", "utf-8")
     else:
         unittest.main()

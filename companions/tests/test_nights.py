@@ -7,8 +7,8 @@ import sqlite3
 import tempfile
 import unittest
 from argparse import Namespace
-from contextlib import closing, redirect_stdout
-from typing import Any, Callable, List, Optional
+from contextlib import closing, contextmanager, redirect_stdout
+from typing import Any, Callable, Iterator, List, Optional
 from unittest import mock
 
 from bagitkeep import audit, keeping, news, register, renewal, rounds
@@ -238,6 +238,55 @@ class OfNights(unittest.TestCase):
             audit.take_in(self.opened, row, False, [])
         found = self.opened.rows("findings")
         self.assertEqual([2], [it["bag"] for it in found])
+
+    def test_a_round_is_taken_in_once(self) -> None:
+        self.take("/", audit.now())
+        row = audit.begin_round(self.opened, self.opened.rows("bags"), False)
+        audit.take_in(self.opened, row, False, [])
+        bag, found = self.opened.bag_at(b"/"), {("fault", "of a later audit")}
+        with self.opened.changing():
+            news.settle(self.opened, bag, found)
+        before = self.opened.rows("rounds")
+        with mock.patch.object(audit, "found_of", return_value=set()):
+            audit.take_in(self.opened, row, False, [])
+        kinds = [it["kind"] for it in self.opened.rows("findings")]
+        self.assertEqual(["fault"], kinds)
+        self.assertEqual(before, self.opened.rows("rounds"))
+
+    def test_no_bag_is_accepted_by_the_check_of_another(self) -> None:
+        for path in "/a", "/b":
+            self.take(path, audit.now())
+
+        def checks_another(a_round: rounds.Round, *rest: Any) -> None:
+            shutil.rmtree(a_round.folder)
+            rounds.begin(a_round.folder, [b"/b"], keeping.FULL, None)
+
+        words = Namespace(by="Ada", why="x")
+        values = {"seal": "1", "files": 0, "bytes": 0, "read": audit.now()}
+        with mock.patch.object(keeping, "check", checks_another):
+            with mock.patch.object(keeping, "good", return_value=values):
+                with self.assertRaises(Refused) as refused:
+                    keeping.accepted(self.opened, words, [b"/a"])
+        self.assertEqual(3, refused.exception.status)
+        self.assertEqual([], self.kinds())
+
+    def test_who_retires_a_bag_keeps_what_was_noted_just_before(self) -> None:
+        self.take("/", audit.now())
+        changing = self.opened.changing
+
+        @contextmanager
+        def after_another() -> Iterator[None]:
+            with changing():
+                bag = self.opened.bag_at(b"/")
+                self.opened.alter("bags", bag, seal="1")
+            with changing():
+                yield
+
+        words = Namespace(by="Ada", why="x")
+        with mock.patch.object(self.opened, "changing", after_another):
+            self.said(keeping.retire, words, [b"/"])
+        bag = self.opened.bag_at(b"/")
+        self.assertEqual(("1", 0), (bag["seal"], bag["is_kept"]))
 
     def test_what_only_status_has_told_can_be_known(self) -> None:
         self.take("/", "2026-01-01T00:00:00Z")

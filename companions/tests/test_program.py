@@ -6,10 +6,11 @@ import sys
 import tempfile
 import threading
 import time
+import tracemalloc
 import unittest
 from importlib import reload
 from pathlib import Path
-from typing import Optional
+from typing import List, Optional
 from unittest import mock
 
 from bagitkeep import audit, check, go_round, keeping, supported
@@ -242,6 +243,51 @@ class Runs(unittest.TestCase):
             while process.exists() and " Z " not in process.read_text():
                 self.assertLess(time.monotonic(), until, "it goes on")
                 time.sleep(0.01)
+
+
+class Several(unittest.TestCase):
+    """What is done for each of some numbers, several at a time."""
+
+    def test_each_once_and_so_many_at_a_time(self) -> None:
+        for jobs, numbers in (1, [7]), (3, range(1, 50)), (9, [5, 2]):
+            with Program("bagit") as program:
+                most: List[int] = []
+
+                def work(number: int) -> None:
+                    most.append(len(program.at_work))
+                    self.assertIn(number, program.at_work)
+                    time.sleep(0.001)
+
+                program.each(work, numbers, jobs)
+            self.assertEqual(sorted(numbers), sorted(program.done))
+            self.assertLessEqual(max(most), min(jobs, len(numbers)))
+            self.assertEqual([], program.at_work)
+
+    def test_one_that_fails_ends_all(self) -> None:
+        for jobs in 1, 3:
+            begun = []
+
+            def work(number: int) -> None:
+                begun.append(number)
+                if number == 2:
+                    raise ZeroDivisionError
+                if number > 2:
+                    program.stopped.wait(60)
+
+            program = Program("bagit")
+            with self.assertRaises(ZeroDivisionError):
+                program.each(work, range(1, 1000), jobs)
+            self.assertTrue(program.stopped.is_set())
+            self.assertLess(len(begun), 10)
+
+    def test_they_take_no_memory_before_their_turn(self) -> None:
+        numbers = range(1, 10_001)
+        with Program("bagit") as program:
+            tracemalloc.start()
+            self.addCleanup(tracemalloc.stop)
+            program.each(lambda number: None, numbers, 2)
+            peak = tracemalloc.get_traced_memory()[1]
+        self.assertLess(peak, 200 * len(numbers))
 
 
 class Pythons(unittest.TestCase):

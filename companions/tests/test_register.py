@@ -1,4 +1,5 @@
 """The register: its rows, what is news, and which bags are due."""
+import errno
 import json
 import os
 import sqlite3
@@ -7,6 +8,7 @@ import unittest
 from argparse import Namespace
 from contextlib import closing
 from typing import Any, Dict, Optional
+from unittest import mock
 
 from bagitkeep import audit, keeping, news, register
 from bagitkeep.files import read_bytes
@@ -101,6 +103,7 @@ class OfRegister(unittest.TestCase):
     def test_what_the_database_says(self) -> None:
         opened = self.open()
         for text, is_damage in (
+            ("", True),
             ("database disk image is malformed", True),
             ("malformed database schema (bags)", True),
             ("file is not a database", True),
@@ -127,6 +130,21 @@ class OfRegister(unittest.TestCase):
             opened._base.execute("ROLLBACK")
             raise sqlite3.OperationalError("database or disk is full")
         self.assertIn("disk is full", str(refused.exception))
+
+    def test_nothing_is_done_where_nothing_can_be_locked(self) -> None:
+        for number, says in (
+            (errno.ENOSYS, "can't be locked: a register is kept on a disk"),
+            (errno.ENOLCK, "can't be locked: a register is kept on a disk"),
+            (errno.EAGAIN, "another process is at work in "),
+        ):
+            fails = OSError(number, os.strerror(number))
+            for is_shared in False, True:
+                with mock.patch("fcntl.lockf", side_effect=fails):
+                    with self.assertRaises(Refused) as refused:
+                        with register.alone(self.folder, shared=is_shared):
+                            self.fail("it goes on")
+                self.assertEqual(3, refused.exception.status)
+                self.assertIn(says, str(refused.exception))
 
     def test_another_file_is_no_register(self) -> None:
         with open(self.folder + b"/register.sqlite", "wb") as file:

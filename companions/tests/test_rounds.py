@@ -7,6 +7,7 @@ import unittest
 from dataclasses import replace
 from pathlib import Path
 from typing import Optional
+from unittest import mock
 
 from bagitkeep import page
 from bagitkeep.audit import prune_round
@@ -134,6 +135,16 @@ class Rounds(unittest.TestCase):
         self.assertEqual(load(name).row(1).result, "begun, not ended")
         self.assertEqual(load(name).row(1).status, 3)
 
+    def test_tries_are_listed_once_for_all_bags(self) -> None:
+        (self.round / "tries" / "000001-a.00.txt").touch()
+        (self.round / "tries" / "000002-a.00.txt").touch()
+        a_round = load(os.fsencode(self.round))
+        with mock.patch("os.listdir", side_effect=AssertionError):
+            made = a_round.new_try(1)
+            there = os.fsencode(self.round / "tries" / "000001-a.00.txt")
+            self.assertEqual([there, made], a_round.take_tries(1))
+            self.assertEqual([], a_round.take_tries(1))
+
     def test_a_report_that_was_pruned(self) -> None:
         name, report = os.fsencode(self.round), self.round / "reports"
         self.row(VALID, a_record(VALID))
@@ -159,7 +170,7 @@ class Rounds(unittest.TestCase):
         killed = replace(a_record(VALID), why="killed")
         row = replace(load(name), records={1: [killed]}, pruned={1}).row(1)
         self.assertEqual((row.status, row.is_pruned), (3, False))
-        row = replace(load(name), records={}, tried=set(), pruned={1}).row(1)
+        row = replace(load(name), records={}, tried={}, pruned={1}).row(1)
         self.assertEqual((row.result, row.is_pruned), ("not begun", False))
 
     def test_only_reports_without_faults_are_pruned(self) -> None:

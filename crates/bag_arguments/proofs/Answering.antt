@@ -7,8 +7,8 @@ use Rattle.bag_arguments.proofs.Common.{refusals, matches_of_words}
 use Rattle.clap.specs.declared.error.Error.{Error}
 use Rattle.bag_arguments.proofs.OneKind.{refusals_one}
 use Rattle.bag_arguments.specs.Given.{depth, value}
-use Rattle.bag_facts.specs.declared.fault.Fault.{Fault}
-use Rattle.bag_facts.specs.declared.options.Depth.{Depth}
+use Rattle.bag_faults.specs.declared.fault.Fault.{Fault}
+use Rattle.bag_faults.specs.declared.options.Depth.{Depth}
 use Rattle.bag_arguments.specs.Plan.{Declines, IsCursor, IsNotRefused, IsPlanned, Plans, misuse, part_misuse}
 use Rattle.bag_arguments.specs.Plan.{part_misuse_at}
 use Rattle.bag_arguments.specs.declared.check_option.CheckOption.{CheckOption}

@@ -12,9 +12,9 @@ use Rattle.bag_text.specs.Alg.{algs, name}
 use Rattle.bag_text.specs.declared.alg.Alg.{Alg}
 use Rattle.bag_text.specs.declared.alg.Alg.TheVariants.{Sha256, Sha512}
 use Rattle.bag_read.specs.LineParts.{number_of}
-use Rattle.bag_facts.specs.Part.{Part, part_at}
-use Rattle.bag_facts.specs.declared.options.Depth.{Depth}
-use Rattle.bag_facts.specs.declared.options.Depth.TheVariants.{Declaration, Fast, Complete, Full}
+use Rattle.bag_faults.specs.Part.{Part, part_at}
+use Rattle.bag_faults.specs.declared.options.Depth.{Depth}
+use Rattle.bag_faults.specs.declared.options.Depth.TheVariants.{Declaration, Fast, Complete, Full}
 use Rattle.bag_arguments.specs.Labels.{all_labels, label_name, label_option}
 use Rattle.bag_arguments.specs.declared.label.Label.{Label}
 use Rattle.bag_arguments.specs.declared.plan.Action.{Action}

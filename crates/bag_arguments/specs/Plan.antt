@@ -4,10 +4,10 @@ use Rattle.std.specs.Prelude.{Option, Some, None, Result, Ok, Err, option_map, i
 use Rattle.clap.specs.Words.{Kinds, Row, Text}
 use Rattle.clap.specs.declared.error.kind.ErrorKind.{ErrorKind}
 use Rattle.clap.specs.declared.error.kind.ErrorKind.TheVariants.{DisplayHelp}
-use Rattle.bag_facts.specs.LineOf.{IsLineOf}
-use Rattle.bag_facts.specs.declared.fault.Fault.{Fault}
-use Rattle.bag_facts.specs.declared.options.Depth.{Depth}
-use Rattle.bag_facts.specs.declared.options.Depth.TheVariants.{Declaration, Full}
+use Rattle.bag_faults.specs.LineOf.{IsLineOf}
+use Rattle.bag_faults.specs.declared.fault.Fault.{Fault}
+use Rattle.bag_faults.specs.declared.options.Depth.{Depth}
+use Rattle.bag_faults.specs.declared.options.Depth.TheVariants.{Declaration, Full}
 use Rattle.bag_arguments.specs.Given.{action, directories, depth, is_given, value, IsLimit}
 use Rattle.bag_arguments.specs.Given.{named_algs, or_default, info}
 use Rattle.bag_arguments.specs.Given.{out_of_place, has_two_depths, has_after_several}

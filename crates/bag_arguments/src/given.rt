@@ -10,7 +10,7 @@ ghost use Rattle.bag_text.specs.AlgList.{with_member};
 use crate::check_option::CHECK_OPTIONS;
 use crate::matched::{is_given, value, value_count, values};
 use crate::{Action, CheckOption, InfoItem, Label};
-use bag_facts::{Depth, Part};
+use bag_faults::{Depth, Part};
 use bag_read::number_of;
 use bag_text::{Alg, AlgSet, Items, Text, trim};
 use clap::ArgMatches;

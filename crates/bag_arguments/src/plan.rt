@@ -1,5 +1,5 @@
 //! What the words of a command line ask for.
-use bag_facts::{Fault, Options, Part};
+use bag_faults::{Fault, Options, Part};
 use bag_text::{AlgSet, Items, Text};
 
 /// What is to be done.

@@ -12,7 +12,7 @@ use crate::declining::{Declined, answer_of};
 use crate::label::LABELS;
 use crate::matched::{is_given, value};
 use crate::{Action, CheckOption, Plan, Usage, given};
-use bag_facts::{CursorFault, Depth, Fault, Options, Part};
+use bag_faults::{CursorFault, Depth, Fault, Options, Part};
 use bag_text::{AlgSet, Items};
 use clap::error::ErrorKind;
 use clap::{ArgMatches, Error};

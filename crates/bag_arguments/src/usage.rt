@@ -3,9 +3,9 @@ ghost use Rattle.std.specs.Prelude.{◌≡◌};
 ghost use Rattle.bag_arguments.specs.Plan.{usage_status};
 ghost use Rattle.bag_arguments.specs.declared.usage.Usage.TheVariants.{Memory};
 
-use crate::CheckOption;
-use crate::said::{JOIN_WITH_OTHER, NOT_A_PART, PART_OF_DEPTH};
-use bag_text::{Text, said};
+use crate::{CheckOption, said};
+use bag_text::Text;
+use bag_text::said::OUT_OF_MEMORY;
 use std::alloc::{AllocError, AllocFailed};
 use thiserror::Error;
 
@@ -20,7 +20,7 @@ pub enum Usage {
     #[error("{program}{0}{why}", program = said::PROGRAM, why = said::NEEDS_VALIDATE)]
     NeedsValidate(CheckOption),
     /// Reports are to be joined, and another option of a check is given, or that it is to be quiet.
-    #[error("{program}{why}", program = said::PROGRAM, why = JOIN_WITH_OTHER)]
+    #[error("{program}{why}", program = said::PROGRAM, why = said::JOIN_WITH_OTHER)]
     JoinWithOther,
     /// More than one depth is given.
     #[error("{program}{why}", program = said::PROGRAM, why = said::TWO_DEPTHS)]
@@ -32,14 +32,14 @@ pub enum Usage {
     #[error("{program}{why}", program = said::PROGRAM, why = said::AFTER_NOT_A_LINE)]
     AfterNotALine,
     /// A part is asked for, and a depth that compares no digests.
-    #[error("{program}{why}", program = said::PROGRAM, why = PART_OF_DEPTH)]
+    #[error("{program}{why}", program = said::PROGRAM, why = said::PART_OF_DEPTH)]
     PartOfDepth,
     /// What is given as a part isn't one: digits, a slash and digits, the first number from 1 to
     /// the second, and this one at most 65,536.
-    #[error("{program}{why}", program = said::PROGRAM, why = NOT_A_PART)]
+    #[error("{program}{why}", program = said::PROGRAM, why = said::NOT_A_PART)]
     NotAPart,
     /// A growth was refused.
-    #[error("{program}{why}", program = said::PROGRAM, why = said::OUT_OF_MEMORY)]
+    #[error("{program}{why}", program = said::PROGRAM, why = OUT_OF_MEMORY)]
     Memory,
 }
 

@@ -1,16 +1,13 @@
 -- The statuses of the arms of what a plan asks for.
 use Rattle.bag_cli.proofs.Common.{◌≤◌, inl, inr, ℕ, List, Option, arith, DiskState, OutState, Event, tree_state, Plan}
 use Rattle.bag_cli.proofs.Common.{ArchiveState, AreChecked, AreMade, AreTarsChecked, Checks, IsChecked, IsDoneBy}
-use Rattle.bag_cli.proofs.Common.{◌≡◌, AreJoined, IsSaid, Outcome, Refusal, ReportsState, Result, SummedProfile}
+use Rattle.bag_cli.proofs.Common.{◌≡◌, AreJoined, Outcome, Refusal, ReportsState, Result, SummedProfile}
 use Rattle.bag_cli.proofs.Common.{in_form, join_status}
 use Rattle.bag_arguments.specs.declared.plan.Action.{Action}
 use Rattle.bag_arguments.specs.declared.plan.Action.TheVariants.{Sample, Help, Check, CheckTars, Join, Make}
 use Rattle.bag_cli.proofs.Checks.{checks_status, tars_status}
+use Rattle.bag_program.proofs.Deeds.{said_status}
 use Rattle.bag_cli.proofs.Makings.{makings_status}
-
-pub said_status : (text : List ℕ) (before after : OutState) (visits : List Event) (n : ℕ)
-    → IsSaid text before after visits n → n ≤ 3
-said_status text before after visits n said = grind arith
 
 -- what is checked by a profile has a status, where each check has one
 pub checked_status : (checked : Checks)

@@ -1,7 +1,7 @@
 -- What was asked for, a whole check or one of a part, is what was done.
 use Rattle.bag_cli.proofs.Common.{◌≡◌, ◌≢◌, ◌≤◌, ℕ, Option, Some, None, refl, subst, arith, OutState, TreeState, Outcome}
 use Rattle.bag_cli.proofs.Common.{SummedProfile, Request, profile_of, status, CheckOutcome}
-use Rattle.bag_facts.specs.Part.{Part}
+use Rattle.bag_faults.specs.Part.{Part}
 use Rattle.bag_walk.specs.WholeRun.{IsRunOver}
 use Rattle.bag_walk.specs.declared.part_run.PartOutcome.{PartOutcome}
 use Rattle.bag_cli.specs.Checked.{IsCheckBy}

@@ -10,7 +10,7 @@ use Rattle.bag_cli.proofs.Common.{tree_state}
 use Rattle.bag_cli.proofs.Common.{AreChecksOf, HasRunOut, IsCheckOf, IsLastCheck, IsVisitToCheck, IsWholeCheck}
 use Rattle.bag_cli.proofs.Common.{result_ok, subst, sym, visit_of, whole_status}
 use Rattle.bag_cli.specs.Checking.{ChecksFolder}
-use Rattle.bag_cli.proofs.Turns.{turns_status}
+use Rattle.bag_program.proofs.Turns.{turns_status}
 
 -- what the status says of a check
 pub next_check : {E : Type 0} (plan : Plan) (profile : Option SummedProfile) (tree : TreeState) (name : List ℕ)

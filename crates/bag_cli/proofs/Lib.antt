@@ -5,6 +5,4 @@ pub mod Common
 pub mod Joins
 pub mod Makings
 pub mod OverHonest
-pub mod Runs
 pub mod Tars
-pub mod Turns

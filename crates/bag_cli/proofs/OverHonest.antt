@@ -4,7 +4,7 @@ use Rattle.bag_cli.proofs.Common.{Appends, Event, OutState, TreeState, status, O
 use Rattle.bag_cli.proofs.Common.{SummedProfile, Request, profile_of, reported_lines, GivesReport, IsWholeCheck, request_of}
 use Rattle.std.specs.List.{concat}
 use Rattle.bag_tree.specs.declared.tree_fault.Stop.{Stop}
-use Rattle.bag_facts.specs.declared.fault.Fault.{Fault}
+use Rattle.bag_faults.specs.declared.fault.Fault.{Fault}
 use Rattle.bag_walk.specs.Ending.{ideal}
 use Rattle.bag_walk.specs.Run.{IsRunOf}
 use Rattle.bag_walk.specs.WholeRun.{IsRunOver}

@@ -5,7 +5,7 @@ use Rattle.bag_cli.proofs.Common.{ArchiveState, DiskState, Event, IsTreeOf, Open
 use Rattle.bag_arguments.specs.declared.plan.Action.{Action}
 use Rattle.bag_arguments.specs.declared.plan.Action.TheVariants.{Sample, Help, Check, CheckTars, Join, Make}
 use Rattle.bag_text.specs.declared.text.Text.{Text}
-use Rattle.bag_tar.specs.declared.tar_fault.TarStop.{TarStop}
+use Rattle.bag_archive.specs.declared.tar_fault.TarStop.{TarStop}
 use Rattle.bag_cli.specs.CheckedAs.{ChecksAs}
 use Rattle.bag_cli.specs.Checking.{ChecksFolder}
 use Rattle.bag_cli.specs.Performed.{AreCheckedBy}

@@ -3,14 +3,14 @@ use Rattle.std.specs.Prelude.{ℕ, ◌≡◌, ◌⊎◌, ⊤, List, [], ◌∷�
 use Rattle.std.specs.Prelude.{Option, Some, None, option_map}
 use Rattle.bag_tree.specs.Out.{OutState}
 use Rattle.bag_tree.specs.Tree.{TreeState}
-use Rattle.bag_cli.specs.Visits.{Event, Asked, Closed, Entered, NotGiven, Left, Read, Opened, Shut}
-use Rattle.bag_facts.specs.Part.{Part as PartValue}
+use Rattle.bag_program.specs.Visits.{visit_of, Event, Asked, Closed, Entered, NotGiven, Left, Read, Opened, Shut}
+use Rattle.bag_faults.specs.Part.{Part as PartValue}
 use Rattle.bag_walk.specs.declared.outcome.Request.{Request}
 use Rattle.bag_profile.specs.Profile.{Profile}
 use Rattle.bag_walk.specs.PartRuns.{IsRunOfPart}
 use Rattle.bag_walk.specs.WholeRun.{IsRunOver}
 use Rattle.bag_arguments.specs.declared.plan.Plan.{Plan}
-use Rattle.bag_cli.specs.InTurn.{AreInTurn, Deed}
+use Rattle.bag_program.specs.InTurn.{AreInTurn, Deed}
 use Rattle.bag_cli.specs.Status.{check_status}
 use Rattle.bag_cli.specs.declared.check_outcome.CheckOutcome.{CheckOutcome}
 use Rattle.bag_cli.specs.declared.check_outcome.CheckOutcome.TheVariants.{OfBag, OfPart}
@@ -48,10 +48,6 @@ abbrev pub IsCheckOf : Plan → Option SummedProfile → TreeState → TreeState
     → OutState → OutState → CheckOutcome → Type 0
 IsCheckOf plan profile tree new name before after outcome =
     IsCheckBy plan.part profile tree new (request_of plan name) before after outcome
-
--- the folder was looked into once, and its tree was left as this
-abbrev pub visit_of : List ℕ → TreeState → List Event
-visit_of name new = Entered name ∷ Left new ∷ []
 
 -- a check of the tree that was given for a folder, and that was left as the check leaves it
 abbrev pub IsVisitToCheck : Plan → Option SummedProfile → TreeState → List ℕ

@@ -2,7 +2,7 @@
 use Rattle.std.specs.Prelude.{ℕ, ◌≡◌, List, codes, Option, None, Result, MatchResult}
 use Rattle.bag_tree.specs.Out.{OutState}
 use Rattle.bag_tree.specs.Tree.{TreeState}
-use Rattle.bag_cli.specs.Visits.{Event}
+use Rattle.bag_program.specs.Visits.{Event}
 use Rattle.bag_arguments.specs.declared.plan.Plan.{Plan}
 use Rattle.bag_cli.specs.Sample.{sample_state}
 use Rattle.bag_cli.specs.Checked.{IsCheckOf, IsLastCheck, IsWholeCheck}

@@ -9,8 +9,8 @@ use Rattle.bag_join.specs.Reports.{ReportsState, all_given}
 use Rattle.bag_join.specs.declared.refusal.Refusal.{Refusal}
 use Rattle.bag_walk.specs.ExitStatus.{status}
 use Rattle.bag_walk.specs.declared.outcome.Outcome.{Outcome}
-use Rattle.bag_cli.specs.InTurn.{Deed}
-use Rattle.bag_cli.specs.Visits.{Event, Asked, Closed}
+use Rattle.bag_program.specs.InTurn.{Deed}
+use Rattle.bag_program.specs.Visits.{Event, Asked, Closed}
 
 -- what the reports at each list of paths are
 abbrev pub Reported : Type 0

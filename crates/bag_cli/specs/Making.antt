@@ -7,7 +7,7 @@ use Rattle.bag_tree.specs.declared.out.Refused.{Refused}
 use Rattle.bag_tags.specs.Element.{NewElement}
 use Rattle.bag_make.specs.WholeMaking.{IsMake}
 use Rattle.bag_make.specs.declared.fault.MakeFault.{MakeFault}
-use Rattle.bag_cli.specs.FolderDeeds.{Reports}
+use Rattle.bag_program.specs.FolderDeeds.{Reports}
 use Rattle.bag_cli.specs.MakingLine.{line, making_status}
 
 -- the line was written, or the output refused it

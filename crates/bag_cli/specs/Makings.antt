@@ -2,8 +2,8 @@
 use Rattle.std.specs.Prelude.{ℕ, List, map}
 use Rattle.bag_tree.specs.Tree.{TreeState}
 use Rattle.bag_tags.specs.Element.{NewElement}
-use Rattle.bag_cli.specs.FolderDeeds.{AreDoneWith, TreeDeed}
-use Rattle.bag_cli.specs.InTurn.{Deed}
+use Rattle.bag_program.specs.FolderDeeds.{AreDoneWith, TreeDeed}
+use Rattle.bag_program.specs.InTurn.{Deed}
 use Rattle.bag_cli.specs.Making.{IsMaking}
 use Rattle.bag_arguments.specs.declared.plan.InfoItem.{InfoItem}
 use Rattle.bag_arguments.specs.declared.plan.Plan.{Plan}

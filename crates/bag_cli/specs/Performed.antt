@@ -1,52 +1,33 @@
 -- What the program does by a plan, and which folders it looks into and which files it reads
 -- meanwhile.
-use Rattle.std.specs.Prelude.{ℕ, ◌≡◌, ◌≢◌, ◌⊎◌, Bool, true, List, [], ◌∷◌, if◌then◌else◌}
+use Rattle.std.specs.Prelude.{ℕ, ◌≡◌, ◌≢◌, ◌⊎◌, Bool, List, [], ◌∷◌, if◌then◌else◌}
 use Rattle.std.specs.Prelude.{Option, Some, None, Result, Ok, Err}
 use Rattle.std.specs.Io.KnownBytes.{Appends}
-use Rattle.bag_disk.specs.Disk.{DiskState}
 use Rattle.bag_tree.specs.Out.{IsCut, OutState}
-use Rattle.bag_cli.specs.Visits.{Event, Read}
+use Rattle.bag_program.specs.Visits.{Event, Read}
 use Rattle.bag_store.specs.FileTree.{tree_state}
 use Rattle.bag_profile.specs.Profile.{Profile}
 use Rattle.bag_cli.specs.ProfileFile.{IsAnswer, IsReadAs}
 use Rattle.bag_cli.specs.ProfileRefusal.{refusal_status}
 use Rattle.bag_cli.specs.UncheckedKeys.{unchecked_lines}
 use Rattle.bag_cli.specs.declared.profile_refusal.ProfileRefusal.{ProfileRefusal}
-use Rattle.bag_cli.specs.declared.read_fault.ReadFault.{ReadFault}
+use Rattle.bag_program.specs.declared.read_fault.ReadFault.{ReadFault}
 use Rattle.bag_arguments.specs.declared.plan.Action.{Action}
 use Rattle.bag_arguments.specs.declared.plan.Action.TheVariants.{Sample, Help, Check, Make}
 use Rattle.bag_arguments.specs.declared.plan.Action.TheVariants.{CheckTars, Join}
 use Rattle.bag_arguments.specs.declared.plan.Plan.{Plan}
 use Rattle.bag_cli.specs.Checked.{AreChecksOf, IsSampleChecked}
 use Rattle.bag_cli.specs.CheckedAs.{in_form}
-use Rattle.bag_cli.specs.InTurn.{Deed}
+use Rattle.bag_program.specs.Deeds.{Below, IsCutOff, IsNothing, IsSaid}
+use Rattle.bag_program.specs.InTurn.{Deed}
 use Rattle.bag_cli.specs.Joined.{AreJoined, Reported}
 use Rattle.bag_cli.specs.Makings.{AreMakingsOf}
 use Rattle.bag_cli.specs.TarChecked.{Archived, AreTarChecksOf}
 use Rattle.bag_cli.specs.declared.profile_file.SummedProfile.{SummedProfile}
 
--- what stands on the disk below each base folder
-abbrev pub Below : Type 0
-Below = List ℕ → DiskState
-
 -- that the file at a path has these bytes, or none where there is no file that can be read
 abbrev pub ReadableFiles : Type 1
 ReadableFiles = List ℕ → Option (List ℕ) → Type 0
-
--- nothing was written and no folder looked into, and this is the status
-abbrev pub IsNothing : ℕ → Deed
-IsNothing status before after visits n = (n ≡ status) × (after ≡ before) × (visits ≡ [])
-
--- the output refused in the midst of this text
-abbrev pub IsCutOff : List ℕ → Deed
-IsCutOff text before after visits n =
-    (n ≡ 3) × (after.has_refused ≡ true) × (visits ≡ []) × IsCut before.taken after.taken text
-
--- a text was written, or the output refused it
-abbrev pub IsSaid : List ℕ → Deed
-IsSaid text before after visits n =
-    ((n ≡ 0) × (visits ≡ []) × Appends before.taken after.taken text)
-    ⊎ IsCutOff text before after visits n
 
 -- the folders of a plan were checked, on disks that hold this below each base folder
 abbrev pub AreChecked : Below → Plan → Option SummedProfile → Deed

@@ -1,11 +1,11 @@
 -- What the file of a profile is read as.
 use Rattle.std.specs.Prelude.{ℕ, ◌≡◌, ◌≤◌, ◌⊎◌, List, [], ◌∷◌, ◌++◌, length, ⊤}
 use Rattle.std.specs.Prelude.{Option, Some, Result, Ok, Err}
-use Rattle.bag_cli.specs.SystemFile.{MayBeUnread}
-use Rattle.bag_cli.specs.Visits.{Event, Read}
+use Rattle.bag_program.specs.SystemFile.{MayBeUnread}
+use Rattle.bag_program.specs.Visits.{Event, Read}
 use Rattle.bag_cli.specs.ProfileRefusal.{unread_as}
-use Rattle.bag_cli.specs.declared.read_fault.ReadFault.{ReadFault}
-use Rattle.bag_cli.specs.declared.read_fault.ReadFault.TheVariants as none
+use Rattle.bag_program.specs.declared.read_fault.ReadFault.{ReadFault}
+use Rattle.bag_program.specs.declared.read_fault.ReadFault.TheVariants as none
 use Rattle.bag_text.specs.declared.alg.Alg.TheVariants.{Sha256}
 use Rattle.bag_tree.specs.Digest.{digest}
 use Rattle.bag_profile.specs.Read.{profile_in}

@@ -1,7 +1,7 @@
 -- What the program says where there is no profile, and its exit status.
 use Rattle.std.specs.Prelude.{ℕ}
-use Rattle.bag_cli.specs.declared.read_fault.ReadFault.{ReadFault}
-use Rattle.bag_cli.specs.declared.read_fault.ReadFault.TheVariants as read
+use Rattle.bag_program.specs.declared.read_fault.ReadFault.{ReadFault}
+use Rattle.bag_program.specs.declared.read_fault.ReadFault.TheVariants as read
 use Rattle.bag_profile.specs.declared.fault.ProfileFault.TheVariants.{NotJson, NoIdentifier}
 use Rattle.bag_profile.specs.declared.fault.ProfileFault.TheVariants.{WrongShape, Memory}
 use Rattle.bag_cli.specs.declared.profile_refusal.ProfileRefusal.{ProfileRefusal}

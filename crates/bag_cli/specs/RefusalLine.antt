@@ -1,6 +1,6 @@
 -- What the program says where there is no profile.
 use Rattle.std.specs.Prelude.{ℕ, ◌++◌, List, codes}
-use Rattle.bag_facts.specs.FaultLine.{field}
+use Rattle.bag_faults.specs.FaultLine.{field}
 use Rattle.bag_profile.specs.Key.{key_name}
 use Rattle.bag_profile.specs.declared.fault.ProfileFault.TheVariants.{NotJson, NoIdentifier}
 use Rattle.bag_profile.specs.declared.fault.ProfileFault.TheVariants.{WrongShape, Memory}

@@ -6,10 +6,10 @@ use Rattle.bag_tree.specs.Out.{OutState}
 use Rattle.bag_tree.specs.Bag.{Bag}
 use Rattle.bag_tree.specs.Tree.{TreeState}
 use Rattle.bag_disk.specs.Disk.{DiskState}
-use Rattle.bag_cli.specs.Visits.{Event}
+use Rattle.bag_program.specs.Visits.{Event}
 use Rattle.bag_store.specs.DiskBag.{bag_of}
 use Rattle.bag_store.specs.FileTree.{tree_state}
-use Rattle.bag_facts.specs.declared.fault.Fault.{Fault}
+use Rattle.bag_faults.specs.declared.fault.Fault.{Fault}
 use Rattle.bag_walk.specs.ExitStatus.{status}
 use Rattle.bag_walk.specs.Ending.{ideal, limit_of, lines_of_run}
 use Rattle.bag_walk.specs.declared.outcome.Request.{Request}
@@ -19,7 +19,8 @@ use Rattle.bag_walk.specs.Run.{check_of}
 use Rattle.bag_cli.specs.Honest.{IsReportedMade}
 use Rattle.bag_arguments.specs.declared.plan.Action.TheVariants.{Check}
 use Rattle.bag_arguments.specs.declared.plan.Plan.{Plan}
-use Rattle.bag_cli.specs.Checked.{AreChecksOf, profile_of, request_of, visit_of}
+use Rattle.bag_cli.specs.Checked.{AreChecksOf, profile_of, request_of}
+use Rattle.bag_program.specs.Visits.{visit_of}
 use Rattle.bag_cli.specs.Makings.{AreMakingsOf, element_of}
 use Rattle.bag_cli.specs.declared.profile_file.SummedProfile.{SummedProfile}
 

@@ -1,23 +1,23 @@
 -- What checks of the bags in tar files write, and the exit status after them.
 use Rattle.std.specs.Prelude.{ℕ, ◌≡◌, ◌⊎◌, IsTrue, List, [], ◌∷◌, Option, None, unwrap_or}
 use Rattle.std.specs.Prelude.{Result, Ok, Err, MatchResult}
-use Rattle.bag_tar.specs.Archive.{ArchiveState, SameArchive}
+use Rattle.bag_archive.specs.Archive.{ArchiveState, SameArchive}
 use Rattle.bag_tar.specs.MemberName.{IsNameAt}
 use Rattle.bag_tar.specs.Tar.{IsTarOf}
 use Rattle.bag_tar.specs.TarTree.{IsNew}
 use Rattle.bag_tar.specs.Walk.{MayStop, StopsAt}
-use Rattle.bag_tar.specs.declared.tar_fault.TarFault.{TarFault}
-use Rattle.bag_tar.specs.declared.tar_fault.TarFault.TheVariants.{Device, Memory}
-use Rattle.bag_tar.specs.declared.tar_fault.TarStop.{TarStop}
+use Rattle.bag_archive.specs.declared.tar_fault.TarFault.{TarFault}
+use Rattle.bag_archive.specs.declared.tar_fault.TarFault.TheVariants.{Device, Memory}
+use Rattle.bag_archive.specs.declared.tar_fault.TarStop.{TarStop}
 use Rattle.bag_tree.specs.Out.{OutState}
 use Rattle.bag_tree.specs.Tree.{TreeState}
 use Rattle.bag_tree.specs.declared.out.Refused.{Refused}
 use Rattle.bag_arguments.specs.declared.plan.Plan.{Plan}
 use Rattle.bag_cli.specs.Checked.{IsLastCheck, IsWholeCheck}
-use Rattle.bag_cli.specs.FolderDeeds.{IsNotGiven, Reports}
-use Rattle.bag_cli.specs.InTurn.{AreInTurn, Deed}
+use Rattle.bag_program.specs.FolderDeeds.{IsNotGiven, Reports}
+use Rattle.bag_program.specs.InTurn.{AreInTurn, Deed}
 use Rattle.bag_cli.specs.TarLine.{no_tree_line}
-use Rattle.bag_cli.specs.Visits.{Event, Opened, Shut}
+use Rattle.bag_program.specs.Visits.{Event, Opened, Shut}
 use Rattle.bag_cli.specs.declared.profile_file.SummedProfile.{SummedProfile}
 
 -- what the tar file at each path is

@@ -1,10 +1,10 @@
 -- The line that says why a tar file makes no tree.
 use Rattle.std.specs.Prelude.{ℕ, ◌++◌, List, codes}
-use Rattle.bag_facts.specs.FaultLine.{field}
-use Rattle.bag_tar.specs.declared.tar_fault.TarFault.{TarFault}
-use Rattle.bag_tar.specs.declared.tar_fault.TarFault.TheVariants.{Device, Memory, CutOff, Damaged}
-use Rattle.bag_tar.specs.declared.tar_fault.TarFault.TheVariants.{Special, Name, Twice, NoBase}
-use Rattle.bag_tar.specs.declared.tar_fault.TarFault.TheVariants.{TooMany}
+use Rattle.bag_faults.specs.FaultLine.{field}
+use Rattle.bag_archive.specs.declared.tar_fault.TarFault.{TarFault}
+use Rattle.bag_archive.specs.declared.tar_fault.TarFault.TheVariants.{Device, Memory, CutOff, Damaged}
+use Rattle.bag_archive.specs.declared.tar_fault.TarFault.TheVariants.{Special, Name, Twice, NoBase}
+use Rattle.bag_archive.specs.declared.tar_fault.TarFault.TheVariants.{TooMany}
 
 -- the word of a cause
 abbrev pub tar_word : TarFault → List ℕ

@@ -4,8 +4,8 @@ use Rattle.std.specs.declared.result.Result.TheVariants.{Err}
 use Rattle.std.specs.Io.KnownBytes.{Appends}
 use Rattle.bag_tar.specs.Tar.{IsTarOf}
 use Rattle.bag_tar.specs.Walk.{contents_of}
-use Rattle.bag_tar.specs.declared.tar_fault.TarFault.{TarFault}
-use Rattle.bag_tar.specs.declared.tar_fault.TarFault.TheVariants.{Device, Memory}
+use Rattle.bag_archive.specs.declared.tar_fault.TarFault.{TarFault}
+use Rattle.bag_archive.specs.declared.tar_fault.TarFault.TheVariants.{Device, Memory}
 use Rattle.bag_tree.specs.Bag.{Bag}
 use Rattle.bag_tree.specs.Out.{OutState}
 use Rattle.bag_arguments.specs.declared.plan.Plan.{Plan}
@@ -13,7 +13,7 @@ use Rattle.bag_cli.specs.Checked.{profile_of}
 use Rattle.bag_cli.specs.Reported.{GivesReport}
 use Rattle.bag_cli.specs.TarChecked.{Archived, AreTarChecksOf, IsLastTarCheck}
 use Rattle.bag_cli.specs.TarLine.{no_tree_line}
-use Rattle.bag_cli.specs.Visits.{Event}
+use Rattle.bag_program.specs.Visits.{Event}
 use Rattle.bag_cli.specs.declared.profile_file.SummedProfile.{SummedProfile}
 
 -- the law: over an honest tar file that holds a bag, the check of that one, and not of a part of

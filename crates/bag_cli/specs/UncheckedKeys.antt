@@ -1,7 +1,7 @@
 -- The lines of the keys of a profile that aren't checked.
 use Rattle.std.specs.Prelude.{ℕ, ◌++◌, List, codes}
 use Rattle.std.specs.List.{flat_map}
-use Rattle.bag_facts.specs.FaultLine.{field}
+use Rattle.bag_faults.specs.FaultLine.{field}
 
 -- the line of a key, with its end
 abbrev pub unchecked_line : List ℕ → List ℕ

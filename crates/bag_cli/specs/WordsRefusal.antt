@@ -6,7 +6,7 @@ use Rattle.bag_arguments.specs.declared.usage.Usage.TheVariants.{Refused, NeedsV
 use Rattle.bag_arguments.specs.declared.usage.Usage.TheVariants.{JoinWithOther}
 use Rattle.bag_arguments.specs.declared.usage.Usage.TheVariants.{AfterSeveral, AfterNotALine}
 use Rattle.bag_arguments.specs.declared.usage.Usage.TheVariants.{PartOfDepth, NotAPart, Memory}
-use Rattle.bag_cli.specs.Saying.{with_line_end}
+use Rattle.bag_program.specs.Saying.{with_line_end}
 
 -- the line with its end, of clap some lines
 abbrev pub usage_line : Usage → List ℕ

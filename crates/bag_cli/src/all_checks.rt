@@ -2,14 +2,15 @@
 ghost use Rattle.std.specs.Option.{option_copied};
 ghost use Rattle.bag_cli.specs.Checked.{IsSampleChecked};
 ghost use Rattle.bag_cli.specs.CheckedAs.{AreCheckedAs, IsLastAs, IsWholeAs};
-ghost use Rattle.bag_cli.specs.Folders.{disks_of};
-ghost use Rattle.bag_cli.specs.Halt.{status_of};
-ghost use Rattle.bag_cli.specs.InTurn.{Does};
+ghost use Rattle.bag_program.specs.Folders.{disks_of};
+ghost use Rattle.bag_program.specs.Halt.{status_of};
+ghost use Rattle.bag_program.specs.InTurn.{Does};
 
+use crate::SummedProfile;
 use crate::check::{check_sample, whole_status};
 use crate::work::Work;
-use crate::{Disks, Halt, SummedProfile, Turn, Visits, in_turn};
 use bag_arguments::{Action, Plan};
+use bag_program::{Disks, Halt, Turn, Visits, in_turn};
 use bag_tree::Out;
 use std::alloc::Global;
 

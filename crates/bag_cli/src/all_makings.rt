@@ -1,17 +1,18 @@
 //! Bags that are made of folders, one after the other.
 ghost use Rattle.std.specs.Prelude.{◌≡◌, ◌≢◌, [], IfOk, OnErr, map};
-ghost use Rattle.bag_cli.specs.Folders.{disks_of};
-ghost use Rattle.bag_cli.specs.Halt.{status_of};
-ghost use Rattle.bag_cli.specs.InTurn.{Does};
+ghost use Rattle.bag_program.specs.Folders.{disks_of};
+ghost use Rattle.bag_program.specs.Halt.{status_of};
+ghost use Rattle.bag_program.specs.InTurn.{Does};
 ghost use Rattle.bag_cli.specs.Makings.{element_of, IsMakingBy};
 ghost use Rattle.bag_cli.specs.Performed.{AreMade};
 
+use crate::make_and_report;
 use crate::work::Work;
-use crate::{Disks, FolderDeed, Halt, InFolders, Visits, in_turn, make_and_report};
-use bag_arguments::{InfoItem, Plan};
+use bag_arguments::{InfoItem, Plan, said};
 use bag_disk::ReplaceDisk;
+use bag_program::{Disks, FolderDeed, Halt, InFolders, Visits, in_turn};
 use bag_store::FileTree;
-use bag_text::{Text, said};
+use bag_text::Text;
 use bag_tree::{Out, Refused};
 use std::alloc::{AllocError, Global};
 

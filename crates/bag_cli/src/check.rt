@@ -2,21 +2,22 @@
 ghost use Rattle.std.specs.Prelude.{◌≡◌, IfOk, MatchResult};
 ghost use Rattle.std.specs.Option.{option_copied};
 ghost use Rattle.std.specs.Result.{result_ok};
-ghost use Rattle.bag_cli.specs.Folders.{tree_in, visits_of};
+ghost use Rattle.bag_program.specs.Folders.{tree_in, visits_of};
 ghost use Rattle.bag_cli.specs.Checked as checked;
 ghost use Rattle.bag_cli.specs.Checked.{request_of, IsCheckBy};
 ghost use Rattle.bag_cli.specs.Checking.{ChecksFolder, ChecksTree, IsCheckOfSample};
-ghost use Rattle.bag_cli.specs.InTurn.{HasVisited};
+ghost use Rattle.bag_program.specs.InTurn.{HasVisited};
 ghost use Rattle.bag_cli.specs.Status as spec;
 
+use crate::SummedProfile;
 use crate::check_outcome::CheckOutcome;
 use crate::sample::sample_tree;
 use crate::work::Work;
-use crate::{Disks, Halt, SummedProfile, Visits, say_trouble};
-use bag_arguments::Plan;
-use bag_facts::{Fault, Part};
+use bag_arguments::{Plan, said};
+use bag_faults::{Fault, Part};
 use bag_profile::Profile;
-use bag_text::{Text, said};
+use bag_program::{Disks, Halt, Visits, say_trouble};
+use bag_text::Text;
 use bag_tree::{Out, Tree};
 use bag_walk::{Request, run, run_part};
 use std::alloc::{AllocError, Global};

@@ -1,20 +1,22 @@
 //! One check of the bag in a tar file.
 ghost use Rattle.std.specs.Option.{option_copied};
 ghost use Rattle.bag_cli.specs.Checking.{ChecksFolder};
-ghost use Rattle.bag_cli.specs.Folders.{tar_in, visits_of};
-ghost use Rattle.bag_cli.specs.InTurn.{HasVisited};
+ghost use Rattle.bag_program.specs.Folders.{tar_in, visits_of};
+ghost use Rattle.bag_program.specs.InTurn.{HasVisited};
 ghost use Rattle.bag_cli.specs.TarChecked.{ChecksTar, IsMemberAt, IsReadAgain, TellsUnopened};
-ghost use Rattle.bag_tar.specs.Archive.{SameArchive};
+ghost use Rattle.bag_archive.specs.Archive.{SameArchive};
+ghost use Rattle.bag_tar.specs.TarTree.{state_of};
 ghost use Rattle.std.specs.Prelude.{◌≡◌, [], unwrap_or};
 
+use crate::SummedProfile;
 use crate::check::{check_tree, whole_status};
-use crate::file_trouble::say_file_trouble;
 use crate::tar_line::tell_no_tree;
 use crate::work::Work;
-use crate::{Disks, Halt, SummedProfile, Visits};
+use bag_arguments::said;
+use bag_program::{Disks, Halt, Visits, say_file_trouble};
 use bag_tar::{Archive, TarFault, TarStop, TarTree, name_at};
-use bag_text::{Text, said};
-use bag_tree::{Out, Refused, Tree};
+use bag_text::Text;
+use bag_tree::{Out, Refused};
 use std::alloc::Global;
 
 impl<D: Disks> Work<'_, D> {
@@ -36,28 +38,31 @@ impl<D: Disks> Work<'_, D> {
     {
         let archive = self.folders.open(self.alloc, name, visits)?;
         match TarTree::open(self.alloc, archive) {
-            Ok(tree) => self.check_opened(tree, profile, name, visits, out),
+            Ok(tree) => self.check_opened(tree, profile, name, visits, out, err),
             Err((archive, stop)) => {
                 Ok(self.tell_unopened(archive, &stop, name, visits, out, err)?)
             }
         }
     }
 
-    /// Checks the bag of a tree that a tar file made.
-    fn check_opened<T: Tree + Drop, O: Out>(
+    /// Checks the bag of a tree that a tar file made, and says on `err` why the system refused.
+    fn check_opened<O: Out, E: Out>(
         &self,
-        tree: T,
+        tree: TarTree<D::Archive>,
         profile: Option<&SummedProfile>,
         name: &str,
         visits: &mut Visits<D>,
         out: &mut O,
+        err: &mut E,
     ) -> Result<u8, Halt>
         ensures { HasVisited (visits_of visits.old) (visits_of visits.new) (λ own.
-            ChecksFolder self.now.plan.now (option_copied profile.entry) (T.state tree) name.now
+            ChecksFolder self.now.plan.now (option_copied profile.entry)
+            (state_of D.Archive.state tree) name.now
             (O.state out.old) (O.state out.new) own result) }
     {
         self.folders.enter_tree(name, visits);
         let (tree, checked) = check_tree(self.alloc, tree, self.plan, profile, name, out);
+        self.say_tar_trouble(tree.archive(), name, err);
         self.folders.leave_tree(tree, visits);
         whole_status(checked)
     }
@@ -79,15 +84,15 @@ impl<D: Disks> Work<'_, D> {
         let mut archive = archive;
         let member = member_at(self.alloc, &mut archive, stop);
         let told = tell_no_tree(name, text_of(&member), stop.cause, out);
-        say_file_trouble(
-            self.alloc,
-            said::PROGRAM,
-            name,
-            self.folders.tar_trouble(&archive),
-            err,
-        );
+        self.say_tar_trouble(&archive, name, err);
         self.folders.shut(archive, visits);
         told
+    }
+
+    /// Says on `err` what is wrong with a tar file, as far as that is known.
+    fn say_tar_trouble<E: Out>(&self, archive: &D::Archive, name: &str, err: &mut E) {
+        let trouble = self.folders.tar_trouble(archive);
+        say_file_trouble(self.alloc, said::PROGRAM, name, trouble, err);
     }
 }
 

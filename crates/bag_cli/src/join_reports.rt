@@ -1,21 +1,20 @@
 //! Reports of parts, joined into the report of one check.
 ghost use Rattle.std.specs.Prelude.{◌≡◌};
-ghost use Rattle.bag_cli.specs.Folders.{disks_of};
-ghost use Rattle.bag_cli.specs.Halt.{status_of};
-ghost use Rattle.bag_cli.specs.InTurn.{Does};
+ghost use Rattle.bag_program.specs.Folders.{disks_of};
+ghost use Rattle.bag_program.specs.Halt.{status_of};
+ghost use Rattle.bag_program.specs.InTurn.{Does};
 ghost use Rattle.bag_cli.specs.Joined.{AreJoined, join_status};
 
-use crate::file_trouble::FileTrouble;
-use crate::saying::say_on;
-use crate::trouble::put_trouble;
 use crate::work::Work;
-use crate::{Disks, Halt, Visits};
+use bag_arguments::said::PROGRAM;
 use bag_join::{Cause, Refusal, join};
+use bag_program::{Disks, FileTrouble, Halt, Visits, put_trouble, say_on};
 use bag_text::{Text, said};
 use bag_tree::{Out, Refused, put_pieces};
 use bag_walk::{Outcome, status};
 use itoa::Buffer;
 use std::alloc::{AllocError, Global};
+use std::io::ErrorKind;
 
 /// The exit status where reports aren't joined.
 const NOT_JOINED: u8 = 3;
@@ -74,7 +73,7 @@ fn say_refusal<E: Out>(
         Ok(why) => {
             let _ = put_refusal(paths, refusal, why.as_str(), err);
         }
-        Err(AllocError) => say_on(err, &[said::PROGRAM, said::OUT_OF_MEMORY, "\n"]),
+        Err(AllocError) => say_on(err, &[PROGRAM, said::OUT_OF_MEMORY, "\n"]),
     }
 }
 
@@ -86,7 +85,8 @@ fn why_refused(
 ) -> Result<String, AllocError> {
     match (cause, trouble) {
         (Cause::Memory, _) => Err(AllocError),
-        (Cause::Unreadable, Some(trouble)) if trouble.is_memory() => Err(AllocError),
+        (Cause::Unreadable, Some(FileTrouble::Refused(error)))
+            if error.kind() == ErrorKind::OutOfMemory => Err(AllocError),
         (Cause::Unreadable, Some(trouble)) => format!(in alloc; "{trouble}"),
         _ => format!(in alloc; "{cause}"),
     }
@@ -101,16 +101,16 @@ fn put_refusal<E: Out>(
 ) -> Result<(), Refused> {
     let Refusal { number, cause } = refusal;
     match cause {
-        Cause::Output => put_pieces(err, &[said::PROGRAM, why, "\n"]),
+        Cause::Output => put_pieces(err, &[PROGRAM, why, "\n"]),
         Cause::Missing => {
             let part = number.saturating_add(1);
             let mut digits = Buffer::new();
-            let pieces = [said::PROGRAM, PART, digits.format(part), ": ", why, "\n"];
+            let pieces = [PROGRAM, PART, digits.format(part), ": ", why, "\n"];
             put_pieces(err, &pieces)
         }
         _ => {
             let path = path_at(paths, number);
-            put_trouble(said::PROGRAM, path, &[": ", why, "\n"], err)
+            put_trouble(PROGRAM, path, &[": ", why, "\n"], err)
         }
     }
 }

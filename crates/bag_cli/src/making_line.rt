@@ -3,9 +3,11 @@ ghost use Rattle.std.specs.Prelude.{◌++◌, codes};
 ghost use Rattle.bag_cli.specs.MakingLine as spec;
 ghost use Rattle.bag_tree.specs.Pieces.{Writes};
 
-use bag_facts::put_line;
-use bag_make::MakeFault;
-use bag_text::said;
+use crate::said::{MADE, NOT_MADE};
+use bag_faults::put_line;
+use bag_make::{MakeFault, said};
+use bag_tags::said::{BAD_VALUE, NO_ALGORITHM};
+use bag_text::said::OUT_OF_MEMORY;
 use bag_tree::{Out, Refused, Stop, TreeFault};
 use itoa::Buffer;
 
@@ -25,7 +27,7 @@ pub fn put_making<W: Out>(
             if quiet {
                 Ok(())
             } else {
-                put_line(name, &[said::MADE, "\n"], out)
+                put_line(name, &[MADE, "\n"], out)
             }
         }
         Err(fault) => put_not_made(name, fault, out),
@@ -37,11 +39,11 @@ fn put_not_made<W: Out>(name: &str, fault: &MakeFault, out: &mut W) -> Result<()
         (spec.not_made_line name.now (spec.reason fault.now)) result }
 {
     match fault {
-        MakeFault::NoAlgorithm => put_reason(name, said::NO_ALGORITHM, out),
+        MakeFault::NoAlgorithm => put_reason(name, NO_ALGORITHM, out),
         MakeFault::InTheWay => put_reason(name, said::IN_THE_WAY, out),
-        MakeFault::BadValue => put_reason(name, said::BAD_VALUE, out),
+        MakeFault::BadValue => put_reason(name, BAD_VALUE, out),
         MakeFault::ReadStopped(stop) => put_unread(name, stop, out),
-        MakeFault::Memory => put_reason(name, said::OUT_OF_MEMORY, out),
+        MakeFault::Memory => put_reason(name, OUT_OF_MEMORY, out),
         MakeFault::StepRefused(place, cause) => put_step(name, *place, *cause, out),
     }
 }
@@ -50,14 +52,14 @@ fn put_reason<W: Out>(name: &str, reason: &str, out: &mut W) -> Result<(), Refus
     ensures { Writes (W.state out.old) (W.state out.new) (spec.not_made_line name.now reason.now)
         result }
 {
-    put_line(name, &[said::NOT_MADE, reason, "\n"], out)
+    put_line(name, &[NOT_MADE, reason, "\n"], out)
 }
 
 fn put_unread<W: Out>(name: &str, stop: &Stop, out: &mut W) -> Result<(), Refused>
     ensures { Writes (W.state out.old) (W.state out.new)
         (spec.not_made_line name.now (spec.unread stop.now)) result }
 {
-    put_line(name, &[said::NOT_MADE, said::READ], out)?;
+    put_line(name, &[NOT_MADE, said::READ], out)?;
     put_cause(stop, out)
 }
 
@@ -76,7 +78,7 @@ fn put_step<W: Out>(name: &str, place: u64, cause: TreeFault, out: &mut W) -> Re
     put_line(
         name,
         &[
-            said::NOT_MADE,
+            NOT_MADE,
             said::STEP,
             digits.format(place),
             " ",

@@ -1,21 +1,19 @@
 //! Does what a plan says.
 ghost use Rattle.std.specs.Option.{option_copied};
-ghost use Rattle.std.specs.Prelude.{◌≡◌, ◌≤◌, [], Some};
+ghost use Rattle.std.specs.Prelude.{◌≡◌, ◌≤◌, Some};
 ghost use Rattle.bag_cli.specs.CheckedAs.{AreCheckedAs, AreCheckedInForm, in_form};
-ghost use Rattle.bag_cli.specs.Folders.{disks_of};
-ghost use Rattle.bag_cli.specs.Halt.{status_of};
-ghost use Rattle.bag_cli.specs.InTurn.{Does};
-ghost use Rattle.bag_cli.specs.Performed.{AreCheckedBy, IsChecked, IsPerformed, IsSaid};
+ghost use Rattle.bag_program.specs.Folders.{disks_of};
+ghost use Rattle.bag_program.specs.Halt.{status_of};
+ghost use Rattle.bag_program.specs.InTurn.{Does};
+ghost use Rattle.bag_cli.specs.Performed.{AreCheckedBy, IsChecked, IsPerformed};
 
 use crate::all_checks::check_samples;
 use crate::unchecked_keys::say_unchecked;
 use crate::work::Work;
-use crate::{
-    Disks, Folders, Halt, SummedProfile, Visits, read_profile, refuse_profile, told_status,
-};
-use bag_arguments::{Action, Plan};
-use bag_text::said;
-use bag_tree::{Out, put_pieces};
+use crate::{SummedProfile, read_profile, refuse_profile};
+use bag_arguments::{Action, Plan, said};
+use bag_program::{Disks, Folders, Halt, Visits, told_status, write_text};
+use bag_tree::Out;
 use std::alloc::Global;
 
 /// Does a plan: writes the reports, what was made or the help to `out`, and what is refused beside
@@ -138,12 +136,4 @@ impl<D: Disks> Work<'_, D> {
         say_unchecked(self.plan.quiet, &read.profile, out)?;
         self.check_each(Some(read), visits, out, err)
     }
-}
-
-/// Writes a text. Gives the status.
-pub fn write_text<O: Out>(text: &str, out: &mut O) -> Result<u8, Halt>
-    ensures { IsSaid text.now (O.state out.old) (O.state out.new) [] (status_of result) }
-{
-    put_pieces(out, &[text])?;
-    Ok(0)
 }

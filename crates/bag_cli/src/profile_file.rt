@@ -1,12 +1,12 @@
 //! Reads the profile of a file.
 ghost use Rattle.std.specs.Prelude.{◌≡◌, IfOk};
 ghost use Rattle.bag_tree.specs.Digest.{digest};
-ghost use Rattle.bag_cli.specs.Folders.{disks_of, visits_of};
+ghost use Rattle.bag_program.specs.Folders.{disks_of, visits_of};
 ghost use Rattle.bag_cli.specs.ProfileFile.{ReadsProfile};
 
 use crate::profile_refusal::ProfileRefusal;
-use crate::{Disks, Folders, Visits};
 use bag_profile::{Profile, ProfileFault};
+use bag_program::{Disks, Folders, Visits};
 use bag_text::{Alg, AlgSet, Text};
 use bag_tree::Digests;
 use std::alloc::{AllocError, Global};

@@ -4,14 +4,16 @@ ghost use Rattle.bag_profile.specs.declared.fault.ProfileFault.TheVariants.{Memo
 ghost use Rattle.bag_tree.specs.Pieces.{Writes};
 ghost use Rattle.bag_cli.specs.ProfileRefusal as spec;
 ghost use Rattle.bag_cli.specs.RefusalLine as refusals;
-ghost use Rattle.bag_cli.specs.Saying.{Says};
+ghost use Rattle.bag_program.specs.Saying.{Says};
 ghost use Rattle.bag_cli.specs.declared.profile_refusal.ProfileRefusal.TheVariants as why;
 
-use crate::ReadFault;
-use crate::saying::say_on;
-use bag_facts::put_line;
-use bag_profile::ProfileFault;
-use bag_text::said;
+use crate::said::PROFILE;
+use bag_arguments::said::PROGRAM;
+use bag_faults::put_line;
+use bag_profile::{ProfileFault, said};
+use bag_program::said::PROFILE_UNREAD;
+use bag_program::{ReadFault, say_on};
+use bag_text::said::OUT_OF_MEMORY;
 use bag_tree::{Out, Refused, put_pieces};
 use std::error::Error;
 use std::fmt;
@@ -53,7 +55,7 @@ fn say_refusal<E: Out>(refusal: ProfileRefusal, err: &mut E)
     ensures { Says (E.state err.old) (E.state err.new) (refusals.refusal_line refusal) }
 {
     match refusal {
-        ProfileRefusal::Unread => say_on(err, &[said::PROGRAM, said::PROFILE_UNREAD, "\n"]),
+        ProfileRefusal::Unread => say_on(err, &[PROGRAM, PROFILE_UNREAD, "\n"]),
         ProfileRefusal::Refused(fault) => say_fault(fault, err),
     }
 }
@@ -68,7 +70,7 @@ fn say_fault<E: Out>(fault: ProfileFault, err: &mut E)
         ProfileFault::WrongShape(key) => {
             let _ = put_wrong_shape(key.name(), err);
         }
-        ProfileFault::Memory => say_on(err, &[said::PROGRAM, said::OUT_OF_MEMORY, "\n"]),
+        ProfileFault::Memory => say_on(err, &[PROGRAM, OUT_OF_MEMORY, "\n"]),
     }
 }
 
@@ -76,7 +78,7 @@ fn say_fault<E: Out>(fault: ProfileFault, err: &mut E)
 fn say_reason<E: Out>(reason: &str, err: &mut E)
     ensures { Says (E.state err.old) (E.state err.new) (refusals.refused_profile reason.now) }
 {
-    say_on(err, &[said::PROGRAM, said::PROFILE, reason, "\n"]);
+    say_on(err, &[PROGRAM, PROFILE, reason, "\n"]);
 }
 
 /// Hands the line about the key of a profile whose value has a wrong shape to an output.
@@ -84,16 +86,16 @@ fn put_wrong_shape<E: Out>(key: &str, err: &mut E) -> Result<(), Refused>
     ensures { Writes (E.state err.old) (E.state err.new)
         (refusals.wrong_shape_line key.now) result }
 {
-    put_pieces(err, &[said::PROGRAM, said::PROFILE, said::WRONG_SHAPE])?;
+    put_pieces(err, &[PROGRAM, PROFILE, said::WRONG_SHAPE])?;
     put_line(key, &["\n"], err)
 }
 
 impl fmt::Display for ProfileRefusal {
     fn fmt<W: fmt::Write>(&self, f: &mut fmt::Formatter<W>) -> fmt::Result {
         match self {
-            ProfileRefusal::Unread => f.write_str(said::PROFILE_UNREAD),
-            ProfileRefusal::Refused(ProfileFault::Memory) => f.write_str(said::OUT_OF_MEMORY),
-            ProfileRefusal::Refused(fault) => write!(f, "{}{fault}", said::PROFILE),
+            ProfileRefusal::Unread => f.write_str(PROFILE_UNREAD),
+            ProfileRefusal::Refused(ProfileFault::Memory) => f.write_str(OUT_OF_MEMORY),
+            ProfileRefusal::Refused(fault) => write!(f, "{}{fault}", PROFILE),
         }
     }
 }

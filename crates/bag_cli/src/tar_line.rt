@@ -4,10 +4,10 @@ ghost use Rattle.bag_cli.specs.TarChecked.{TellsNoTree};
 ghost use Rattle.bag_cli.specs.TarLine as spec;
 ghost use Rattle.bag_tree.specs.Pieces.{Writes};
 
-use bag_facts::put_line;
+use bag_faults::put_line;
 use bag_tar::TarFault;
-use bag_text::said;
-use bag_tree::{Out, Refused};
+use bag_tree::{Out, Refused, said};
+use bag_walk::said::UNREAD;
 
 /// The causes that only tar files have.
 const CUT_OFF: &str = "cut-off";
@@ -62,6 +62,6 @@ fn put_no_tree<W: Out>(
     ensures { Writes (W.state out.old) (W.state out.new)
         (spec.no_tree_line name.now member.now cause) result }
 {
-    put_line(name, &[said::UNREAD], out)?;
+    put_line(name, &[UNREAD], out)?;
     put_line(member, &[" ", word(cause), NO_FAULTS], out)
 }

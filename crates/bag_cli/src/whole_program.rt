@@ -1,13 +1,13 @@
 //! The whole program.
 ghost use Rattle.bag_arguments.specs.Words.{texts_of_words};
-ghost use Rattle.bag_cli.specs.Folders.{disks_of};
-ghost use Rattle.bag_cli.specs.InTurn.{Does};
+ghost use Rattle.bag_program.specs.Folders.{disks_of};
+ghost use Rattle.bag_program.specs.InTurn.{Does};
 ghost use Rattle.bag_cli.specs.Program.{IsProgram, IsWholeProgram};
 
 use crate::performing::perform;
-use crate::words::{Words, asked_words, texts_of};
-use crate::{Disks, Folders, Visits, refuse_words};
+use crate::refuse_words;
 use bag_arguments::{Usage, plan_of};
+use bag_program::{Disks, Folders, Visits, Words, asked_words, texts_of};
 use bag_tree::Out;
 use std::alloc::{AllocError, Global};
 

@@ -1,6 +1,6 @@
 //! What a plan is done with.
-use crate::Folders;
 use bag_arguments::Plan;
+use bag_program::Folders;
 use std::alloc::Global;
 
 /// What a plan is done with: where memory comes from, the folders that can be reached, and the

@@ -10,5 +10,4 @@ pub mod Opening
 pub mod Refusal
 pub mod ReplaceDisk
 pub mod Subject
-pub mod SystemDisk
 pub mod WritableDisk

@@ -7,9 +7,11 @@ ghost use Rattle.bag_disk.specs.DiskNodes.{SameDisk, OnlyLooks, IsDisk, HasEntry
 ghost use Rattle.bag_disk.specs.DiskNodes.{HasEntered, TakesName, HasUnnamed, HasOpened};
 ghost use Rattle.bag_disk.specs.DiskNodes.{HasReadNext};
 ghost use Rattle.bag_disk.specs.Refusal.{CountsAs, at_known, of_name, refusal_at_path};
-ghost use Rattle.bag_disk.specs.declared.disk.DiskFault.TheVariants.{Name, NotFound};
+ghost use Rattle.bag_disk.specs.declared.disk.DiskFault.TheVariants.{Memory, Name, NotFound};
 
-use bag_text::{Text, said};
+use bag_text::Text;
+use bag_tree::said;
+use std::alloc::{AllocError, AllocFailed};
 use thiserror::Error;
 
 /// What stands at a path.
@@ -40,6 +42,22 @@ pub enum DiskFault {
     /// The system refused.
     #[error("{word}", word = said::DEVICE)]
     Device,
+}
+
+impl From<AllocError> for DiskFault {
+    ghost from_gives = { λ _ fault. fault ≡ Memory };
+
+    fn from(_: AllocError) -> Self {
+        DiskFault::Memory
+    }
+}
+
+impl<T: Drop> From<AllocFailed<T>> for DiskFault {
+    ghost from_gives = { λ _ fault. fault ≡ Memory };
+
+    fn from(_: AllocFailed<T>) -> Self {
+        DiskFault::Memory
+    }
 }
 
 /// The calls of a disk, below a base folder. A path leads from the base folder.

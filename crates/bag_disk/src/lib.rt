@@ -1,7 +1,6 @@
-//! Disks: what answers the system's calls below a base folder, and which files stand there.
+//! Disks: what answers calls below a base folder, and which files stand there.
 //!
 //! ```
-//! let mut disk = SystemDisk::new(rt, alloc, "deposit")?;
 //! let listing = list_below(&mut disk, alloc)?;
 //! for entry in listing.files.as_slice() {
 //!     open_at(&mut disk, entry.path.as_str())?;
@@ -10,15 +9,13 @@
 //!
 //! A `Disk` says what stands at its paths, a `WritableDisk` has the calls that make a bag besides,
 //! and a `ReplaceDisk` those that put a file in place of another and remove one.
-//! What an honest disk answers is what stands there. `SystemDisk` hands each call to the system, of
-//! which nothing is promised. Of RFC 8493 it keeps which files are in a bag, and by which paths (2,
-//! 2.1.2): regular files below the base folder, to which no link leads.
+//! What an honest disk answers is what stands there. Of RFC 8493 it keeps which files are in a bag,
+//! and by which paths (2, 2.1.2): regular files below the base folder, to which no link leads.
 //!
 //! Over an honest disk a listing is that of the bag, and the file at the path is opened; each
 //! refusal is one that is due, and no link is followed.
 #![tactic(auto)]
 
-mod base_folder;
 mod disk;
 mod failures;
 mod folder_walk;
@@ -27,23 +24,17 @@ mod limit;
 mod listing;
 mod location;
 mod opening;
-mod ownership;
 mod path;
 mod path_order;
 mod refusal;
 mod replace_disk;
-mod system_disk;
-mod system_fault;
-mod trouble;
 mod writable_disk;
 
 pub use disk::{Disk, DiskFault, Entry};
 pub use failures::Failures;
 pub use listing::list_below;
-pub use location::path_in;
+pub use location::{is_location, location_below, path_in};
 pub use opening::{check_is_folder, open_at};
 pub use refusal::{Refusal, Subject};
 pub use replace_disk::ReplaceDisk;
-pub use system_disk::SystemDisk;
-pub use trouble::Trouble;
 pub use writable_disk::WritableDisk;

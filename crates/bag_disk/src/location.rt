@@ -32,7 +32,7 @@ fn joined(alloc: Global, folder: &str, path: &str) -> Result<Text, AllocError>
 }
 
 /// Where a path below a base folder stands for the system; the empty path is the base folder.
-pub(crate) fn location_below(alloc: Global, base: &str, path: &str) -> Result<Text, AllocError>
+pub fn location_below(alloc: Global, base: &str, path: &str) -> Result<Text, AllocError>
     ensures { IfOk result (λ text. text ≡ location_below base.now path.now) }
 {
     if path.is_empty() {
@@ -43,7 +43,7 @@ pub(crate) fn location_below(alloc: Global, base: &str, path: &str) -> Result<Te
 
 /// Whether a text is where a path below a base folder stands for the system; below an empty base
 /// folder nothing does.
-pub(crate) fn is_location(text: &str, base: &str, path: &str) -> bool
+pub fn is_location(text: &str, base: &str, path: &str) -> bool
     ensures below_some { IsTrue result → base.now ≢ [] }
     ensures location { IsTrue result → text.now ≡ location_below base.now path.now }
 {

@@ -4,7 +4,7 @@ ghost use Rattle.bag_disk.specs.Refusal.{at_known, is_device, of_making, of_name
 ghost use Rattle.bag_disk.specs.declared.refusal.Refusal.TheVariants.{Memory};
 
 use crate::DiskFault;
-use bag_text::said;
+use bag_tree::said;
 use std::alloc::{AllocError, AllocFailed};
 use thiserror::Error;
 

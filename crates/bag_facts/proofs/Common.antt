@@ -1,34 +1,29 @@
 -- The names that this crate's proofs cite, passed on from one place. Declares nothing.
 pub use Rattle.std.proofs.Common.{All, Any, Bool, Bor, Contains, Err, IsTrue, List, None, Ok, Option, Result, Some, []}
-pub use Rattle.std.proofs.Common.{add-one, ap, append-nil, append_assoc, arith, bytes_eq, codes, cond, decimal, drop}
-pub use Rattle.std.proofs.Common.{false, flat_map, get_or, inl, inr, is_lt, is_some, length, length-append, lit<, map}
-pub use Rattle.std.proofs.Common.{nat_lt, not, of_calls, refl, replicate, rules, subst, suc, sym, take, true, unwrap_or}
-pub use Rattle.std.proofs.Common.{zero, ℕ, ◌&&◌, ◌++◌, ◌+◌, ◌<◌, ◌==◌, ◌^◌, ◌||◌, ◌↔◌, ◌∙◌, ◌∷◌, ◌≡◌, ◌≢◌, ◌≤◌, ◌⊎◌}
-pub use Rattle.std.proofs.lemmas.Bool.{agree_below, agree_below_at, and_from, and_parts, both_ways, cases_lt, cond_both}
-pub use Rattle.std.proofs.lemmas.Bool.Decides.{nat_tests}
-pub use Rattle.std.proofs.lemmas.Cmp.{on_total, then_total}
-pub use Rattle.std.proofs.lemmas.Fmt.{decimal_injective, decimal_is_IsNumeral, first_decimal, parse-decimal}
-pub use Rattle.std.proofs.lemmas.Grind.{common_steps}
-pub use Rattle.std.proofs.lemmas.List.{get_or_default, length-replicate, map-append, take-append-drop, take-take}
+pub use Rattle.std.proofs.Common.{ap, append-nil, append_assoc, arith, bytes_eq, codes, cond, drop}
+pub use Rattle.std.proofs.Common.{false, get_or, inl, inr, is_lt, is_some, length, map}
+pub use Rattle.std.proofs.Common.{of_calls, refl, replicate, rules, subst, suc, sym, take, true}
+pub use Rattle.std.proofs.Common.{zero, ℕ, ◌&&◌, ◌++◌, ◌+◌, ◌<◌, ◌↔◌, ◌∙◌, ◌∷◌, ◌≡◌, ◌≢◌, ◌≤◌, ◌⊎◌}
+pub use Rattle.std.proofs.lemmas.Bool.{and_from, and_parts, cases_lt}
+pub use Rattle.std.proofs.lemmas.Cmp.{on_total}
+pub use Rattle.std.proofs.lemmas.List.{get_or_default, length-replicate, map-append, take-append-drop}
 pub use Rattle.std.proofs.lemmas.List.{take_all}
-pub use Rattle.std.proofs.lemmas.List.Elements.{All-append, All-cons, All-contains, All-from_get_or, All-from_recursion}
-pub use Rattle.std.proofs.lemmas.List.Elements.{All-head, All-nil, All-replicate, All-tail, filter-append}
+pub use Rattle.std.proofs.lemmas.List.Elements.{All-cons}
+pub use Rattle.std.proofs.lemmas.List.Elements.{All-nil, All-replicate, filter-append}
 pub use Rattle.std.proofs.lemmas.List.Sorted.{Contains-permutation, IsPermutation-sym, searchable_from_sorted}
-pub use Rattle.std.proofs.lemmas.Result.{err_from_is_err_and}
 pub use Rattle.std.proofs.lemmas.Slice.Eq.{bytes_eq-Decides}
-pub use Rattle.std.proofs.lemmas.Str.{IsCharBoundary-from_take, IsUtf8-from_ascii, IsUtf8-string_bytes}
-pub use Rattle.std.specs.Cmp.{IsTotalOrder, nat_cmp_total, tied_itself}
+pub use Rattle.std.specs.Cmp.{nat_cmp_total, tied_itself}
 pub use Rattle.std.specs.Cmp.Lexicographic.{nat_list_cmp_total}
-pub use Rattle.std.specs.FinMap.{IsAntisymmetric, find, from_entries, get-from_entries, nat_cmp-IsAntisymmetric}
+pub use Rattle.std.specs.FinMap.{find, from_entries, get-from_entries, nat_cmp-IsAntisymmetric}
 pub use Rattle.std.specs.FinMap.{slice_cmp-IsAntisymmetric}
-pub use Rattle.std.specs.List.{AllByRecursion, HoldsAt, IsDistinct, filter, join_with_byte, list_all, list_any}
+pub use Rattle.std.specs.List.{AllByRecursion, HoldsAt, IsDistinct, filter, list_any}
 pub use Rattle.std.specs.List.Sorted.{IsBinarySearchResult, IsPermutation, IsSearchInRange, IsSortedByKey}
 unfoldable pub use Rattle.std.specs.List.Sorted.{IsStrictlySortedBy}
-pub use Rattle.std.specs.Option.{ok_or, option_copied, option_map}
-pub use Rattle.std.specs.Ordering.{eq_by_cmp, is_eq, nat_cmp, on, ordering_reverse, ordering_then}
-pub use Rattle.std.specs.Prelude.{IsUtf8, MatchOption, OnErr, OnOk, is_err, option_and_then, string_bytes}
-pub use Rattle.std.specs.Result.{IfErr, IsErrAnd, is_ok}
-pub use Rattle.std.specs.Str.{IsCharBoundary, all_scalars, encode_utf8_all, is_utf8}
+pub use Rattle.std.specs.Option.{option_copied, option_map}
+pub use Rattle.std.specs.Ordering.{eq_by_cmp, is_eq, nat_cmp, on, ordering_reverse}
+pub use Rattle.std.specs.Prelude.{IsUtf8, MatchOption, option_and_then}
+pub use Rattle.std.specs.Result.{is_ok}
+pub use Rattle.std.specs.Str.{is_utf8}
 pub use Rattle.std.specs.declared.cmp.Ordering.{Ordering}
 pub use Rattle.std.specs.declared.cmp.Ordering.TheVariants.{Equal, Greater, Less}
 pub use Rattle.bag_read.proofs.PickedOut.{any_from, both_true, from_any}
@@ -40,19 +35,16 @@ pub use Rattle.bag_read.specs.ManifestName.{tag_path}
 pub use Rattle.bag_read.specs.declared.line_fault.LineFault.{LineFault}
 pub use Rattle.bag_read.specs.declared.tag_name.TagName.{TagName}
 pub use Rattle.bag_read.specs.declared.tag_name.TagName.TheVariants.{Declaration, Fetch, Info, Manifest}
-pub use Rattle.bag_text.proofs.AlgSets.{each_is_listed, name_is_read_again, names_tell_apart}
+pub use Rattle.bag_text.proofs.AlgSets.{each_is_listed}
 pub use Rattle.bag_text.proofs.ListOf.{contains_back, contains_behind, contains_cases, contains_either, contains_first}
 pub use Rattle.bag_text.proofs.ListOf.{contains_front, contains_nothing, each_from_members, member_has, same_members}
-pub use Rattle.bag_text.specs.Alg.{alg_named, algs, name, rank, rank_or_zero}
-pub use Rattle.bag_text.specs.Code.{number, stage}
-pub use Rattle.bag_text.specs.CodeList.{all_codes}
-pub use Rattle.bag_text.specs.CodeWord.{word}
+pub use Rattle.bag_text.specs.Alg.{algs}
 pub use Rattle.bag_text.specs.Order.{IsListOf}
 pub use Rattle.bag_text.specs.Path.{first_component, is_base_name, is_path, is_payload_path, under}
 pub use Rattle.bag_text.specs.Rules.{rules_of}
 pub use Rattle.bag_text.specs.Text.{IsNoText, text_cmp}
 pub use Rattle.bag_text.specs.declared.alg.Alg.{Alg}
-pub use Rattle.bag_text.specs.declared.alg.Alg.TheVariants.{Md5, Sha224, Sha384}
+pub use Rattle.bag_text.specs.declared.alg.Alg.TheVariants.{Md5}
 pub use Rattle.bag_text.specs.declared.code.Code.{Code}
 pub use Rattle.bag_text.specs.declared.code.Code.TheVariants.{NotUtf8}
 pub use Rattle.bag_text.specs.declared.rules.Rules.{Rules}
@@ -60,7 +52,6 @@ pub use Rattle.bag_tree.proofs.Calm.{memory_refused, memory_then, memory_unliste
 pub use Rattle.bag_tree.proofs.Calm.{nothing_then}
 pub use Rattle.bag_tree.proofs.SameText.{one_text, same_test, text_itself}
 pub use Rattle.bag_tree.specs.Bag.{Bag, HasFile, IsBag, file}
-pub use Rattle.bag_tree.specs.Pieces.{IsTaken}
 pub use Rattle.bag_tree.specs.Listing.{IsListingOf, IsOrdered, entry_at, size_at}
 pub use Rattle.bag_tree.specs.Tree.{CameFromFile, FailsOver, Keeps, MayRefuseListing, TreeState}
 pub use Rattle.bag_tree.specs.Tree.{MayReportMemory, NothingFailed, IsRefusedAt}
@@ -73,16 +64,9 @@ pub use Rattle.bag_tree.specs.declared.tree_fault.Stop.{Stop}
 pub use Rattle.bag_tree.specs.declared.tree_fault.TreeFault.{TreeFault}
 pub use Rattle.bag_tree.specs.declared.tree_fault.TreeFault.TheVariants.{Changed, Device, Exists, Memory, Name}
 pub use Rattle.bag_tree.specs.declared.tree_fault.TreeFault.TheVariants.{NoneOpen, NotFound, Special, TooMany}
-pub use Rattle.percent_encoding.proofs.PercentLemmas.{All-percent_encode, IsByte, IsEscapeByte, round_trip}
-pub use Rattle.percent_encoding.specs.AsciiSet.{contains}
-unfoldable pub use Rattle.percent_encoding.specs.AsciiSet.{should_percent_encode}
-unfoldable pub use Rattle.percent_encoding.specs.Percent.{percent_decode, percent_encode, percent_encode_byte}
 pub use Rattle.bag_facts.specs.Facts.{rules_in}
 pub use Rattle.bag_facts.specs.FactsOfBag.{AreJudged, AreParsed, AreRulesOf, HasItsFolder}
 pub use Rattle.bag_facts.specs.FactsOfBag.{IsFactsOf}
-pub use Rattle.bag_facts.specs.FaultLine.{alg_field, encoded, field, is_encoded, line_field}
-pub use Rattle.bag_facts.specs.Laws.{LinesTellFaultsApart, EqualFaultsAreOne, OneOfThree}
-pub use Rattle.bag_facts.specs.FaultOrder.{fault_cmp}
 pub use Rattle.bag_tree.specs.Stop.{IsOutOfMemory, IsRefusalOf}
 pub use Rattle.bag_facts.specs.Stops.{MayRefuseFacts}
 pub use Rattle.bag_facts.specs.TagFacts.{AreByPath, AreEntriesOf, IsDeclarationOf, IsManifestNamed, IsManifestOf}
@@ -90,10 +74,10 @@ pub use Rattle.bag_facts.specs.TagFacts.{IsParsed, IsReadOf, IsTagFileNamed, Say
 pub use Rattle.bag_facts.specs.TagFacts.{path_of}
 pub use Rattle.bag_facts.specs.TagReader.{AreBytes, AreFilesOfBag, PathsAreTexts, IsWhole, ReadsWanted, StopsReading}
 pub use Rattle.bag_facts.specs.TagReader.{given_of, read_path, MayStopReading, OpensAll, OpensFirst}
-pub use Rattle.bag_facts.specs.Wanted.{AreWanted, ForListing, IsWanted, OpensUpTo, OpensWanted}
-pub use Rattle.bag_facts.specs.Wanted.{Wants, paths_of}
+pub use Rattle.bag_facts.specs.Wanted.{AreWanted, IsWanted, OpensUpTo, OpensWanted}
+pub use Rattle.bag_facts.specs.Wanted.{paths_of}
+pub use Rattle.bag_faults.specs.Options.{Wants}
 pub use Rattle.bag_facts.specs.declared.facts.Facts.{Facts}
-pub use Rattle.bag_facts.specs.declared.field.TheConstants.{ESCAPED, ESCAPED_HYPHEN}
-pub use Rattle.bag_facts.specs.declared.options.Options.{Options}
+pub use Rattle.bag_faults.specs.declared.options.Options.{Options}
 pub use Rattle.bag_facts.specs.declared.tag_facts.TagFacts.{TagFacts}
 pub use Rattle.bag_facts.specs.declared.tag_reader.TagBytes.{TagBytes}

@@ -7,8 +7,8 @@ use Rattle.bag_facts.proofs.Common.{Manifest, any_from, from_any, both_true, Fil
 use Rattle.bag_facts.proofs.Common.{paths_of, Options}
 use Rattle.std.proofs.lemmas.List.Kept.{IsStrictlySortedBy-filter}
 use Rattle.bag_read.specs.declared.kind.Kind.TheVariants.{Payload, Tag}
-use Rattle.bag_facts.specs.declared.options.Depth.{Depth}
-use Rattle.bag_facts.specs.declared.options.Depth.TheVariants as depth_of
+use Rattle.bag_faults.specs.declared.options.Depth.{Depth}
+use Rattle.bag_faults.specs.declared.options.Depth.TheVariants as depth_of
 use Rattle.bag_facts.proofs.Mapped.{kept, passed, mapped_contains}
 
 abbrev names : List TagName

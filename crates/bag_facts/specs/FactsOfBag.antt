@@ -15,7 +15,7 @@ use Rattle.bag_tree.specs.declared.listing.Listing.{Listing}
 use Rattle.bag_facts.specs.TagFacts.{path_of, SaysOfTagFile, IsParsed}
 use Rattle.bag_facts.specs.Wanted.{IsWanted}
 use Rattle.bag_facts.specs.declared.facts.Facts.{Facts}
-use Rattle.bag_facts.specs.declared.options.Depth.TheVariants as depth_of
+use Rattle.bag_faults.specs.declared.options.Depth.TheVariants as depth_of
 use Rattle.bag_facts.specs.declared.tag_facts.TagFacts.{TagFacts}
 use Rattle.bag_facts.specs.declared.tag_reader.TagBytes.{TagBytes}
 use Rattle.bag_facts.specs.Facts.{rules_in}

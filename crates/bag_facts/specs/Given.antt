@@ -9,7 +9,7 @@ use Rattle.bag_tree.specs.Bag.{Bag, file}
 use Rattle.bag_tree.specs.Tree.{TreeState}
 use Rattle.bag_tree.specs.declared.listing.FileEntry.{FileEntry}
 use Rattle.bag_facts.specs.Wanted.{IsWanted}
-use Rattle.bag_facts.specs.declared.options.Options.{Options}
+use Rattle.bag_faults.specs.declared.options.Options.{Options}
 
 -- these are the tag files of a bag that are wanted, in path order, each with its bytes
 abbrev pub AreTagFiles : Options → Bag → List (Path × Content) → Type 0

@@ -1,16 +1,6 @@
-pub mod EarlierReports
 pub mod Facts
 pub mod FactsOfBag
-pub mod FaultAt
-pub mod FaultLine
-pub mod FaultOrder
 pub mod Given
-pub mod Laws
-pub mod LineFields
-pub mod LineOf
-pub mod Options
-pub mod Part
-pub mod Stage
 pub mod Stops
 pub mod TagFacts
 pub mod TagReader

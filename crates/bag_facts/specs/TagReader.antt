@@ -12,8 +12,9 @@ use Rattle.bag_tree.specs.declared.tree_fault.Stop.{Stop}
 use Rattle.bag_tree.specs.declared.tree_fault.TreeFault.TheVariants.{Memory}
 use Rattle.bag_tree.specs.Stop.{IsOutOfMemory}
 use Rattle.bag_facts.specs.Stops.{MayRefuseFacts, IsOfListing, ReportsAnswer}
-use Rattle.bag_facts.specs.Wanted.{IsRefusedFile, Wants, IsWanted, AreWanted}
-use Rattle.bag_facts.specs.declared.options.Options.{Options}
+use Rattle.bag_facts.specs.Wanted.{IsRefusedFile, IsWanted, AreWanted}
+use Rattle.bag_faults.specs.Options.{Wants}
+use Rattle.bag_faults.specs.declared.options.Options.{Options}
 use Rattle.bag_facts.specs.declared.tag_reader.TagBytes.{TagBytes}
 
 -- where the file stands

@@ -1,25 +1,19 @@
 -- The tag files that are read (RFC 8493, 2.1 and 2.2).
-use Rattle.std.specs.Prelude.{◌≡◌, ◌≢◌, ◌++◌, ◌⊎◌, ◌∷◌, ℕ, List, All, Contains, map, take, IsTrue}
+use Rattle.std.specs.Prelude.{◌≡◌, ◌++◌, ◌∷◌, ℕ, List, All, Contains, map, take, IsTrue}
 use Rattle.std.specs.List.Sorted.{IsStrictlySortedBy}
 use Rattle.bag_text.specs.Bytes.{Path}
 use Rattle.bag_text.specs.Text.{text_cmp}
 use Rattle.bag_text.specs.Order.{IsListOf}
 use Rattle.bag_read.specs.ManifestName.{tag_path}
 use Rattle.bag_read.specs.declared.tag_name.TagName.{TagName}
-use Rattle.bag_read.specs.declared.tag_name.TagName.TheVariants.{Declaration}
 use Rattle.bag_tree.specs.Listing.{IsOrdered, IsListingOf}
 use Rattle.bag_tree.specs.Tree.{TreeState, IsRefusedAt}
 use Rattle.bag_tree.specs.declared.listing.FileEntry.{FileEntry}
 use Rattle.bag_tree.specs.declared.listing.Listing.{Listing}
-use Rattle.bag_facts.specs.declared.options.Depth.TheVariants as depth_of
-use Rattle.bag_facts.specs.declared.options.Options.{Options}
+use Rattle.bag_faults.specs.Options.{Wants}
+use Rattle.bag_faults.specs.declared.options.Options.{Options}
 use Rattle.bag_tree.specs.Bag.{HasFile}
 use Rattle.bag_tree.specs.declared.tree_fault.Stop.{Stop}
-
--- the options ask for a tag file: always for the declaration, and above the depth of the
--- declaration for each
-abbrev pub Wants : Options → TagName → Type 0
-Wants options name = (name ≡ Declaration) ⊎ (options.depth ≢ depth_of.Declaration)
 
 -- a tag file that is read whole under the options
 abbrev pub IsWanted : Options → Path → Type 0

@@ -7,10 +7,11 @@ ghost use Rattle.bag_tree.specs.Tree.{Keeps, NothingFailed, IsRefusedAt};
 ghost use Rattle.bag_tree.specs.FileReads.{IsEntryOf, OpensAtMost};
 ghost use Rattle.bag_facts.specs.TagReader.{AreBytes, AreFilesOfBag, PathsAreTexts, IsWhole};
 ghost use Rattle.bag_facts.specs.TagReader.{ReadsWanted, StopsReading, given_of, read_path, OpensFirst};
-ghost use Rattle.bag_facts.specs.Wanted.{Wants, IsWanted, AreWanted, OpensUpTo};
+ghost use Rattle.bag_facts.specs.Wanted.{IsWanted, AreWanted, OpensUpTo};
+ghost use Rattle.bag_faults.specs.Options.{Wants};
 ghost use Rattle.bag_facts.specs.declared.tag_reader.TagBytes.{TagBytes};
 
-use crate::Options;
+use bag_faults::Options;
 use bag_read::TagName;
 use bag_tree::{FileEntry, Stop, Tree, read_whole};
 use std::alloc::Global;

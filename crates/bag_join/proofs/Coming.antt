@@ -2,10 +2,10 @@
 use Rattle.std.proofs.Common.{◌≡◌, ℕ, ◌++◌, ◌∷◌, List, [], Option, Some, Bool, true, refl, sym, ap, subst, ◌∙◌}
 use Rattle.std.proofs.Common.{append_assoc, append-nil, codes}
 use Rattle.std.specs.List.{concat}
-use Rattle.bag_facts.proofs.Lines.{lines_tell_faults_apart}
-use Rattle.bag_facts.specs.FaultLine.{fault_line}
-use Rattle.bag_facts.specs.LineOf.{IsLineOf}
-use Rattle.bag_facts.specs.declared.fault.Fault.{Fault}
+use Rattle.bag_faults.proofs.Lines.{lines_tell_faults_apart}
+use Rattle.bag_faults.specs.FaultLine.{fault_line}
+use Rattle.bag_faults.specs.LineOf.{IsLineOf}
+use Rattle.bag_faults.specs.declared.fault.Fault.{Fault}
 use Rattle.bag_walk.specs.Ending.{written, written_line}
 use Rattle.bag_join.specs.Faults.{AreAfter, AreAhead, IsAfter, IsOther, last_of}
 use Rattle.bag_join.specs.Input.{HasNoEnd, HoldsAhead}

@@ -8,10 +8,10 @@ use Rattle.std.specs.declared.cmp.Ordering.TheVariants.{Less}
 use Rattle.bag_text.proofs.ListOf.{contains_cases, contains_nothing}
 use Rattle.bag_tree.proofs.Writing.{Appends-append, Appends-nil}
 use Rattle.bag_tree.specs.Out.{OutState}
-use Rattle.bag_facts.proofs.Ordered.{fault_cmp_total}
-use Rattle.bag_facts.specs.FaultOrder.{fault_cmp}
-use Rattle.bag_facts.specs.LineOf.{IsFault, IsLineOf}
-use Rattle.bag_facts.specs.declared.fault.Fault.{Fault}
+use Rattle.bag_faults.proofs.Ordered.{fault_cmp_total}
+use Rattle.bag_faults.specs.FaultOrder.{fault_cmp}
+use Rattle.bag_faults.specs.LineOf.{IsFault, IsLineOf}
+use Rattle.bag_faults.specs.declared.fault.Fault.{Fault}
 use Rattle.bag_walk.specs.Ending.{written, written_line}
 use Rattle.bag_join.specs.Faults.{AreAfter, IsAfter, last_of, WritesFaults}
 

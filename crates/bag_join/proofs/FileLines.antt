@@ -6,11 +6,11 @@ use Rattle.std.proofs.lemmas.Fmt.{decimal_is_IsNumeral_wide}
 use Rattle.std.proofs.lemmas.List.{length-map}
 use Rattle.std.proofs.lemmas.Str.Parse.{digit_at}
 use Rattle.bag_text.specs.Code.{number}
-use Rattle.bag_facts.proofs.Codes.{small_number}
-use Rattle.bag_facts.proofs.Spaces.{HasNoSpace, field_clean, number_clean, same_front}
-use Rattle.bag_facts.specs.FaultLine.{fault_line, field}
-use Rattle.bag_facts.specs.Part.{Part}
-use Rattle.bag_facts.specs.declared.fault.Fault.{Fault}
+use Rattle.bag_faults.proofs.Codes.{small_number}
+use Rattle.bag_faults.proofs.Spaces.{HasNoSpace, field_clean, number_clean, same_front}
+use Rattle.bag_faults.specs.FaultLine.{fault_line, field}
+use Rattle.bag_faults.specs.Part.{Part}
+use Rattle.bag_faults.specs.declared.fault.Fault.{Fault}
 use Rattle.bag_walk.specs.Ending.{written}
 use Rattle.bag_join.specs.Faults.{AreAfter}
 use Rattle.bag_join.specs.Head.{AreKeys, IsUnchecked, head_of, unchecked}

@@ -6,8 +6,8 @@ use Rattle.std.specs.Io.KnownBytes.{Appends}
 use Rattle.bag_tree.proofs.Writing.{Appends-append, Appends-nil}
 use Rattle.bag_tree.specs.Out.{OutState}
 use Rattle.std.specs.Prelude.{Bool, true, false, ◌&&◌, nat_lt, nat_le, if◌then◌else◌}
-use Rattle.bag_facts.specs.Part.{Part, part_at}
-use Rattle.bag_facts.specs.declared.fault.Fault.{Fault}
+use Rattle.bag_faults.specs.Part.{Part, part_at}
+use Rattle.bag_faults.specs.declared.fault.Fault.{Fault}
 use Rattle.bag_walk.specs.Ending.{ended, written}
 use Rattle.bag_join.specs.DoneLine.{line_for}
 use Rattle.bag_join.specs.Faults.{WritesFaults}

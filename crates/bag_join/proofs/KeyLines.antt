@@ -5,8 +5,8 @@ use Rattle.std.specs.Cmp.Derive.{both_true}
 use Rattle.std.specs.List.{list_all}
 use Rattle.std.proofs.lemmas.Bool.Decides.{nat_tests}
 use Rattle.std.proofs.lemmas.List.Elements.{All-append, All-cons, All-head, All-nil, All-tail}
-use Rattle.bag_facts.proofs.Spaces.{HasNoSpace, IsNoSpace, field_clean}
-use Rattle.bag_facts.specs.FaultLine.{field}
+use Rattle.bag_faults.proofs.Spaces.{HasNoSpace, IsNoSpace, field_clean}
+use Rattle.bag_faults.specs.FaultLine.{field}
 use Rattle.bag_join.specs.Head.{AreKeys, IsKey, IsUnchecked, head_of, is_visible, unchecked}
 use Rattle.bag_join.specs.Input.{HasNoEnd, HoldsAhead}
 use Rattle.bag_join.specs.Laws.{FieldsAreKeys}

@@ -1,9 +1,9 @@
 -- The laws.
 use Rattle.std.proofs.Common.{◌≡◌, ℕ, zero, suc, ◌++◌, List, refl, ap, ◌∙◌}
 use Rattle.bag_tree.specs.declared.listing.FileEntry.{FileEntry}
-use Rattle.bag_facts.specs.declared.fault.Fault.{Fault}
-use Rattle.bag_walk.proofs.Parts.{parts_join}
-use Rattle.bag_walk.specs.Parts.{first_parts, part_of}
+use Rattle.bag_faults.specs.declared.fault.Fault.{Fault}
+use Rattle.bag_sources.proofs.Parts.{parts_join}
+use Rattle.bag_sources.specs.Parts.{first_parts, part_of}
 use Rattle.bag_join.specs.Join.{all_faults}
 use Rattle.bag_join.specs.Laws.{faults_of_parts, ClosesAsOneCheck, PartsOfReportJoin}
 use Rattle.bag_join.proofs.Joined.{faults_joined}

@@ -6,9 +6,9 @@ use Rattle.std.specs.Io.KnownBytes.{Appends}
 use Rattle.std.proofs.lemmas.List.{take-append-le, take_all}
 use Rattle.bag_tree.proofs.Writing.{Appends-append, Appends-nil, append-IsCut, IsCut-append}
 use Rattle.bag_tree.specs.Out.{IsCut, OutState}
-use Rattle.bag_facts.specs.FaultLine.{field}
-use Rattle.bag_facts.specs.LineOf.{IsLineOf}
-use Rattle.bag_facts.specs.declared.fault.Fault.{Fault}
+use Rattle.bag_faults.specs.FaultLine.{field}
+use Rattle.bag_faults.specs.LineOf.{IsLineOf}
+use Rattle.bag_faults.specs.declared.fault.Fault.{Fault}
 use Rattle.bag_walk.specs.Ending.{written}
 use Rattle.bag_join.specs.Faults.{AreAfter, IsAfter, LeavesLines, WritesFaults}
 use Rattle.bag_join.specs.Input.{MayFail}

@@ -10,11 +10,11 @@ use Rattle.bag_text.specs.Alg.{name}
 use Rattle.bag_text.specs.Code.{number}
 use Rattle.bag_text.specs.CodeWord.{word}
 use Rattle.bag_text.specs.declared.alg.Alg.{Alg}
-use Rattle.bag_facts.proofs.Algs.{each_alg, other_texts}
-use Rattle.bag_facts.proofs.Spaces.{HasNoSpace, IsNoSpace, decimal_clean, field_clean, number_clean, same_front, word_clean}
-use Rattle.bag_facts.specs.FaultLine.{alg_field, fault_line, field}
-use Rattle.bag_facts.specs.Part.{Part}
-use Rattle.bag_facts.specs.declared.fault.Fault.{Fault}
+use Rattle.bag_faults.proofs.Algs.{each_alg, other_texts}
+use Rattle.bag_faults.proofs.Spaces.{HasNoSpace, IsNoSpace, decimal_clean, field_clean, number_clean, same_front, word_clean}
+use Rattle.bag_faults.specs.FaultLine.{alg_field, fault_line, field}
+use Rattle.bag_faults.specs.Part.{Part}
+use Rattle.bag_faults.specs.declared.fault.Fault.{Fault}
 use Rattle.bag_walk.specs.PartRuns.{clashes_words, profile_words}
 use Rattle.bag_join.specs.DoneLine.{IsProfileSum, IsSubject, is_sum_digit, line_for}
 use Rattle.bag_join.specs.declared.done_line.Subject.{Subject}

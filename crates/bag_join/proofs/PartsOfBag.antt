@@ -9,9 +9,9 @@ use Rattle.std.specs.List.Sorted.{IsStrictlySortedBy}
 use Rattle.std.proofs.lemmas.Bool.{cases_eq}
 use Rattle.bag_tree.specs.Bag.{Bag}
 use Rattle.bag_tree.specs.declared.listing.FileEntry.{FileEntry}
-use Rattle.bag_facts.specs.FaultOrder.{fault_cmp}
-use Rattle.bag_facts.specs.Part.{Part}
-use Rattle.bag_facts.specs.declared.fault.Fault.{Fault}
+use Rattle.bag_faults.specs.FaultOrder.{fault_cmp}
+use Rattle.bag_faults.specs.Part.{Part}
+use Rattle.bag_faults.specs.declared.fault.Fault.{Fault}
 use Rattle.bag_profile.specs.Profile.{Profile}
 use Rattle.bag_report.specs.Report.{IsReport}
 use Rattle.bag_walk.proofs.PartLines.{done_part_is_written, parts_write_report}
@@ -21,7 +21,7 @@ use Rattle.bag_walk.specs.Ending.{ended, written}
 use Rattle.bag_join.specs.DoneLine.{line_for}
 use Rattle.bag_join.specs.declared.done_line.Subject.{Subject}
 use Rattle.bag_walk.specs.PartRuns.{first_counts, first_lines}
-use Rattle.bag_walk.specs.Parts.{AreFilesIn, part_of}
+use Rattle.bag_sources.specs.Parts.{AreFilesIn, part_of}
 use Rattle.bag_walk.specs.Run.{check_of}
 use Rattle.bag_walk.specs.declared.outcome.Request.{Request}
 use Rattle.bag_join.specs.Findings.{faults_at, file_at}

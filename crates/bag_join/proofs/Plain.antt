@@ -18,11 +18,11 @@ use Rattle.bag_text.specs.CodeWord.{word}
 use Rattle.bag_text.specs.declared.alg.Alg.{Alg}
 use Rattle.bag_text.specs.declared.code.Code.{Code}
 use Rattle.bag_text.specs.declared.code.Code.TheVariants.{NotUtf8}
-use Rattle.bag_facts.proofs.Algs.{each_alg}
-use Rattle.bag_facts.proofs.Codes.{small_number}
-use Rattle.bag_facts.specs.FaultLine.{alg_field, encoded, fault_line, field, is_encoded, line_field}
-use Rattle.bag_facts.specs.LineOf.{IsFault}
-use Rattle.bag_facts.specs.declared.fault.Fault.{Fault}
+use Rattle.bag_faults.proofs.Algs.{each_alg}
+use Rattle.bag_faults.proofs.Codes.{small_number}
+use Rattle.bag_faults.specs.FaultLine.{alg_field, encoded, fault_line, field, is_encoded, line_field}
+use Rattle.bag_faults.specs.LineOf.{IsFault}
+use Rattle.bag_faults.specs.declared.fault.Fault.{Fault}
 use Rattle.bag_join.specs.Input.{HasNoEnd}
 use Rattle.bag_join.proofs.Words.{few_digits}
 

@@ -7,7 +7,7 @@ use Rattle.std.specs.List.{concat}
 use Rattle.bag_tree.proofs.Writing.{Appends-append}
 use Rattle.bag_tree.specs.Out.{OutState}
 use Rattle.std.proofs.lemmas.Option.{slice_get-get_or}
-use Rattle.bag_facts.specs.declared.fault.Fault.{Fault}
+use Rattle.bag_faults.specs.declared.fault.Fault.{Fault}
 use Rattle.bag_walk.specs.Ending.{ended, written}
 use Rattle.bag_join.specs.DoneLine.{line_for}
 use Rattle.bag_walk.specs.declared.outcome.Outcome.{Outcome}

@@ -6,7 +6,7 @@ use Rattle.std.specs.Char.{is_ascii_hexdigit, is_ascii_uppercase}
 use Rattle.std.specs.List.{list_all}
 use Rattle.std.specs.Option.{option_copied}
 use Rattle.bag_text.specs.Bytes.{Line}
-use Rattle.bag_facts.specs.Part.{IsPart, Part}
+use Rattle.bag_faults.specs.Part.{IsPart, Part}
 use Rattle.bag_join.specs.declared.done_line.DoneLine.{DoneLine}
 use Rattle.bag_join.specs.declared.done_line.Numbers.{Numbers}
 use Rattle.bag_join.specs.declared.done_line.Subject.{Subject}

@@ -4,9 +4,9 @@ use Rattle.std.specs.Io.KnownBytes.{Appends}
 use Rattle.std.specs.List.{concat}
 use Rattle.std.specs.declared.cmp.Ordering.TheVariants.{Less}
 use Rattle.bag_tree.specs.Out.{IsCut, OutState}
-use Rattle.bag_facts.specs.FaultOrder.{fault_cmp}
-use Rattle.bag_facts.specs.LineOf.{IsFault, IsLineOf}
-use Rattle.bag_facts.specs.declared.fault.Fault.{Fault}
+use Rattle.bag_faults.specs.FaultOrder.{fault_cmp}
+use Rattle.bag_faults.specs.LineOf.{IsFault, IsLineOf}
+use Rattle.bag_faults.specs.declared.fault.Fault.{Fault}
 use Rattle.bag_join.specs.Input.{HasNoEnd, HoldsAhead}
 use Rattle.bag_join.specs.Reports.{ReportsState}
 use Rattle.bag_join.specs.declared.refusal.Cause.{Cause}

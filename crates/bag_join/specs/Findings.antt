@@ -5,9 +5,9 @@ use Rattle.std.specs.Io.KnownBytes.{Appends}
 use Rattle.std.specs.List.{range_with_len}
 use Rattle.std.specs.List.Sorted.{IsPermutation, IsStrictlySortedBy}
 use Rattle.bag_tree.specs.Out.{OutState}
-use Rattle.bag_facts.specs.FaultOrder.{fault_cmp}
-use Rattle.bag_facts.specs.LineOf.{IsFault}
-use Rattle.bag_facts.specs.declared.fault.Fault.{Fault}
+use Rattle.bag_faults.specs.FaultOrder.{fault_cmp}
+use Rattle.bag_faults.specs.LineOf.{IsFault}
+use Rattle.bag_faults.specs.declared.fault.Fault.{Fault}
 use Rattle.bag_join.specs.DoneLine.{IsSubject}
 use Rattle.bag_join.specs.Faults.{AreAfter}
 use Rattle.bag_join.specs.Head.{AreKeys, head_of}

@@ -5,11 +5,11 @@ use Rattle.std.specs.Io.KnownBytes.{Appends}
 use Rattle.std.specs.List.{concat, flat_map}
 use Rattle.std.specs.List.Sorted.{IsStrictlySortedBy}
 use Rattle.bag_tree.specs.Out.{IsCut, OutState}
-use Rattle.bag_facts.specs.FaultOrder.{fault_cmp}
-use Rattle.bag_facts.specs.LineOf.{IsFault}
-use Rattle.bag_facts.specs.Part.{Part}
-use Rattle.bag_facts.specs.declared.fault.Fault.{Fault}
-use Rattle.bag_facts.specs.declared.options.Depth.TheVariants.{Full}
+use Rattle.bag_faults.specs.FaultOrder.{fault_cmp}
+use Rattle.bag_faults.specs.LineOf.{IsFault}
+use Rattle.bag_faults.specs.Part.{Part}
+use Rattle.bag_faults.specs.declared.fault.Fault.{Fault}
+use Rattle.bag_faults.specs.declared.options.Depth.TheVariants.{Full}
 use Rattle.bag_join.specs.DoneLine.{line_for}
 use Rattle.bag_join.specs.Faults.{AreAfter, WritesFaults}
 use Rattle.bag_join.specs.Head.{AreKeys, head_of}

@@ -9,12 +9,12 @@ use Rattle.bag_tree.specs.Listing.{IsOrdered}
 use Rattle.bag_tree.specs.Out.{OutState}
 use Rattle.bag_tree.specs.Tree.{TreeState}
 use Rattle.bag_tree.specs.declared.listing.FileEntry.{FileEntry}
-use Rattle.bag_facts.specs.FaultLine.{field}
-use Rattle.bag_facts.specs.FaultOrder.{fault_cmp}
-use Rattle.bag_facts.specs.LineOf.{IsFault}
-use Rattle.bag_facts.specs.Part.{Part}
-use Rattle.bag_facts.specs.declared.fault.Fault.{Fault}
-use Rattle.bag_facts.specs.declared.options.Depth.TheVariants.{Full}
+use Rattle.bag_faults.specs.FaultLine.{field}
+use Rattle.bag_faults.specs.FaultOrder.{fault_cmp}
+use Rattle.bag_faults.specs.LineOf.{IsFault}
+use Rattle.bag_faults.specs.Part.{Part}
+use Rattle.bag_faults.specs.declared.fault.Fault.{Fault}
+use Rattle.bag_faults.specs.declared.options.Depth.TheVariants.{Full}
 use Rattle.bag_profile.specs.Profile.{Profile}
 use Rattle.bag_report.specs.Report.{IsReport}
 use Rattle.bag_join.specs.DoneLine.{IsProfileSum}
@@ -25,11 +25,11 @@ use Rattle.bag_join.specs.Reports.{ReportsState}
 use Rattle.bag_walk.specs.Closing.{closing}
 use Rattle.bag_walk.specs.Ending.{ReachesEnd, ended}
 use Rattle.bag_walk.specs.PartRuns.{IsRunOfPart}
-use Rattle.bag_walk.specs.Parts.{AreFilesIn, listed_of, part_of}
+use Rattle.bag_sources.specs.Parts.{AreFilesIn, listed_of, part_of}
 use Rattle.bag_walk.specs.Run.{IsRunByReport, check_of}
 use Rattle.bag_walk.specs.declared.outcome.Outcome.{Outcome}
 use Rattle.bag_walk.specs.declared.outcome.Request.{Request}
-use Rattle.bag_walk.specs.declared.part.Listed.{Listed}
+use Rattle.bag_sources.specs.declared.part.Listed.{Listed}
 use Rattle.bag_walk.specs.declared.part_run.PartOutcome.TheVariants.{Done}
 
 -- the faults of the first parts of a report, of so many

@@ -2,8 +2,8 @@
 ghost use Rattle.std.specs.Prelude.{◌≡◌, ◌↔◌, IfOk, IsTrue, List, ℕ, MatchOption, Some, ⊤};
 ghost use Rattle.std.specs.Prelude.{Bool, IsUtf8, Option, ◌+◌};
 ghost use Rattle.std.specs.Option.{option_copied};
-ghost use Rattle.bag_facts.specs.Part.{IsPart, Part as PartValue};
-ghost use Rattle.bag_facts.specs.FaultLine.{field};
+ghost use Rattle.bag_faults.specs.Part.{IsPart, Part as PartValue};
+ghost use Rattle.bag_faults.specs.FaultLine.{field};
 ghost use Rattle.bag_join.specs.DoneLine.{AreNumbersOf, AreRead, IsDoneLineOf, IsProfileSum, IsSum};
 ghost use Rattle.bag_join.specs.DoneLine.{behind_bytes, behind_clashes, behind_comma, is_sum_digit};
 ghost use Rattle.bag_join.specs.DoneLine.{line_for};
@@ -11,7 +11,7 @@ ghost use Rattle.std.specs.List.{list_all};
 ghost use Rattle.bag_join.specs.declared.done_line.DoneLine.{DoneLine as DoneLineValue};
 
 use crate::numbers::{count_after, number_after};
-use bag_facts::Part;
+use bag_faults::Part;
 use bag_text::Text;
 use bag_tree::{Refused, WriterOut};
 use bag_walk::{Listed, put_done_line};

@@ -8,7 +8,7 @@ ghost use Rattle.bag_join.specs.Reports.{ReadsOn};
 use crate::input::Input;
 use crate::refusal::Cause;
 use crate::reports::Reports;
-use bag_text::said;
+use crate::said;
 
 /// Passes the lines that say which keys of a profile aren't checked, puts the line after them,
 /// without its end, in place of what the buffer held, and says whether it has an end. Of more lines

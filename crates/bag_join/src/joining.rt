@@ -1,7 +1,7 @@
 //! Reports of all parts, joined.
 ghost use Rattle.std.specs.Prelude.{◌≡◌, ◌↔◌, IfErr, IfOk, IsTrue, MatchResult, None, OnOk, Option, true, vec_len};
 ghost use Rattle.std.specs.Io.KnownBytes.{Appends};
-ghost use Rattle.bag_facts.specs.declared.fault.Fault.{Fault as FaultValue};
+ghost use Rattle.bag_faults.specs.declared.fault.Fault.{Fault as FaultValue};
 ghost use Rattle.bag_walk.specs.Ending.{ended};
 ghost use Rattle.bag_join.specs.Faults.{LeavesLines, WritesFaults};
 ghost use Rattle.bag_join.specs.Findings.{AreFindings, AreWhole, Findings, IsPlanFor, IsReportOf};
@@ -17,10 +17,9 @@ use crate::parts::write_parts;
 use crate::plan::{Plan, plan_of};
 use crate::refusal::{Cause, Refusal};
 use crate::reports::Reports;
-use bag_facts::put_line;
-use bag_text::said;
+use bag_faults::put_line;
 use bag_tree::{Out, Refused};
-use bag_walk::Outcome;
+use bag_walk::{Outcome, said};
 use itoa::Buffer;
 use std::alloc::Global;
 

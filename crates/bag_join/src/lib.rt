@@ -29,6 +29,7 @@ mod parts;
 mod plan;
 mod refusal;
 mod reports;
+pub mod said;
 
 pub use done_line::{DoneLine, Subject};
 pub use held::{HeldReports, Told};

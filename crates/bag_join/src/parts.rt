@@ -1,7 +1,7 @@
 //! Reports of parts, written one after the other.
 ghost use Rattle.std.specs.Prelude.{◌≡◌, ◌+◌, IfErr, IfOk, IsTrue, MatchResult, None};
 ghost use Rattle.std.specs.Prelude.{OnOk, Option, vec_len, ℕ};
-ghost use Rattle.bag_facts.specs.declared.fault.Fault.{Fault as FaultValue};
+ghost use Rattle.bag_faults.specs.declared.fault.Fault.{Fault as FaultValue};
 ghost use Rattle.bag_join.specs.Faults.{LeavesLines, WritesFaults};
 ghost use Rattle.bag_join.specs.Findings.{AreFindings, Findings, IsPlanFor, IsTurnOf, faults_at};
 ghost use Rattle.bag_join.specs.Input.{MayRefuse};
@@ -15,7 +15,7 @@ use crate::numbers::plus;
 use crate::plan::Plan;
 use crate::refusal::{Cause, Refusal};
 use crate::reports::Reports;
-use bag_facts::{Fault, Part};
+use bag_faults::{Fault, Part};
 use bag_tree::Out;
 use std::alloc::Global;
 

@@ -2,7 +2,8 @@
 ghost use Rattle.std.specs.Prelude.{◌≡◌};
 
 use crate::reports::Unreadable;
-use bag_text::said;
+use bag_text::said::OUT_OF_MEMORY;
+use bag_tree::said;
 use std::alloc::AllocError;
 use thiserror::Error;
 
@@ -56,7 +57,7 @@ pub enum Cause {
     #[error("changed while it was read")]
     Changed,
     /// Memory ran out.
-    #[error("{why}", why = said::OUT_OF_MEMORY)]
+    #[error("{why}", why = OUT_OF_MEMORY)]
     Memory,
     /// The output refused.
     #[error("{why}", why = said::OUTPUT_REFUSED)]

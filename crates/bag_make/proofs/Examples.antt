@@ -20,7 +20,8 @@ use Rattle.bag_text.specs.Text.{text_cmp, IsText}
 use Rattle.bag_text.specs.declared.alg.Alg.TheVariants.{Md5, Sha256}
 use Rattle.bag_tree.specs.Bag.{Bag, IsBag, files_of}
 use Rattle.bag_tags.specs.Element.{NewElement, info_text}
-use Rattle.bag_make.specs.Made.{File, new_payload, new_elements, new_tag_files, manifest}
+use Rattle.bag_make.specs.Made.{new_payload, new_elements, new_tag_files}
+use Rattle.bag_tags.specs.Summed.{File, manifest}
 use Rattle.bag_make.specs.Laws.{CanMake}
 
 -- a folder of two files, of which one stands under data already

@@ -3,7 +3,6 @@ pub mod Common
 pub mod Composed
 pub mod ContentsOfMade
 pub mod DeclarationReads
-pub mod Digests
 pub mod Entries
 mod Examples
 pub mod FetchIsNotThere

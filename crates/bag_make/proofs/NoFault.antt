@@ -2,7 +2,7 @@
 use Rattle.bag_make.proofs.Common.{◌≡◌, inl, inr, true, List, None, Alg, nothing_listed, Bag, Fault, NewElement}
 use Rattle.bag_make.proofs.Common.{DeclarationIsReadAgain, InfoIsReadAgain, ManifestIsReadAgain, made, CanMake}
 use Rattle.bag_make.proofs.Common.{MadeIsValid, full}
-use Rattle.bag_facts.specs.FaultOrder.{fault_cmp}
+use Rattle.bag_faults.specs.FaultOrder.{fault_cmp}
 use Rattle.bag_report.specs.Report.{asks, Is}
 use Rattle.bag_report.specs.Valid.{IsFaultOf}
 use Rattle.bag_make.proofs.DeclarationReads.{no_declaration_fault}

@@ -11,7 +11,7 @@ use Rattle.std.specs.List.{IsDistinct}
 use Rattle.std.specs.Str.{is_utf8, chars}
 use Rattle.std.proofs.lemmas.Map.Keys.{IsDistinct-from_sorted}
 use Rattle.std.proofs.lemmas.Simd.{map-map}
-use Rattle.bag_make.proofs.Digests.{good_digest}
+use Rattle.bag_tags.proofs.Digests.{good_digest}
 use Rattle.bag_make.proofs.Entries.{AreWritable, listed}
 use Rattle.bag_facts.proofs.Found.{held_at}
 use Rattle.bag_make.proofs.Held.{payload_member}

@@ -14,7 +14,8 @@ use Rattle.bag_tree.specs.Bag.{Bag, IsBag, HasFile, file, files_of, has_folder}
 use Rattle.bag_stages.specs.Payload.{payload}
 use Rattle.bag_tags.specs.Declaration.{declaration_text}
 use Rattle.bag_tags.specs.Element.{NewElement, info_text}
-use Rattle.bag_make.specs.Made.{File, data_folder, new_payload, new_elements, manifest}
+use Rattle.bag_tags.specs.Summed.{File, manifest}
+use Rattle.bag_make.specs.Made.{data_folder, new_payload, new_elements}
 use Rattle.bag_make.specs.Made.{named_tag_files, made}
 
 -- a file of the folder, under data/ (2.1.2)

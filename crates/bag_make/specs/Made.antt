@@ -3,24 +3,19 @@ use Rattle.std.specs.Prelude.{List, [], ◌∷◌, ◌++◌, not, map, bytes_eq,
 use Rattle.std.specs.FinMap as fin
 use Rattle.std.specs.FinSet as set
 use Rattle.std.specs.List.{list_any}
-use Rattle.bag_text.specs.Bytes.{Content, Name, Path}
+use Rattle.bag_text.specs.Bytes.{Name}
 use Rattle.bag_text.specs.Path.{under, first_component}
 use Rattle.bag_text.specs.declared.alg.Alg.{Alg}
 use Rattle.bag_read.specs.ManifestName.{tag_path}
 use Rattle.bag_read.specs.declared.kind.Kind.TheVariants.{Payload, Tag}
 use Rattle.bag_read.specs.declared.tag_name.TagName.TheVariants.{Declaration, Info, Manifest}
 use Rattle.bag_tree.specs.Bag.{Bag, files_of}
-use Rattle.bag_tree.specs.Digest.{digest}
 use Rattle.bag_stages.specs.MetadataStage.{oxum_label}
 use Rattle.bag_read.specs.Oxum.{oxum_text}
 use Rattle.bag_stages.specs.Payload.{oxum_of_files}
 use Rattle.bag_tags.specs.Declaration.{declaration_text}
 use Rattle.bag_tags.specs.Element.{NewElement, info_text}
-use Rattle.bag_tags.specs.Entry.{NewEntry, manifest_text}
-
--- a file: its path and its bytes
-abbrev pub File : Type 0
-File = Path × Content
+use Rattle.bag_tags.specs.Summed.{File, manifest}
 
 -- the folder of the payload
 abbrev pub data_folder : Name
@@ -29,14 +24,6 @@ data_folder = codes "data"
 -- each file goes under data/, with its bytes (2.1.2)
 abbrev pub new_payload : List File → List File
 new_payload files = map (λ e. (under data_folder e.0, e.1)) files
-
--- the digest of each file, with its path
-abbrev pub entries_of : Alg → List File → List NewEntry
-entries_of alg files = map (λ e. (digest alg e.1, e.0)) files
-
--- the manifest that names these files, in their order
-abbrev pub manifest : Alg → List File → Content
-manifest alg files = manifest_text (entries_of alg files)
 
 module _ (files : List File) (algs : List Alg) (info : List NewElement) where
   abbrev pub declaration_file : File

@@ -8,10 +8,10 @@ use Rattle.bag_text.specs.declared.alg.Alg.{Alg}
 use Rattle.bag_tree.specs.Bag.{Bag, files_of, has_folder}
 use Rattle.bag_tree.specs.Tree.{TreeState, Keeps}
 use Rattle.bag_tree.specs.declared.tree_fault.TreeFault.{TreeFault}
-use Rattle.bag_tags.specs.Element.{NewElement}
+use Rattle.bag_tags.specs.Element.{AreTexts, NewElement}
 use Rattle.bag_tree.specs.Steps.{create}
 use Rattle.bag_make.specs.Made.{made}
-use Rattle.bag_make.specs.Request.{is_refused, AreTexts, IsRequestFault}
+use Rattle.bag_make.specs.Request.{is_refused, IsRequestFault}
 use Rattle.bag_make.specs.Plan.{after, is_in_the_way, steps}
 use Rattle.bag_make.specs.Reading.{HasOnlyListed, LackedMemory}
 use Rattle.bag_make.specs.Steps.{HasStopped, new_folder}

@@ -8,7 +8,8 @@ use Rattle.bag_text.specs.declared.alg.Alg.{Alg}
 use Rattle.bag_tree.specs.Bag.{Bag, files_of, has_folder}
 use Rattle.bag_tags.specs.Element.{NewElement}
 use Rattle.bag_tree.specs.Steps.{has_within}
-use Rattle.bag_make.specs.Made.{File, data_folder, new_tag_files}
+use Rattle.bag_tags.specs.Summed.{File}
+use Rattle.bag_make.specs.Made.{data_folder, new_tag_files}
 use Rattle.bag_make.specs.Steps.{new_folder, after_steps}
 use Rattle.bag_make.specs.declared.step.Step.{Step}
 use Rattle.bag_make.specs.declared.step.Step.TheVariants.{MakeFolder, MoveIn, Rename, Create}

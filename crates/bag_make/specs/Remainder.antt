@@ -4,7 +4,7 @@ use Rattle.bag_text.specs.Bytes.{Content, Path}
 use Rattle.bag_text.specs.Path.{is_payload_path, under}
 use Rattle.bag_text.specs.declared.alg.Alg.{Alg}
 use Rattle.bag_tree.specs.Bag.{Bag, IsBag, HasFile, file}
-use Rattle.bag_facts.specs.declared.fault.Fault.{Fault}
+use Rattle.bag_faults.specs.declared.fault.Fault.{Fault}
 use Rattle.bag_stages.specs.DeclarationStage.{IsOfDeclaration}
 use Rattle.bag_stages.specs.TagFiles.{bagit_txt}
 use Rattle.bag_tags.specs.Element.{NewElement}

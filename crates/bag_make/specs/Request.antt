@@ -1,16 +1,12 @@
 -- What no bag can be made with.
 use Rattle.std.specs.Prelude.{◌≡◌, ◌≢◌, true, List, [], Bool, ◌||◌}
 use Rattle.std.specs.List.{list_any}
-use Rattle.bag_text.specs.Text.{IsText, same_label}
+use Rattle.bag_text.specs.Text.{same_label}
 use Rattle.bag_text.specs.declared.alg.Alg.{Alg}
 use Rattle.bag_tags.specs.Element.{NewElement, is_bad_element}
 use Rattle.bag_make.specs.declared.fault.MakeFault.{MakeFault}
 use Rattle.bag_make.specs.declared.fault.MakeFault.TheVariants.{NoAlgorithm, BadValue}
 use Rattle.bag_stages.specs.MetadataStage.{oxum_label}
-
--- a label and its value are texts
-abbrev pub AreTexts : NewElement → Type 0
-AreTexts element = IsText element.0 × IsText element.1
 
 -- an element that can't be given: one that can't be written, or Payload-Oxum, whatever its case
 abbrev pub is_refused : NewElement → Bool

@@ -13,11 +13,11 @@ use Rattle.bag_facts.specs.Stops.{MayRefuseFacts}
 use Rattle.bag_facts.specs.Wanted.{paths_of}
 use Rattle.bag_text.specs.declared.alg.Alg.{Alg}
 use Rattle.bag_tree.specs.DigestsOf.{AreSumsOf}
-use Rattle.bag_make.specs.Made.{File, data_folder, new_payload}
+use Rattle.bag_make.specs.Made.{data_folder, new_payload}
 use Rattle.bag_tags.specs.declared.summed.SummedFile.{SummedFile}
 use Rattle.bag_make.specs.Stops.{IsAtFile}
 use Rattle.bag_tree.specs.Listing.{entry_of_file}
-use Rattle.bag_tags.specs.Summed.{AreSummed}
+use Rattle.bag_tags.specs.Summed.{AreSummed, File}
 
 -- The files that are listed so, under data/, each with its digests. Of an honest tree they are
 -- files of the bag.

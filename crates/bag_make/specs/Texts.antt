@@ -7,7 +7,7 @@ use Rattle.bag_tree.specs.declared.listing.FileEntry.{FileEntry}
 use Rattle.bag_stages.specs.MetadataStage.{oxum_label}
 use Rattle.bag_read.specs.Oxum.{oxum_text}
 use Rattle.bag_tags.specs.Element.{NewElement, info_text}
-use Rattle.bag_make.specs.Made.{File}
+use Rattle.bag_tags.specs.Summed.{File}
 
 -- the bytes of listed files, and their number
 abbrev pub size_of : List FileEntry → Oxum

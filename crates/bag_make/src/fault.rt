@@ -2,8 +2,10 @@
 ghost use Rattle.std.specs.Prelude.{◌≡◌};
 ghost use Rattle.bag_make.specs.declared.fault.MakeFault.TheVariants as why;
 
+use crate::said;
 use crate::step::RefusedStep;
-use bag_text::said;
+use bag_tags::said::{BAD_VALUE, NO_ALGORITHM};
+use bag_text::said::OUT_OF_MEMORY;
 use bag_tree::{Stop, TreeFault};
 use std::alloc::AllocError;
 use thiserror::Error;
@@ -12,19 +14,19 @@ use thiserror::Error;
 #[derive(Debug, Drop, Error)]
 pub enum MakeFault {
     /// No algorithm is given.
-    #[error("{why}", why = said::NO_ALGORITHM)]
+    #[error("{why}", why = NO_ALGORITHM)]
     NoAlgorithm,
     /// A file stands where the files are held while they are moved.
     #[error("{why}", why = said::IN_THE_WAY)]
     InTheWay,
     /// An element that can't be written, or that is computed.
-    #[error("{why}", why = said::BAD_VALUE)]
+    #[error("{why}", why = BAD_VALUE)]
     BadValue,
     /// The tree refused to list its files, or to read one. The cause isn't out of memory.
     #[error("{read}{0}", read = said::READ)]
     ReadStopped(Stop),
     /// Memory ran out.
-    #[error("{why}", why = said::OUT_OF_MEMORY)]
+    #[error("{why}", why = OUT_OF_MEMORY)]
     Memory,
     /// The tree refused a step, which is given by its place from 1. All before it were taken.
     #[error("{step}{0} {1}", step = said::STEP)]

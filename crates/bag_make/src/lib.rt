@@ -22,6 +22,7 @@ mod obstacle;
 mod plan;
 mod reading;
 mod request;
+pub mod said;
 mod step;
 mod summed;
 mod texts;

@@ -6,13 +6,13 @@ ghost use Rattle.bag_text.specs.Alg.{rank_cmp};
 ghost use Rattle.bag_tree.specs.Bag.{Bag, files_of};
 ghost use Rattle.bag_tree.specs.Listing.{IsListingOf, IsOrdered, entry_of_file};
 ghost use Rattle.bag_tree.specs.Tree.{Keeps};
-ghost use Rattle.bag_make.specs.Made.{File, new_payload};
+ghost use Rattle.bag_make.specs.Made.{new_payload};
 ghost use Rattle.bag_make.specs.Plan as spec;
 ghost use Rattle.bag_make.specs.ListedTops.{has_new};
 ghost use Rattle.bag_make.specs.Reading.{OpensFolder};
 ghost use Rattle.bag_make.specs.Reads.{IsRefusalOfStop, MayRefuseReading};
 ghost use Rattle.bag_make.specs.StepsTaken.{IsStep};
-ghost use Rattle.bag_tags.specs.Summed.{AreSummed};
+ghost use Rattle.bag_tags.specs.Summed.{AreSummed, File};
 
 use crate::MakeFault;
 use crate::obstacle::is_in_the_way;

@@ -1,15 +1,12 @@
 //! What no bag can be made with.
 ghost use Rattle.std.specs.Prelude.{◌≡◌, ◌≢◌, [], false, All, OnOk, IfErr};
 ghost use Rattle.std.specs.List.{list_any};
-ghost use Rattle.bag_text.specs.Text.{IsText};
-ghost use Rattle.bag_make.specs.Request.{AreTexts, IsRequestFault, is_refused as is_refused_by};
+ghost use Rattle.bag_tags.specs.Element.{AreTexts};
+ghost use Rattle.bag_make.specs.Request.{IsRequestFault, is_refused as is_refused_by};
 
 use crate::MakeFault;
-use bag_tags::is_bad_element;
+use bag_tags::{OXUM_LABEL, are_texts, is_bad_element};
 use bag_text::{AlgSet, Text, same_label};
-
-/// The label of the element that is computed (RFC 8493, 2.2.2).
-pub(crate) const OXUM_LABEL: &str = "Payload-Oxum";
 
 /// Refuses a bag without an algorithm, and elements that can't be written or are `Payload-Oxum`,
 /// whatever its case. Takes no memory.
@@ -44,8 +41,3 @@ fn is_refused(element: &(Text, Text)) -> bool
     are_texts(label, value);
     is_bad_element(element) || same_label(label, OXUM_LABEL)
 }
-
-/// The law that what a `&str` holds is a text.
-fn are_texts(label: &str, value: &str)
-    ensures { IsText label.now × IsText value.now }
-{}

@@ -2,19 +2,17 @@
 ghost use Rattle.std.specs.Prelude.{◌≡◌, ◌∷◌, ◌++◌, List, IfOk, map};
 ghost use Rattle.std.specs.List.Sorted.{IsStrictlySortedBy};
 ghost use Rattle.bag_text.specs.Alg.{rank_cmp};
-ghost use Rattle.bag_read.specs.ManifestName.{tag_path};
 ghost use Rattle.bag_read.specs.Oxum.{oxum_text};
 ghost use Rattle.bag_tree.specs.Listing.{entry_of_file};
-ghost use Rattle.bag_tags.specs.Declaration.{declaration_text};
-ghost use Rattle.bag_tags.specs.Summed.{AreSummed};
+ghost use Rattle.bag_tags.specs.Summed.{AreSummed, File};
 ghost use Rattle.bag_make.specs.Made as bag;
-ghost use Rattle.bag_make.specs.Made.{File, new_payload};
+ghost use Rattle.bag_make.specs.Made.{new_payload};
 ghost use Rattle.bag_make.specs.Texts.{info_of, size_of};
 
-use crate::request::OXUM_LABEL;
 use bag_read::{Kind, TagName};
 use bag_tags::{
-    SummedFile, TagFile, manifests_of, sum_text, sum_texts, write_declaration, write_info,
+    OXUM_LABEL, SummedFile, TagFile, declaration_file, manifests_of, oxum_value, sum_text,
+    sum_texts, write_info,
 };
 use bag_text::{AlgSet, Items, Text};
 use bag_tree::FileEntry;
@@ -80,20 +78,6 @@ fn in_writing_order(
     Ok(files)
 }
 
-/// `bagit.txt` (RFC 8493, 2.1.1).
-fn declaration_file(alloc: Global) -> Result<TagFile, AllocError>
-    ensures { IfOk result (λ file. file ≡ (tag_path TagName.Declaration, declaration_text)) }
-{
-    let path = TagName::Declaration.path(alloc)?;
-    match write_declaration(alloc) {
-        Ok(bytes) => Ok(TagFile {
-            path,
-            content: Items::from_vec(bytes),
-        }),
-        Err(_) => Err(AllocError),
-    }
-}
-
 /// `bag-info.txt` with these elements and, last, the size of the payload (RFC 8493, 2.2.2).
 fn info_file(
     alloc: Global,
@@ -129,9 +113,7 @@ fn copies(alloc: Global, elements: &[(Text, Text)]) -> Result<Vec<(Text, Text)>,
 fn oxum(alloc: Global, listed: &[FileEntry]) -> Result<Text, AllocError>
     ensures { IfOk result (λ text. text ≡ oxum_text (size_of listed.now)) }
 {
-    let octets = octets(listed);
-    let streams = listed.len();
-    Ok(Text::from_string(format!(in alloc; "{octets}.{streams}")?))
+    oxum_value(alloc, octets(listed), listed.len() as u64)
 }
 
 /// How many bytes the files have together. Sizes that each fit 64 bits need not fit them together.

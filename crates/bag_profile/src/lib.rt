@@ -27,6 +27,7 @@ mod pattern;
 mod profile;
 mod read;
 mod rule;
+pub mod said;
 mod terms;
 mod text_set;
 mod unchecked;

@@ -1,6 +1,6 @@
 -- The algorithms that pass.
 use Rattle.bag_renew.proofs.Common.{◌≡◌, Bool, true, Contains, algs, Alg}
-use Rattle.bag_renew.specs.Renewed.{algs_where}
+use Rattle.bag_renewed.specs.Renewed.{algs_where}
 use Rattle.bag_facts.proofs.Mapped.{kept, passed}
 use Rattle.bag_text.proofs.AlgSets.{each_is_listed}
 

@@ -14,7 +14,7 @@ use Rattle.bag_read.specs.declared.fetch.FetchEntry.{FetchEntry}
 use Rattle.bag_read.specs.declared.info.Element.{Element}
 use Rattle.bag_read.specs.declared.manifest.ManifestEntry.{ManifestEntry}
 use Rattle.bag_facts.specs.Facts.{IsByV10, rules_in}
-use Rattle.bag_facts.specs.declared.fault.Fault.{Fault}
+use Rattle.bag_faults.specs.declared.fault.Fault.{Fault}
 use Rattle.bag_stages.specs.CompletenessStage.{Missing}
 use Rattle.bag_stages.specs.DeclarationStage.{DeclarationHolds, InDeclaration}
 use Rattle.bag_stages.specs.FaultFields.{At, InFile, in_line}

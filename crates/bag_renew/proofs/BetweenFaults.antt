@@ -20,7 +20,7 @@ use Rattle.bag_read.proofs.ManifestName.{is_named, named_test}
 use Rattle.bag_read.specs.ManifestLine.{MayName}
 use Rattle.bag_read.specs.declared.manifest.ManifestEntry.{ManifestEntry}
 use Rattle.bag_facts.specs.Facts.{IsByV10, rules_in}
-use Rattle.bag_facts.specs.declared.fault.Fault.{Fault}
+use Rattle.bag_faults.specs.declared.fault.Fault.{Fault}
 use Rattle.bag_report.specs.Report.{Is, asks}
 use Rattle.bag_report.specs.Valid.{full}
 use Rattle.bag_facts.specs.FactsOfBag.{IsByV097}

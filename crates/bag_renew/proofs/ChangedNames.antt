@@ -4,7 +4,7 @@ use Rattle.bag_renew.proofs.Common.{filter, AllByRecursion, in_base, has_member,
 use Rattle.bag_renew.proofs.Common.{TagName, Declaration, Info, Manifest, Alg, Bag, file, has_file, FileChange}
 use Rattle.bag_renew.proofs.Common.{Remove, changes, clearing, closing, dropping, opening, put, putting, unkept}
 use Rattle.bag_renew.proofs.Common.{IsOutOfTheWay, File, begun_file, declaration_file, algs_where}
-use Rattle.bag_renew.proofs.Common.{has_payload_manifest, has_tag_manifest, info_files, is_kept, kept_or, manifest}
+use Rattle.bag_renew.proofs.Common.{has_payload_manifest, has_tag_manifest, info_files, is_kept, kept_or, manifest_by}
 use Rattle.bag_renew.proofs.Common.{named_tag_files, new_algs, new_elements, new_rules, payload, payload_manifests}
 use Rattle.bag_renew.proofs.Common.{tag_manifests, with_path, writes_info, Renewal}
 use Rattle.bag_tags.specs.OnLines.{text_on_lines}
@@ -21,10 +21,10 @@ module _ (bag : Bag) (renewal : Renewal) where
   info_text = text_on_lines (new_elements bag renewal)
 
   abbrev payload_text : Alg → List ℕ
-  payload_text alg = kept_or bag renewal (tag_path (Manifest Payload alg)) (manifest (new_rules bag renewal) alg (payload bag))
+  payload_text alg = kept_or bag renewal (tag_path (Manifest Payload alg)) (manifest_by (new_rules bag renewal) alg (payload bag))
 
   abbrev tag_text : Alg → List ℕ
-  tag_text alg = manifest (new_rules bag renewal) alg (named_tag_files bag renewal)
+  tag_text alg = manifest_by (new_rules bag renewal) alg (named_tag_files bag renewal)
 
   -- the metadata that is put
   abbrev pub info_put : List File

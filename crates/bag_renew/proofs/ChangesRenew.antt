@@ -10,10 +10,10 @@ use Rattle.bag_renew.proofs.Common.{exact_texts, after_changes, FileChange, Put,
 use Rattle.bag_renew.proofs.Common.{closing, dropping, opening, put, putting, unkept, ChangesKeepPayload}
 use Rattle.bag_renew.proofs.Common.{ChangesRenew, HasKnownManifests, IsOutOfTheWay, File, begun_file}
 use Rattle.bag_renew.proofs.Common.{declaration_file, algs_where, has_payload_manifest, has_tag_manifest, is_kept}
-use Rattle.bag_renew.proofs.Common.{is_new_alg, keeps, kept_or, manifest, new_algs, new_rules, payload}
+use Rattle.bag_renew.proofs.Common.{is_new_alg, keeps, kept_or, manifest_by, new_algs, new_rules, payload}
 use Rattle.bag_renew.proofs.Common.{payload_manifests}
 use Rattle.bag_renew.proofs.Common.{stays, tag_manifests, writes_info, Renewal}
-use Rattle.bag_renew.specs.Renewed.{renewed}
+use Rattle.bag_renewed.specs.Renewed.{renewed}
 use Rattle.std.specs.FinMap as fin
 use Rattle.bag_tags.specs.Declaration.{declaration_text}
 use Rattle.bag_renew.proofs.AlgsWhere.{alg_in, passes}
@@ -82,7 +82,7 @@ module _ (bag : Bag) (renewal : Renewal) where
         path = tag_path (Manifest Payload alg)
 
         text : List ℕ
-        text = manifest (new_rules bag renewal) alg (payload bag)
+        text = manifest_by (new_rules bag renewal) alg (payload bag)
 
         has : HasFile bag (tag_path (Manifest Payload alg))
         has = subst (HasFile bag) same there
@@ -185,7 +185,7 @@ module _ (bag : Bag) (renewal : Renewal) where
           → Contains last (Put (tag_path (Manifest Payload a)) c) ⊎ IsLeft (Manifest Payload a) c
       by_test true is =
           inr (
-            still_there (tag_path (Manifest Payload a)) (manifest (new_rules bag renewal) a (payload bag)) c is h.1,
+            still_there (tag_path (Manifest Payload a)) (manifest_by (new_rules bag renewal) a (payload bag)) c is h.1,
             λ alg same. let clash : Manifest Payload a ≡ Manifest Tag alg = same in cc,
           )
       by_test false out =

@@ -2,21 +2,22 @@
 use Rattle.bag_renew.proofs.Common.{◌≡◌, ◌++◌, ◌∙◌, ℕ, Bool, true, false, not, List, Option, None, Some, map}
 use Rattle.bag_renew.proofs.Common.{filter, is_some, sym, ap, subst, append_assoc, map-append}
 use Rattle.bag_renew.proofs.Common.{or_right, Tag, Manifest, tag_path, Bag, files_of, File, FileChange, changes}
-use Rattle.bag_renew.proofs.Common.{clearing, cond, dropping, opening, put, info_files, manifest}
+use Rattle.bag_renew.proofs.Common.{clearing, cond, dropping, opening, put, info_files, manifest_by}
 use Rattle.bag_renew.proofs.Common.{named_tag_files, new_algs, new_rules, payload_manifests, unkept}
 use Rattle.bag_renew.proofs.Common.{writes_info, Alg, Info, Payload, Renewal, [], is_payload_path}
-use Rattle.bag_renew.proofs.CheckedBag.{manifests_some}
+use Rattle.bag_checked.proofs.CheckedBag.{manifests_some}
 use Rattle.bag_renew.proofs.NamedFiles.{all_named, old_files}
 use Rattle.bag_renew.proofs.SummedFiles.{filter_within, passing_summed}
 use Rattle.bag_renew.proofs.WrittenManifests.{info_put, manifests_put, tag_manifests_are, written_is_new}
 use Rattle.bag_renew.specs.Composing.{AreInPathOrder, first_files, is_tag_file, is_tag_path}
-use Rattle.bag_renew.specs.Composing.{keeps_bytes, kept_names, last_files, of_path, tag_manifests_of, written_algs}
+use Rattle.bag_renew.specs.Composing.{keeps_bytes, kept_names, last_files, of_path, tag_manifests_of}
+use Rattle.bag_renewed.specs.Target.{written_algs}
 use Rattle.bag_renew.specs.NewInfo.{IsInfoAfter, IsNewInfo}
 use Rattle.bag_text.specs.declared.rules.Rules.{Rules}
 use Rattle.bag_tags.specs.Summed.{manifests_by}
 use Rattle.bag_renew.specs.Planned.{changes_from, first_from, kept_from, named_from, tag_manifests_from}
-use Rattle.bag_renew.specs.Renewed.{in_path_order, reads_payload, with_path}
-use Rattle.bag_renew.specs.Summed.{AreSummed, files_to_read, is_to_read}
+use Rattle.bag_renewed.specs.Renewed.{in_path_order, reads_payload, with_path}
+use Rattle.bag_checked.specs.Summed.{AreSummedBy, files_to_read, is_to_read}
 use Rattle.bag_tags.specs.declared.summed.SummedFile.{SummedFile}
 
 joined : (a b c d e f : List FileChange) → ((((a ++ b) ++ c) ++ d) ++ e) ++ f ≡ a ++ (b ++ (c ++ (d ++ (e ++ f))))
@@ -28,7 +29,7 @@ module _ (bag : Bag) (renewal : Renewal) where
   module _ (files : List File) (info : Option (List ℕ)) where
     -- the files that are put first
     pub first_is : (summed payload : List SummedFile) (first : List File) (rules : Rules) (written : List Alg)
-        → AreSummed (new_algs bag renewal) files summed → payload ≡ filter (of_path is_payload_path) summed
+        → AreSummedBy (new_algs bag renewal) files summed → payload ≡ filter (of_path is_payload_path) summed
         → rules ≡ new_rules bag renewal → written ≡ written_algs bag renewal
         → first ≡ with_path (tag_path Info) info ++ manifests_by rules Payload written payload
         → first ≡ first_from bag renewal files info
@@ -40,8 +41,8 @@ module _ (bag : Bag) (renewal : Renewal) where
         (written_is_new bag renewal))
 
     -- the digests of the tag files that keep their bytes
-    pub kept_summed : (summed : List SummedFile) → AreSummed (new_algs bag renewal) files summed
-        → AreSummed (new_algs bag renewal) (kept_from bag renewal files info)
+    pub kept_summed : (summed : List SummedFile) → AreSummedBy (new_algs bag renewal) files summed
+        → AreSummedBy (new_algs bag renewal) (kept_from bag renewal files info)
         (filter (of_path (keeps_bytes (kept_names bag renewal))) (filter (of_path is_tag_path) summed))
     kept_summed summed are =
         passing_summed (new_algs bag renewal) (keeps_bytes (kept_names bag renewal)) (filter is_tag_file files)
@@ -50,18 +51,18 @@ module _ (bag : Bag) (renewal : Renewal) where
     -- and of what tag manifests name
     pub named_summed : (algs : List Alg) (tags named : List SummedFile) (first last : List File)
         → algs ≡ new_algs bag renewal → first ≡ first_from bag renewal files info → last ≡ last_files bag renewal
-        → AreSummed (new_algs bag renewal) (kept_from bag renewal files info) tags
-        → ((some : List File) → AreSummed algs some tags → AreInPathOrder algs (some ++ (first ++ last)) named)
-        → AreSummed (new_algs bag renewal) (named_from bag renewal files info) named
+        → AreSummedBy (new_algs bag renewal) (kept_from bag renewal files info) tags
+        → ((some : List File) → AreSummedBy algs some tags → AreInPathOrder algs (some ++ (first ++ last)) named)
+        → AreSummedBy (new_algs bag renewal) (named_from bag renewal files info) named
     named_summed algs tags named first last new first_is last_is are in_order =
         let old = kept_from bag renewal files info in
         subst (λ some. AreInPathOrder (new_algs bag renewal) (old ++ some) named) (λ i. first_is i ++ last_is i)
         (subst (λ some. AreInPathOrder some (old ++ (first ++ last)) named) new
-        (in_order old (subst (λ some. AreSummed some old tags) (sym new) are)))
+        (in_order old (subst (λ some. AreSummedBy some old tags) (sym new) are)))
 
     pub tag_manifests_put : (rules : Rules) (algs : List Alg) (named : List SummedFile)
         → rules ≡ new_rules bag renewal → algs ≡ new_algs bag renewal
-        → AreSummed (new_algs bag renewal) (named_from bag renewal files info) named
+        → AreSummedBy (new_algs bag renewal) (named_from bag renewal files info) named
         → tag_manifests_of rules algs named ≡ map put (tag_manifests_from bag renewal files info)
     tag_manifests_put rules algs named by_rules new are =
         (λ i. tag_manifests_of (by_rules i) (new i) named)
@@ -109,5 +110,5 @@ module _ (bag : Bag) (renewal : Renewal) where
         ++ ((ap (map put) first_of_bag ∙ map-append put written manifests) i
         ++ (dropping bag renewal
         ++ (map put (last_files bag renewal)
-        ++ map put (map (λ (alg : Alg). (tag_path (Manifest Tag alg), manifest (new_rules bag renewal) alg (named_of_bag i)))
+        ++ map put (map (λ (alg : Alg). (tag_path (Manifest Tag alg), manifest_by (new_rules bag renewal) alg (named_of_bag i)))
         (new_algs bag renewal))))))

@@ -8,7 +8,7 @@ use Rattle.std.proofs.lemmas.List.Folds.{list_any-append}
 use Rattle.std.specs.List.{prefix_len}
 use Rattle.bag_stages.specs.MetadataStage.{oxum_label}
 use Rattle.bag_tags.specs.Element.{NewElement}
-use Rattle.bag_renew.specs.Elements.{after_oxum, before_oxum}
+use Rattle.bag_renewed.specs.Elements.{after_oxum, before_oxum}
 use Rattle.bag_renew.proofs.CutAtOxum.{after_none, after_of, before_all, before_of, first_oxum, is_other, is_oxum}
 
 -- ---- filters

@@ -2,7 +2,7 @@
 use Rattle.bag_renew.proofs.Common.{◌≡◌, inl, inr, ℕ, List, Some, sym, ap, ◌∙◌, subst, nat_list_cmp_total, find}
 use Rattle.bag_renew.proofs.Common.{get-from_entries, text_cmp, paths_differ, is_payload_path, Payload, Tag}
 use Rattle.bag_renew.proofs.Common.{TagName, Declaration, Info, Fetch, Manifest, Bag, file, stays, Renewal}
-use Rattle.bag_renew.specs.Renewed.{renewed}
+use Rattle.bag_renewed.specs.Renewed.{renewed}
 use Rattle.bag_renew.specs.Contents.{IsNew, IsNewText, IsOld, RenewedHasTheseFiles, Stands}
 use Rattle.bag_facts.proofs.Found.{found, found_alone}
 use Rattle.bag_renew.proofs.Members.{all, from_all, to_all}

@@ -5,7 +5,7 @@ use Rattle.std.proofs.Common.{drop}
 use Rattle.std.specs.List.{prefix_len}
 use Rattle.bag_stages.specs.MetadataStage.{oxum_label}
 use Rattle.bag_tags.specs.Element.{NewElement}
-use Rattle.bag_renew.specs.Elements.{after_oxum, before_oxum, has_label}
+use Rattle.bag_renewed.specs.Elements.{after_oxum, before_oxum, has_label}
 
 abbrev pub is_oxum : NewElement → Bool
 is_oxum x = has_label oxum_label x

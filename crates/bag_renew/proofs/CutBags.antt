@@ -22,8 +22,8 @@ use Rattle.bag_tree.specs.FileChanges.{IsAfterFirst}
 use Rattle.bag_renew.specs.Again.{CutBagsCanBeRenewed}
 use Rattle.bag_renew.specs.Obstacles.{has_percent}
 use Rattle.bag_renew.specs.OnTheWay.{CanRenewInPlace, HasNoPercent, NoTagManifestNamesBegun}
-use Rattle.bag_renew.specs.Renewed.{is_v10, renewed, writes_payload_manifest}
-use Rattle.bag_renew.specs.Request.{is_bad_request}
+use Rattle.bag_renewed.specs.Renewed.{is_v10, renewed, writes_payload_manifest}
+use Rattle.bag_renewed.specs.Request.{is_bad_request}
 use Rattle.bag_renew.specs.Telling.{AreNameable, AreStillListed, IsNamedByKept, IsToBeNamed, NamesItsFiles}
 use Rattle.bag_renew.specs.Valid.{HasGoodElements, HasGoodInfo}
 use Rattle.bag_renew.proofs.AlgsWhere.{alg_in, passes}

@@ -5,7 +5,7 @@ use Rattle.std.proofs.lemmas.List.Folds.{list_any_none}
 use Rattle.std.proofs.lemmas.List.Elements.{All-from_recursion}
 use Rattle.bag_text.proofs.AlgSets.{each_is_listed}
 use Rattle.bag_text.proofs.ListOf.{each_from_members}
-use Rattle.bag_renew.specs.Renewed.{drops_payload_manifest, is_dropped_alg, reads_payload, writes_payload_manifest}
+use Rattle.bag_renewed.specs.Renewed.{drops_payload_manifest, is_dropped_alg, reads_payload, writes_payload_manifest}
 
 compared : (unchecked drops : Bool) → unchecked ≡ false → drops ≡ true → (not unchecked && drops) ≡ true
 compared false drops is some = some

@@ -12,9 +12,9 @@ use Rattle.bag_stages.specs.MetadataStage.{oxum_label}
 use Rattle.bag_tags.specs.Element.{NewElement}
 use Rattle.bag_renew.specs.ElementLaws.{OxumIsThereOnce, SetElementsAreThere, UnaskedElementsStay, UnsetElementsAreGone}
 use Rattle.bag_renew.specs.ElementLaws.{is_asked, is_replaced}
-use Rattle.bag_renew.specs.Elements.{added_to, after_oxum, appended_to, before_oxum, goes, has_label, in_place_of}
-use Rattle.bag_renew.specs.Elements.{is_same, new_ones, replaced, some_has}
-use Rattle.bag_renew.specs.declared.renewal.ElementChanges.{ElementChanges}
+use Rattle.bag_renewed.specs.Elements.{added_to, after_oxum, appended_to, before_oxum, goes, has_label, in_place_of}
+use Rattle.bag_renewed.specs.Elements.{is_same, new_ones, replaced, some_has}
+use Rattle.bag_renewed.specs.declared.renewal.ElementChanges.{ElementChanges}
 use Rattle.bag_renew.proofs.ComposedElements.{any_alike, composed, filter_composed, filter_cut, filter_old}
 use Rattle.bag_renew.proofs.ComposedElements.{filter_twice, not_other}
 use Rattle.bag_renew.proofs.CutAtOxum.{before_all, before_of, first_oxum, is_other, is_oxum}

@@ -11,9 +11,9 @@ use Rattle.bag_tags.specs.Element.{NewElement}
 use Rattle.bag_renew.specs.ElementLaws.{AppendedElementsAreLast, AreAppended, NewElementsStandBeforeOxum, NewOxumIsLast}
 use Rattle.bag_renew.specs.ElementLaws.{OxumStandsInPlace, SetElementsStandInPlace, StandTogether, is_replaced}
 use Rattle.bag_renew.specs.ElementLaws.{without_appended}
-use Rattle.bag_renew.specs.Elements.{after_oxum, appended_to, before_oxum, has_label, in_place_of, is_same, new_ones}
-use Rattle.bag_renew.specs.Elements.{renewed_elements, replaced, some_has}
-use Rattle.bag_renew.specs.declared.renewal.ElementChanges.{ElementChanges}
+use Rattle.bag_renewed.specs.Elements.{after_oxum, appended_to, before_oxum, has_label, in_place_of, is_same, new_ones}
+use Rattle.bag_renewed.specs.Elements.{renewed_elements, replaced, some_has}
+use Rattle.bag_renewed.specs.declared.renewal.ElementChanges.{ElementChanges}
 use Rattle.bag_renew.proofs.ComposedElements.{any_alike, any_cut, composed_after, composed_at, composed_past}
 use Rattle.bag_renew.proofs.ComposedElements.{filter_alike, filter_twice}
 use Rattle.bag_renew.proofs.CutAtOxum.{IsFirstOxum, after_none, after_of, before_all, before_of, first_oxum, is_other}

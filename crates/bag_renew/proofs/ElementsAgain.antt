@@ -10,10 +10,10 @@ use Rattle.bag_text.specs.Text.{same_label}
 use Rattle.bag_stages.specs.MetadataStage.{oxum_label}
 use Rattle.bag_tags.specs.Element.{NewElement}
 use Rattle.bag_renew.specs.Again.{ElementsAreRenewedOnce}
-use Rattle.bag_renew.specs.Elements.{added_to, after_oxum, appended_to, before_oxum, goes, is_same, new_ones}
-use Rattle.bag_renew.specs.Elements.{renewed_elements, replaced, some_has}
-use Rattle.bag_renew.specs.Request.{is_bad_request, is_given_otherwise, is_oxum_label, is_refused}
-use Rattle.bag_renew.specs.declared.renewal.ElementChanges.{ElementChanges}
+use Rattle.bag_renewed.specs.Elements.{added_to, after_oxum, appended_to, before_oxum, goes, is_same, new_ones}
+use Rattle.bag_renewed.specs.Elements.{renewed_elements, replaced, some_has}
+use Rattle.bag_renewed.specs.Request.{is_bad_request, is_given_otherwise, is_oxum_label, is_refused}
+use Rattle.bag_renewed.specs.declared.renewal.ElementChanges.{ElementChanges}
 use Rattle.bag_tags.specs.OnLines.{is_bad_long_element}
 use Rattle.bag_renew.proofs.CutAtOxum.{IsFirstOxum, after_none, after_of, before_all, before_of, first_oxum, is_other}
 use Rattle.bag_renew.proofs.CutAtOxum.{is_oxum}

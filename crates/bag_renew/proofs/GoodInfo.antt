@@ -20,7 +20,7 @@ use Rattle.bag_read.specs.InfoReader.{elements}
 use Rattle.bag_read.specs.Oxum.{oxum_of, oxum_text}
 use Rattle.bag_read.specs.declared.info.Element.{Element}
 use Rattle.bag_read.specs.declared.line_fault.LineFault.{LineFault}
-use Rattle.bag_facts.specs.declared.fault.Fault.{Fault}
+use Rattle.bag_faults.specs.declared.fault.Fault.{Fault}
 use Rattle.bag_report.specs.Report.{asks}
 use Rattle.bag_report.specs.Valid.{full}
 use Rattle.bag_stages.specs.FaultFields.{in_line}
@@ -31,11 +31,11 @@ use Rattle.bag_tags.proofs.LongInfo.{long_info_again_by}
 use Rattle.bag_tags.specs.Element.{NewElement}
 use Rattle.bag_tags.specs.OnLines.{text_on_lines}
 use Rattle.bag_tags.specs.ReadAgain.{elements_read}
-use Rattle.bag_renew.specs.Elements.{added_to, after_oxum, appended_to, before_oxum, elements_of, goes, has_label}
-use Rattle.bag_renew.specs.Elements.{in_place_of, is_same, new_ones, replaced, some_has}
-use Rattle.bag_renew.specs.Renewed.{renewed}
+use Rattle.bag_renewed.specs.Elements.{added_to, after_oxum, appended_to, before_oxum, elements_of, goes, has_label}
+use Rattle.bag_renewed.specs.Elements.{in_place_of, is_same, new_ones, replaced, some_has}
+use Rattle.bag_renewed.specs.Renewed.{renewed}
 use Rattle.bag_renew.specs.Valid.{CanRenew, GoodElementsAreGoodInfo, HasGoodElements, HasGoodInfo}
-use Rattle.bag_renew.specs.declared.renewal.ElementChanges.{ElementChanges}
+use Rattle.bag_renewed.specs.declared.renewal.ElementChanges.{ElementChanges}
 use Rattle.bag_renew.proofs.Contents.{these_files}
 use Rattle.bag_renew.proofs.KeptInfo.{kept_is_good}
 use Rattle.bag_tags.proofs.OxumReads.{oxum_reads}

@@ -10,7 +10,7 @@ use Rattle.bag_text.specs.declared.code.Code.TheVariants.{InfoLine, NoOxum, Oxum
 use Rattle.bag_read.specs.Info.{IsElement, IsInfoFault}
 use Rattle.bag_read.specs.declared.info.Element.{Element}
 use Rattle.bag_facts.specs.Facts.{rules_in}
-use Rattle.bag_facts.specs.declared.fault.Fault.{Fault}
+use Rattle.bag_faults.specs.declared.fault.Fault.{Fault}
 use Rattle.bag_report.specs.Report.{asks}
 use Rattle.bag_report.specs.Valid.{full}
 use Rattle.bag_stages.specs.FaultFields.{At, in_line}
@@ -20,8 +20,8 @@ use Rattle.bag_read.specs.Oxum.{oxum_text}
 use Rattle.bag_stages.specs.Payload.{oxum, oxum_of_files}
 use Rattle.bag_stages.specs.TagFiles.{lines_in, lines_or_none}
 use Rattle.bag_tags.specs.OnLines.{text_on_lines}
-use Rattle.bag_renew.specs.Elements.{asks_nothing}
-use Rattle.bag_renew.specs.Renewed.{renewed}
+use Rattle.bag_renewed.specs.Elements.{asks_nothing}
+use Rattle.bag_renewed.specs.Renewed.{renewed}
 use Rattle.bag_renew.specs.Valid.{CanRenew, HasGoodInfo}
 use Rattle.bag_renew.proofs.Contents.{these_files}
 use Rattle.bag_facts.proofs.Found.{same_option}

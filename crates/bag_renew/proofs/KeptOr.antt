@@ -8,7 +8,7 @@ use Rattle.bag_text.specs.declared.rules.Rules.{Rules}
 use Rattle.bag_text.specs.declared.rules.Rules.TheVariants.{V10, V097}
 use Rattle.bag_facts.specs.Facts.{IsByV10}
 use Rattle.bag_facts.specs.FactsOfBag.{IsByV097}
-use Rattle.bag_renew.specs.Renewed.{is_v10}
+use Rattle.bag_renewed.specs.Renewed.{is_v10}
 
 -- ---- the rules, by whether the bag keeps what needs no change
 

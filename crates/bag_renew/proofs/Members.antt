@@ -4,7 +4,7 @@ use Rattle.bag_renew.proofs.Common.{Some, sym, ap, subst, Contains, contains_bac
 use Rattle.bag_renew.proofs.Common.{contains_behind, contains_cases, contains_either, contains_first}
 use Rattle.bag_renew.proofs.Common.{contains_front, contains_mapped, mapped_contains, is_payload_path, tag_path}
 use Rattle.bag_renew.proofs.Common.{Payload, Tag, TagName, Declaration, Info, Fetch, Manifest, Alg, payload, Bag}
-use Rattle.bag_renew.proofs.Common.{file, files_of, File, declaration_file, info_files, kept_tag_files, manifest}
+use Rattle.bag_renew.proofs.Common.{file, files_of, File, declaration_file, info_files, kept_tag_files, manifest_by}
 use Rattle.bag_renew.proofs.Common.{named_tag_files, new_algs, new_elements, new_rules, new_tag_files, payload_manifest}
 use Rattle.bag_renew.proofs.Common.{payload_manifests, stays, tag_manifests, with_path, writes_info, Renewal}
 use Rattle.bag_facts.proofs.Mapped.{kept, passed}
@@ -67,7 +67,7 @@ module _ (bag : Bag) (renewal : Renewal) where
   pub tag_new : (q c : List ℕ) → Contains (tag_manifests bag renewal) (q, c) → IsNew bag renewal q c
   tag_new q c h =
       let m =
-      contains_mapped {B = File} (λ alg. (tag_path (Manifest Tag alg), manifest (new_rules bag renewal) alg (named_tag_files bag renewal)))
+      contains_mapped {B = File} (λ alg. (tag_path (Manifest Tag alg), manifest_by (new_rules bag renewal) alg (named_tag_files bag renewal)))
       (new_algs bag renewal) (q, c) h in
       (Manifest Tag m.0, sym (ap (λ (y : File). y.0) m.2), (m.1, sym (ap (λ (y : File). y.1) m.2)))
 
@@ -124,9 +124,9 @@ module _ (bag : Bag) (renewal : Renewal) where
   info_listed c h = in_one (tag_path Info) info_text (writes_info bag renewal) (file bag (tag_path Info)) c h
 
   pub tag_listed : (alg : Alg) → Contains (new_algs bag renewal) alg
-      → Contains (tag_manifests bag renewal) (tag_path (Manifest Tag alg), manifest (new_rules bag renewal) alg (named_tag_files bag renewal))
+      → Contains (tag_manifests bag renewal) (tag_path (Manifest Tag alg), manifest_by (new_rules bag renewal) alg (named_tag_files bag renewal))
   tag_listed alg h =
-      mapped_contains {B = File} (λ alg. (tag_path (Manifest Tag alg), manifest (new_rules bag renewal) alg (named_tag_files bag renewal)))
+      mapped_contains {B = File} (λ alg. (tag_path (Manifest Tag alg), manifest_by (new_rules bag renewal) alg (named_tag_files bag renewal)))
       (new_algs bag renewal) alg h
 
   behind_two : (e : File) → Contains manifests e → Contains (new_tag_files bag renewal) e
@@ -148,7 +148,7 @@ module _ (bag : Bag) (renewal : Renewal) where
       (contains_front (payload_manifests bag renewal) (tag_manifests bag renewal) (payload_manifest bag renewal alg)
       (payload_listed alg h.0)))
   new_listed (Manifest Tag alg) c h =
-      let one : File = (tag_path (Manifest Tag alg), manifest (new_rules bag renewal) alg (named_tag_files bag renewal)) in
+      let one : File = (tag_path (Manifest Tag alg), manifest_by (new_rules bag renewal) alg (named_tag_files bag renewal)) in
       subst (λ t. Contains (new_tag_files bag renewal) (tag_path (Manifest Tag alg), t)) (sym h.1)
       (behind_two one
       (contains_back (payload_manifests bag renewal) (tag_manifests bag renewal) one (tag_listed alg h.0)))

@@ -7,7 +7,7 @@ use Rattle.bag_renew.proofs.Common.{contains_first, contains_front, contains_map
 use Rattle.bag_renew.proofs.Common.{find, get-from_entries, nat_list_cmp_total, exact_texts, text_cmp}
 use Rattle.bag_renew.proofs.Common.{tag_path, TagName, Declaration, Info, Manifest, Payload, Alg, Bag, file, files_of}
 use Rattle.bag_renew.proofs.Common.{payload, File, declaration_file, info_files, is_kept, is_new_alg, kept_or}
-use Rattle.bag_renew.proofs.Common.{kept_tag_files, manifest, named_tag_files, new_algs, new_elements, new_rules, new_tag_files}
+use Rattle.bag_renew.proofs.Common.{kept_tag_files, manifest_by, named_tag_files, new_algs, new_elements, new_rules, new_tag_files}
 use Rattle.bag_renew.proofs.Common.{payload_manifest, payload_manifests, stays, tag_manifests, unkept, writes_info}
 use Rattle.bag_renew.proofs.Common.{Renewal}
 use Rattle.std.specs.FinMap as fin
@@ -23,7 +23,7 @@ use Rattle.bag_renew.proofs.NoPayload.{no_payload_tag}
 use Rattle.bag_renew.proofs.StaysSo.{stays_so}
 use Rattle.bag_renew.specs.Composing.{first_files, is_tag_file, keeps_bytes, kept_names, last_files}
 use Rattle.bag_renew.specs.Contents.{Stands}
-use Rattle.bag_renew.specs.Renewed.{algs_where, in_path_order, is_kept_alg}
+use Rattle.bag_renewed.specs.Renewed.{algs_where, in_path_order, is_kept_alg}
 
 -- ---- lists with the same files, of which none is there twice, are the same in the order of paths
 
@@ -211,7 +211,7 @@ module _ (bag : Bag) (renewal : Renewal) where
   name_named name c (inl (alg, is, same)) at =
       let path = tag_path (Manifest Payload alg) in
       let two = kept_alg_parts alg is in
-      let content = kept_content path (manifest (new_rules bag renewal) alg (payload bag)) c two.1 (ap (λ n. file bag (tag_path n)) same ∙ at) in
+      let content = kept_content path (manifest_by (new_rules bag renewal) alg (payload bag)) c two.1 (ap (λ n. file bag (tag_path n)) same ∙ at) in
       manifest_named (tag_path name, c) (subst (Contains (payload_manifests bag renewal))
       (λ i. (tag_path (same i), content i))
       (mapped_contains {B = File} (payload_manifest bag renewal) (new_algs bag renewal) alg
@@ -303,9 +303,9 @@ module _ (bag : Bag) (renewal : Renewal) where
   manifest_there alg has =
       let path = tag_path (Manifest Payload alg) in
       let one = payload_manifest bag renewal alg in
-      elim (kept_or_written bag renewal path (manifest (new_rules bag renewal) alg (payload bag))) [
+      elim (kept_or_written bag renewal path (manifest_by (new_rules bag renewal) alg (payload bag))) [
         | inl was ↦ contains_front old_files put_files one
-            (in_old (Manifest Payload alg) (kept_or bag renewal path (manifest (new_rules bag renewal) alg (payload bag)))
+            (in_old (Manifest Payload alg) (kept_or bag renewal path (manifest_by (new_rules bag renewal) alg (payload bag)))
             (manifest_name_in alg (and_from (is_new_alg bag renewal alg) (is_kept bag renewal path)
             (passes (is_new_alg bag renewal) alg has) was.0)) was.1)
         | inr written ↦ in_first one

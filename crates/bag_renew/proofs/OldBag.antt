@@ -25,7 +25,7 @@ use Rattle.bag_read.specs.declared.fetch.FetchEntry.{FetchEntry}
 use Rattle.bag_read.specs.declared.line_fault.LineFault.{LineFault}
 use Rattle.bag_facts.specs.Facts.{IsByV10, rules_in}
 use Rattle.bag_facts.specs.FactsOfBag.{IsByV097}
-use Rattle.bag_facts.specs.declared.fault.Fault.{Fault}
+use Rattle.bag_faults.specs.declared.fault.Fault.{Fault}
 use Rattle.bag_report.specs.Report.{Is, asks}
 use Rattle.bag_report.specs.Valid.{IsFaultOf, full}
 use Rattle.bag_stages.proofs.BagLists.{some_alg, there_or_not}
@@ -40,7 +40,7 @@ use Rattle.bag_stages.specs.MetadataStage.{IsOfMetadata, MetadataHolds}
 use Rattle.bag_stages.specs.PartsStage.{IsOfParts, PartHolds}
 use Rattle.bag_stages.specs.TagFiles.{HasManifest, HasSupported, Names, lines_or_none, manifest_of, named_in}
 use Rattle.bag_renew.specs.Telling.{IsToBeNamed, NamesAll, NamesFiles, NamesItsPayload, paths_named}
-use Rattle.bag_renew.specs.Valid.{IsDamage}
+use Rattle.bag_checked.specs.FirstFaults.{IsDamage}
 
 -- ---- the codes of the faults of a manifest's lines
 

@@ -3,12 +3,12 @@ use Rattle.bag_renew.proofs.Common.{◌≡◌, ◌⊎◌, inl, inr, ℕ, List, r
 use Rattle.bag_renew.proofs.Common.{begun_file, Bool, true, false, false≢true, keeps, Renewal, ◌∙◌}
 use Rattle.bag_text.proofs.ListOf.{contains_nothing, nothing_listed}
 use Rattle.bag_tree.specs.FileChanges.{IsAfterFirst}
-use Rattle.bag_facts.specs.FaultOrder.{fault_cmp}
-use Rattle.bag_facts.specs.declared.fault.Fault.{Fault}
+use Rattle.bag_faults.specs.FaultOrder.{fault_cmp}
+use Rattle.bag_faults.specs.declared.fault.Fault.{Fault}
 use Rattle.bag_renew.specs.OnTheWay.{CanRenewInPlace, EachBagOnTheWayHasOldFaults, EachBagOnTheWayIsValid}
 use Rattle.bag_renew.specs.OnTheWay.{EachCutBagHasOldFaults, EachCutBagIsValid, HasNoPercent}
-use Rattle.bag_renew.specs.Renewed.{renewed}
-use Rattle.bag_renew.specs.Valid.{IsDamage}
+use Rattle.bag_renewed.specs.Renewed.{renewed}
+use Rattle.bag_checked.specs.FirstFaults.{IsDamage}
 use Rattle.bag_report.specs.Valid.{HasNoFault, IsFaultOf}
 use Rattle.bag_renew.proofs.BetweenFaults.{IsBetween, of_either}
 use Rattle.bag_renew.proofs.OnTheWayBegun.{with_begun}

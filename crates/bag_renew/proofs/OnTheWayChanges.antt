@@ -8,7 +8,7 @@ use Rattle.bag_renew.proofs.Common.{tag_path, Kind, Payload, is_manifest_name, m
 use Rattle.bag_renew.proofs.Common.{TagName, Tag, Declaration, Info, Manifest, Alg, Bag, file, has_file, FileChange}
 use Rattle.bag_renew.proofs.Common.{Put, Remove, changes, clearing, closing, dropping, opening, put, putting, unkept}
 use Rattle.bag_renew.proofs.Common.{File, begun_file, declaration_file, algs_where, has_payload_manifest}
-use Rattle.bag_renew.proofs.Common.{has_tag_manifest, is_kept, manifest, named_tag_files, new_algs, new_rules, payload_manifest}
+use Rattle.bag_renew.proofs.Common.{has_tag_manifest, is_kept, manifest_by, named_tag_files, new_algs, new_rules, payload_manifest}
 use Rattle.bag_renew.proofs.Common.{payload_manifests, tag_manifests, with_path, writes_info, Renewal}
 use Rattle.std.proofs.Common.{drop, take-append-drop}
 use Rattle.bag_facts.proofs.Mapped.{kept}
@@ -208,7 +208,7 @@ module _ (bag : Bag) (renewal : Renewal) where
             let p = in_puts (tag_manifests bag renewal) d tags in
             let m =
             contains_mapped {B = File}
-            (λ alg. (tag_path (Manifest Tag alg), manifest (new_rules bag renewal) alg (named_tag_files bag renewal)))
+            (λ alg. (tag_path (Manifest Tag alg), manifest_by (new_rules bag renewal) alg (named_tag_files bag renewal)))
             (new_algs bag renewal) p.0 p.1 in (p.0, p.2, inr (m.0, sym (ap (λ (y : File). y.0) m.2))))
       ]
 
@@ -405,7 +405,7 @@ module _ (bag : Bag) (renewal : Renewal) where
   tags_names q other d has same =
       let p = in_puts (tag_manifests bag renewal) d has in
       let m =
-      contains_mapped {B = File} (λ alg. (tag_path (Manifest Tag alg), manifest (new_rules bag renewal) alg (named_tag_files bag renewal)))
+      contains_mapped {B = File} (λ alg. (tag_path (Manifest Tag alg), manifest_by (new_rules bag renewal) alg (named_tag_files bag renewal)))
       (new_algs bag renewal) p.0 p.1 in
       let named : q ≡ tag_path (Manifest Tag m.0) = same ∙ ap name_of p.2 ∙ sym (ap (λ (y : File). y.0) m.2) in
       false≢true (sym other ∙ named_is Tag q (name m.0) (name_is_text m.0, named))

@@ -25,7 +25,7 @@ use Rattle.bag_stages.specs.LeftOut.{IsLeftOutByAll}
 use Rattle.bag_stages.specs.TagFiles.{Names, bagit_txt, lines_or_none, manifest_of}
 use Rattle.bag_tags.specs.Declaration.{declaration_text}
 use Rattle.bag_renew.specs.OnTheWay.{CanRenewInPlace}
-use Rattle.bag_renew.specs.Renewed.{renewed}
+use Rattle.bag_renewed.specs.Renewed.{renewed}
 use Rattle.bag_renew.specs.Telling.{NamesItsFiles}
 use Rattle.bag_renew.proofs.AlikeFaults.{AreAlike, alike_by_rules, names_now}
 use Rattle.bag_renew.proofs.BetweenFaults.{HasNoPayloadManifest, IsBetween, IsBetweenByV097, IsTagManifestOf}

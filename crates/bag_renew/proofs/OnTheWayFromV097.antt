@@ -16,7 +16,7 @@ use Rattle.bag_read.specs.declared.line_fault.LineFault.{LineFault}
 use Rattle.bag_facts.proofs.Found.{content_of}
 use Rattle.bag_facts.specs.Facts.{IsByV10, rules_in}
 use Rattle.bag_facts.specs.FactsOfBag.{IsByV097}
-use Rattle.bag_facts.specs.declared.fault.Fault.{Fault}
+use Rattle.bag_faults.specs.declared.fault.Fault.{Fault}
 use Rattle.bag_report.specs.Report.{asks}
 use Rattle.bag_stages.specs.CompletenessStage.{IsPayloadFile}
 use Rattle.bag_stages.specs.FetchStage.{fetch_txt}
@@ -26,7 +26,7 @@ use Rattle.bag_stages.specs.TagFiles.{HasSupported, Names, bagit_txt, lines_in, 
 use Rattle.bag_tree.specs.Bag.{LacksFile}
 use Rattle.bag_renew.specs.Obstacles.{has_percent}
 use Rattle.bag_renew.specs.OnTheWay.{CanRenewInPlace, HasNoPercent}
-use Rattle.bag_renew.specs.Renewed.{renewed}
+use Rattle.bag_renewed.specs.Renewed.{renewed}
 use Rattle.bag_renew.specs.Telling.{NamesFiles, NamesItsFiles}
 use Rattle.bag_renew.specs.Valid.{HasGoodInfo}
 use Rattle.bag_renew.proofs.AlikeFaults.{AreAlike, names_now}

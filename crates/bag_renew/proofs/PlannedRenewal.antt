@@ -10,9 +10,9 @@ use Rattle.bag_renew.specs.NewInfo.{IsInfoAfter}
 use Rattle.bag_renew.specs.Planned.{ChangesCompared, changes_from}
 use Rattle.bag_renew.specs.Reading.{HasReadBag, MayRefuseReading}
 use Rattle.bag_renew.specs.Renew.{HasPlanned}
-use Rattle.bag_renew.specs.Renewed.{reads_payload}
-use Rattle.bag_renew.specs.Request.{is_bad_request}
-use Rattle.bag_renew.specs.Summed.{AreSummed, files_to_read}
+use Rattle.bag_renewed.specs.Renewed.{reads_payload}
+use Rattle.bag_renewed.specs.Request.{is_bad_request}
+use Rattle.bag_checked.specs.Summed.{AreSummedBy, files_to_read}
 use Rattle.bag_renew.specs.declared.fault.RenewFault.TheVariants.{Memory}
 use Rattle.bag_tags.specs.declared.summed.SummedFile.{SummedFile}
 use Rattle.bag_renew.proofs.ComposedChanges.{changes_of_bag}
@@ -26,7 +26,7 @@ module _ (renewal : Renewal) (old new : TreeState) (facts : Facts) (summed : Lis
 
   module _ (info : Option (List ℕ))
       (is_info : IfBagRead facts (λ bag. IsInfoAfter bag renewal (lines_of_file read) info)) (made : List FileChange)
-      (is : IfBagRead facts (λ bag. (files : List File) → AreSummed (new_algs bag renewal) files summed
+      (is : IfBagRead facts (λ bag. (files : List File) → AreSummedBy (new_algs bag renewal) files summed
       → made ≡ changes_from bag renewal files info)) where
     -- over any tree they are of the files that were read
     compared : ChangesCompared renewal old new made

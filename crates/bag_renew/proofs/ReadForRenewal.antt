@@ -2,28 +2,29 @@
 use Rattle.bag_renew.proofs.Common.{◌≡◌, ◌≢◌, ◌∙◌, inr, ℕ, List, [], ◌∷◌, Bool, true, false, ◌||◌, Option, None, Some}
 use Rattle.bag_renew.proofs.Common.{IsTrue, arith, refl, sym, ap, subst}
 use Rattle.bag_renew.proofs.Common.{cond, filter, is_payload_path, list_any, not, new_elements, Bag, File, Renewal}
-use Rattle.bag_renew.proofs.CheckedBag.{all_files}
-use Rattle.bag_renew.specs.Summed.{files_to_read}
+use Rattle.bag_checked.proofs.CheckedBag.{all_files}
+use Rattle.bag_checked.specs.Summed.{files_to_read}
 use Rattle.bag_text.specs.Code.{stage}
 use Rattle.bag_text.specs.Lines.{lines_of_file}
 use Rattle.bag_facts.specs.FactsOfBag.{IfBagRead}
 use Rattle.bag_facts.specs.declared.facts.Facts.{Facts}
-use Rattle.bag_facts.specs.declared.options.Depth.TheVariants.{Declaration}
-use Rattle.bag_facts.specs.declared.options.Options.{Options}
+use Rattle.bag_faults.specs.declared.options.Depth.TheVariants.{Declaration}
+use Rattle.bag_faults.specs.declared.options.Options.{Options}
 use Rattle.bag_stages.specs.MetadataStage.{oxum_label}
 use Rattle.bag_tags.specs.Element.{NewElement}
 use Rattle.bag_tags.specs.OnLines.{is_bad_long_element, text_on_lines}
 use Rattle.bag_tree.specs.Tree.{TreeState}
-use Rattle.bag_renew.specs.Elements.{has_label}
+use Rattle.bag_renewed.specs.Elements.{has_label}
 use Rattle.bag_renew.specs.NewInfo.{IsInfoAfter, IsInfoRefusal, IsNewInfo}
-use Rattle.bag_renew.specs.Reading.{HasKnownSize, HasNoEarlyFault, HasReadBag, IsReadForRenewal, MayRefuseReading}
-use Rattle.bag_renew.specs.Renewed.{writes_info}
-use Rattle.bag_renew.specs.Request.{is_bad_request, is_refused}
+use Rattle.bag_renew.specs.Reading.{HasKnownSize, HasReadBag, IsReadForRenewal, MayRefuseReading}
+use Rattle.bag_checked.specs.FirstFaults.{HasNoEarlyFault}
+use Rattle.bag_renewed.specs.Renewed.{writes_info}
+use Rattle.bag_renewed.specs.Request.{is_bad_request, is_refused}
 use Rattle.bag_renew.specs.Valid.{HasGoodElements}
 use Rattle.bag_report.specs.Valid.{full}
 use Rattle.bag_renew.specs.declared.fault.RenewFault.{RenewFault}
 use Rattle.bag_renew.specs.declared.fault.RenewFault.TheVariants as why
-use Rattle.bag_renew.specs.declared.renewal.ElementChanges.{ElementChanges}
+use Rattle.bag_renewed.specs.declared.renewal.ElementChanges.{ElementChanges}
 use Rattle.bag_tags.specs.declared.summed.SummedFile.{SummedFile}
 
 left_false : (a b : Bool) → (a || b) ≡ false → a ≡ false

@@ -3,7 +3,7 @@ use Rattle.bag_renew.proofs.Common.{◌≡◌, ◌≢◌, ◌⊎◌, ◌∷◌, 
 use Rattle.bag_renew.proofs.Common.{List, [], Option, None, Some, is_some, refl, sym, ap, subst, false≢true}
 use Rattle.bag_renew.proofs.Common.{has_member, is_manifest_name, is_payload_path, Payload, Tag, Info, Alg, name, Bag}
 use Rattle.bag_renew.proofs.Common.{HasFile, file, File, begun_file, declaration_file, is_new_alg, keeps, kept_or}
-use Rattle.bag_renew.proofs.Common.{manifest, new_rules, payload, payload_manifest, stays, with_path, writes_info}
+use Rattle.bag_renew.proofs.Common.{manifest_by, new_rules, payload, payload_manifest, stays, with_path, writes_info}
 use Rattle.bag_renew.proofs.Common.{Renewal, after, changes, create}
 use Rattle.std.specs.Option.{unwrap_or}
 use Rattle.bag_text.specs.declared.rules.Rules.TheVariants.{V10}
@@ -13,10 +13,10 @@ use Rattle.bag_stages.specs.TagFiles.{bagit_txt, manifest_of}
 use Rattle.bag_tags.specs.Declaration.{declaration_text}
 use Rattle.bag_tree.specs.FileChanges.{IsAfterFirst}
 use Rattle.bag_renew.specs.Again.{RenewingAgainMakesTheSame}
-use Rattle.bag_renew.specs.Elements.{asks_nothing}
+use Rattle.bag_renewed.specs.Elements.{asks_nothing}
 use Rattle.bag_renew.specs.OnTheWay.{CanRenewInPlace, HasNoPercent}
-use Rattle.bag_renew.specs.Renewed.{file_at, is_v10, renewed}
-use Rattle.bag_renew.specs.Request.{is_bad_request}
+use Rattle.bag_renewed.specs.Renewed.{file_at, is_v10, renewed}
+use Rattle.bag_renewed.specs.Request.{is_bad_request}
 use Rattle.bag_renew.specs.Valid.{HasGoodElements}
 use Rattle.bag_renew.proofs.BetweenFaults.{IsBetween, no_manifest_begun, other_kind}
 use Rattle.bag_renew.proofs.KeptOr.{becomes_v10, v10_keeps}
@@ -109,11 +109,11 @@ module _ (left bag : Bag) (renewal : Renewal) (on : IsOnTheWay left bag renewal)
     at_path = manifest_of Payload alg
 
     abbrev anew : Bag → List ℕ
-    anew b = manifest (new_rules b renewal) alg (payload b)
+    anew b = manifest_by (new_rules b renewal) alg (payload b)
 
     same_anew : anew left ≡ anew bag
     same_anew =
-        ap (λ rules. manifest rules alg (payload left)) same_new ∙ ap (manifest (new_rules bag renewal) alg) payload_is
+        ap (λ rules. manifest_by rules alg (payload left)) same_new ∙ ap (manifest_by (new_rules bag renewal) alg) payload_is
 
   module _ (keeps_bag : keeps bag renewal ≡ true) where
     keeps_left : keeps left renewal ≡ true
@@ -233,8 +233,8 @@ module _ (left bag : Bag) (renewal : Renewal) (none_kept : keeps bag renewal ≡
         → payload_manifest left renewal alg ≡ payload_manifest bag renewal alg
     manifest_is is =
         let path = manifest_of Payload alg in
-        let text = kept_or bag renewal path (manifest (new_rules bag renewal) alg (payload bag)) in
-        let anew = manifest (new_rules left renewal) alg (payload left) in
+        let text = kept_or bag renewal path (manifest_by (new_rules bag renewal) alg (payload bag)) in
+        let anew = manifest_by (new_rules left renewal) alg (payload left) in
         λ i. (
           path,
           was_written path anew text (put_manifest ∙ manifest_there bag renewal alg is) i,

@@ -4,7 +4,7 @@ use Rattle.bag_renew.proofs.Common.{[], Option, Some, is_some, refl, sym, ap, Co
 use Rattle.bag_renew.proofs.Common.{or_cases, or_left, or_right, contains_behind, contains_first, has_member}
 use Rattle.bag_renew.proofs.Common.{is_payload_path, tag_path, Payload, Tag, Info, Manifest, Alg, Bag, HasFile, file}
 use Rattle.bag_renew.proofs.Common.{File, declaration_file, algs_where, has_payload_manifest, info_files, is_new_alg}
-use Rattle.bag_renew.proofs.Common.{keeps, kept_or, kept_tag_files, manifest, named_tag_files, new_algs, new_elements}
+use Rattle.bag_renew.proofs.Common.{keeps, kept_or, kept_tag_files, manifest_by, named_tag_files, new_algs, new_elements}
 use Rattle.bag_renew.proofs.Common.{new_rules, new_tag_files, payload, payload_manifest, payload_manifests, stays}
 use Rattle.bag_renew.proofs.Common.{tag_manifests, writes_info, Renewal}
 use Rattle.std.specs.Option.{unwrap_or}
@@ -21,9 +21,9 @@ use Rattle.bag_tags.proofs.LongInfo.{long_info_again_by}
 use Rattle.bag_tags.specs.Element.{NewElement}
 use Rattle.bag_tags.specs.OnLines.{text_on_lines}
 use Rattle.bag_renew.specs.WrittenElements.{WrittenElementsAreRead}
-use Rattle.bag_renew.specs.Elements.{elements_of, renewed_elements}
-use Rattle.bag_renew.specs.Renewed.{file_at, in_path_order, renewed}
-use Rattle.bag_renew.specs.Request.{is_bad_request}
+use Rattle.bag_renewed.specs.Elements.{elements_of, renewed_elements}
+use Rattle.bag_renewed.specs.Renewed.{file_at, in_path_order, renewed}
+use Rattle.bag_renewed.specs.Request.{is_bad_request}
 use Rattle.bag_renew.specs.Valid.{HasGoodElements}
 use Rattle.bag_renew.proofs.AlgsWhere.{alg_in, passes}
 use Rattle.bag_renew.proofs.AlikeFaults.{AreAlike}
@@ -96,7 +96,7 @@ module _ (left bag : Bag) (renewal : Renewal) (are : AreRenewedAlike left bag re
 
   same_tags : tag_manifests left renewal ≡ tag_manifests bag renewal
   same_tags =
-      λ i. map {B = File} (λ alg. (tag_path (Manifest Tag alg), manifest (are.rules i) alg (same_named i))) (same_algs i)
+      λ i. map {B = File} (λ alg. (tag_path (Manifest Tag alg), manifest_by (are.rules i) alg (same_named i))) (same_algs i)
 
   same_written : new_tag_files left renewal ≡ new_tag_files bag renewal
   same_written = λ i. are.declaration i ∷ (same_info i ++ (same_manifests i ++ same_tags i))
@@ -144,7 +144,7 @@ module _ (bag : Bag) (renewal : Renewal) where
     path = manifest_of Payload alg
 
     abbrev written : List ℕ
-    written = manifest (new_rules bag renewal) alg (payload bag)
+    written = manifest_by (new_rules bag renewal) alg (payload bag)
 
     pub has_or_added : (b : Bag) → is_new_alg b renewal alg ≡ true
         → ((has_payload_manifest b alg || has_member renewal.added alg) ≡ true)

@@ -9,7 +9,7 @@ use Rattle.bag_renew.proofs.Common.{contains_either, contains_first, contains_no
 use Rattle.bag_renew.proofs.Common.{text_cmp, is_path}
 use Rattle.bag_renew.proofs.Common.{is_payload_path, is_manifest_name, manifest_name, tag_path, Kind, Payload, Tag}
 use Rattle.bag_renew.proofs.Common.{TagName, Declaration, Info, Fetch, Manifest, Alg, name, in_base, paths_differ, Bag}
-use Rattle.bag_renew.proofs.Common.{IsBag, file, files_of, payload, File, manifest, stays, declaration_file}
+use Rattle.bag_renew.proofs.Common.{IsBag, file, files_of, payload, File, manifest_by, stays, declaration_file}
 use Rattle.bag_renew.proofs.Common.{info_files, new_algs, new_elements, with_path, writes_info, kept_or, kept_tag_files}
 use Rattle.bag_renew.proofs.Common.{named_tag_files, payload_manifest, is_kept, is_new_alg, from_any}
 use Rattle.bag_renew.proofs.Common.{payload_manifests, HasKnownManifests, Renewal}
@@ -34,7 +34,7 @@ use Rattle.bag_tags.specs.Declaration.{declaration_text}
 use Rattle.bag_tags.specs.OnLines.{text_on_lines}
 use Rattle.bag_tags.specs.Writable.{is_unnameable}
 use Rattle.bag_renew.specs.Contents.{IsNew, IsNewText, Stands}
-use Rattle.bag_renew.specs.Renewed.{is_kept_alg, new_rules, renewed, writes_payload_manifest}
+use Rattle.bag_renewed.specs.Renewed.{is_kept_alg, new_rules, renewed, writes_payload_manifest}
 use Rattle.bag_renew.specs.Telling.{AreNameable, ArePaths, AreStillListed, GivesDigests, IsManifestOf, IsNamedByKept}
 use Rattle.bag_renew.specs.Telling.{IsToBeNamed, IsWrittenAnew, NamesAll, NamesFiles, NamesItsFiles, NamesItsPayload}
 use Rattle.bag_renew.specs.Telling.{NewManifestsGiveDigests, RenewedNames, is_to_name, to_name}
@@ -291,14 +291,14 @@ module _ (bag : Bag) (renewal : Renewal) where
       → file now (tag_path (Manifest kind alg)) ≡ Some text
       → IsManifestOf (new_rules bag renewal) now kind alg text
   says Payload alg text anew at =
-      let new = manifest (new_rules bag renewal) alg (payload bag) in
+      let new = manifest_by (new_rules bag renewal) alg (payload bag) in
       elim (kept_or_written bag renewal (tag_path (Manifest Payload alg)) new) [
         | inl old ↦ absurd (false≢true (sym anew ∙ old.0))
         | inr new ↦ (new_text (Manifest Payload alg) text tt at).1 ∙ new.1
-            ∙ ap (manifest (new_rules bag renewal) alg) (sym same_payload)
+            ∙ ap (manifest_by (new_rules bag renewal) alg) (sym same_payload)
       ]
   says Tag alg text anew at =
-      (new_text (Manifest Tag alg) text tt at).1 ∙ ap (manifest (new_rules bag renewal) alg) (sym same_named)
+      (new_text (Manifest Tag alg) text tt at).1 ∙ ap (manifest_by (new_rules bag renewal) alg) (sym same_named)
 
   -- a payload manifest of the renewed bag is the old one, or written anew
   module _ (alg : Alg) (text : List ℕ) (at : file now (tag_path (Manifest Payload alg)) ≡ Some text) where
@@ -309,7 +309,7 @@ module _ (bag : Bag) (renewal : Renewal) where
 
     pub old_or_anew : IsOldOne ⊎ IsWrittenAnew bag renewal Payload alg
     old_or_anew =
-        let new = manifest (new_rules bag renewal) alg (payload bag) in
+        let new = manifest_by (new_rules bag renewal) alg (payload bag) in
         elim (kept_or_written bag renewal (tag_path (Manifest Payload alg)) new) [
           | inl was ↦ inl (was.0, was.1 ∙ ap Some (sym (new_text (Manifest Payload alg) text tt at).1))
           | inr anew ↦ inr anew.0
@@ -320,7 +320,7 @@ module _ (bag : Bag) (renewal : Renewal) where
       → file now (tag_path (Manifest Payload alg)) ≡ file bag (tag_path (Manifest Payload alg))
   same_manifest alg is =
       let path = tag_path (Manifest Payload alg) in
-      let new = manifest (new_rules bag renewal) alg (payload bag) in
+      let new = manifest_by (new_rules bag renewal) alg (payload bag) in
       let two = and_parts (is_new_alg bag renewal alg) (is_kept bag renewal path) is in
       elim (kept_or_written bag renewal path new) [
         | inl was ↦ is_there path (kept_or bag renewal path new)

@@ -9,8 +9,8 @@ use Rattle.std.specs.Str.{str_to_ascii_lowercase}
 use Rattle.bag_facts.proofs.Mapped.{kept, passed}
 use Rattle.bag_text.specs.Text.{same_label}
 use Rattle.bag_tags.specs.Element.{NewElement}
-use Rattle.bag_renew.specs.Elements.{goes, has_label, in_place_of, replaced, some_has}
-use Rattle.bag_renew.specs.declared.renewal.ElementChanges.{ElementChanges}
+use Rattle.bag_renewed.specs.Elements.{goes, has_label, in_place_of, replaced, some_has}
+use Rattle.bag_renewed.specs.declared.renewal.ElementChanges.{ElementChanges}
 
 -- ---- labels
 

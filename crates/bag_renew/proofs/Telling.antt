@@ -14,7 +14,7 @@ use Rattle.bag_read.specs.Manifest.{IsEntry, named}
 use Rattle.bag_read.specs.declared.manifest.ManifestEntry.{ManifestEntry}
 use Rattle.bag_read.proofs.ManifestEntries.{named_has_entry}
 use Rattle.bag_facts.specs.Facts.{IsByV10, rules_in}
-use Rattle.bag_facts.specs.declared.fault.Fault.{Fault}
+use Rattle.bag_faults.specs.declared.fault.Fault.{Fault}
 use Rattle.bag_stages.proofs.BagLists.{some_alg, there_or_not}
 use Rattle.bag_stages.proofs.LeftOut.{by_all, by_one}
 use Rattle.bag_stages.specs.CompletenessStage.{CompletenessHolds, IsOfCompleteness, Missing}

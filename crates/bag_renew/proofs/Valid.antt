@@ -28,9 +28,9 @@ use Rattle.bag_read.specs.LineFault.{not_utf8}
 use Rattle.bag_read.specs.Manifest.{IsEntry}
 use Rattle.bag_read.specs.declared.fetch.FetchEntry.{FetchEntry}
 use Rattle.bag_read.specs.declared.manifest.ManifestEntry.{ManifestEntry}
-use Rattle.bag_facts.specs.FaultOrder.{fault_cmp}
+use Rattle.bag_faults.specs.FaultOrder.{fault_cmp}
 use Rattle.bag_facts.specs.Facts.{rules_in}
-use Rattle.bag_facts.specs.declared.fault.Fault.{Fault}
+use Rattle.bag_faults.specs.declared.fault.Fault.{Fault}
 use Rattle.bag_report.specs.Report.{Is, asks}
 use Rattle.bag_report.specs.Valid.{IsFaultOf, full}
 use Rattle.bag_stages.specs.DeclarationStage.{DeclarationHolds, InDeclaration, IsOfDeclaration}
@@ -45,7 +45,7 @@ use Rattle.bag_tags.specs.Declaration.{declaration_text}
 use Rattle.bag_tree.specs.Bag.{LacksFile}
 use Rattle.bag_tree.specs.Digest.{digest}
 use Rattle.bag_renew.specs.Contents.{IsNewText}
-use Rattle.bag_renew.specs.Renewed.{is_kept_alg, renewed}
+use Rattle.bag_renewed.specs.Renewed.{is_kept_alg, renewed}
 use Rattle.bag_renew.specs.Telling.{GivesDigests, NamesItsFiles, NewManifestsGiveDigests}
 use Rattle.bag_renew.specs.Valid.{CanRenew, HasGoodInfo, IsOldDamage}
 use Rattle.bag_renew.specs.Valid.{RenewedHasOldFaults, RenewedIsValid}

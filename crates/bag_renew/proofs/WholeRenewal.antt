@@ -10,7 +10,7 @@ use Rattle.bag_renew.proofs.SomeChanges.{none_begun, some_changes}
 use Rattle.bag_renew.proofs.Valid.{renewed_has_old_faults}
 use Rattle.std.specs.Option.{option_map}
 use Rattle.std.specs.Prelude.{Result, Ok, Err, IfErr, OnOk, take}
-use Rattle.bag_facts.specs.declared.fault.Fault.{Fault}
+use Rattle.bag_faults.specs.declared.fault.Fault.{Fault}
 use Rattle.bag_tree.specs.ChangeFiles.{HasChanged, LastsResumed, LeavesChange, OutlastsResumedChanges}
 use Rattle.bag_tree.specs.Changes.{AppliesStep, IsUnchanged}
 use Rattle.bag_tree.specs.Cut.{MayLeave, lose}
@@ -27,7 +27,7 @@ use Rattle.bag_renew.specs.Reading.{HasKnownSize, MayRefuseReading}
 use Rattle.bag_renew.specs.OnTheWay.{CanRenewInPlace}
 use Rattle.bag_renew.specs.Planned.{ChangesCompared}
 use Rattle.bag_renew.specs.Renew.{HasBegun, HasNoNewFault, HasPlanned, HasStoppedAt, IsRenewal, LeavesRenewed, MayRefuseRenewing, told_as}
-use Rattle.bag_renew.specs.Request.{is_bad_request}
+use Rattle.bag_renewed.specs.Request.{is_bad_request}
 use Rattle.bag_renew.specs.Valid.{HasGoodInfo, IsOldDamage}
 use Rattle.bag_report.specs.Valid.{IsFaultOf}
 use Rattle.bag_renew.proofs.OnTheWay.{each_cut_has_old_faults}

@@ -3,7 +3,7 @@ use Rattle.bag_renew.proofs.Common.{arith, ◌≡◌, ◌&&◌, ◌∷◌, ◌�
 use Rattle.bag_renew.proofs.Common.{Option, None, Some, map, filter, refl, sym, ap, subst, Contains}
 use Rattle.bag_renew.proofs.Common.{contains_behind, contains_first, any_from, algs, is_payload_path}
 use Rattle.bag_renew.proofs.Common.{and_parts, false≢true, or_left, tag_path, Payload, Tag, Info, Manifest, Alg, Bag, file}
-use Rattle.bag_renew.proofs.Common.{files_of, payload, File, is_kept, is_new_alg, info_files, manifest, new_algs}
+use Rattle.bag_renew.proofs.Common.{files_of, payload, File, is_kept, is_new_alg, info_files, manifest_by, new_algs}
 use Rattle.bag_renew.proofs.Common.{new_rules}
 use Rattle.bag_renew.proofs.Common.{new_elements, payload_manifest, payload_manifests, unkept, with_path, writes_info}
 use Rattle.bag_renew.proofs.Common.{Renewal}
@@ -11,23 +11,23 @@ use Rattle.bag_text.proofs.AlgSets.{each_is_listed}
 use Rattle.bag_text.specs.declared.rules.Rules.{Rules}
 use Rattle.bag_tags.specs.Entry.{manifest_text_by}
 use Rattle.bag_tags.specs.OnLines.{text_on_lines}
-use Rattle.bag_tags.specs.Summed.{manifests_by, summed_entry}
-use Rattle.bag_renew.proofs.AlgsMade.{any_where, has_member_where}
+use Rattle.bag_tags.specs.Summed.{manifests_by, summed_entry, entries_of}
+use Rattle.bag_renewed.proofs.AlgsMade.{any_where, has_member_where}
 use Rattle.bag_renew.proofs.AlgsWhere.{alg_in, passes}
 use Rattle.bag_renew.proofs.KeptOr.{kept_or_written}
-use Rattle.bag_renew.proofs.AlgsMade.{same_where}
+use Rattle.bag_renewed.proofs.AlgsMade.{same_where}
 use Rattle.bag_renew.proofs.SummedFiles.{filter_within}
-use Rattle.bag_renew.specs.Composing.{written_algs}
-use Rattle.bag_renew.specs.NewManifests.{manifests_for}
-use Rattle.bag_renew.specs.Renewed.{algs_where, drops_payload_manifest, entries_of, is_kept_alg, reads_payload}
-use Rattle.bag_renew.specs.Renewed.{writes_payload_manifest}
+use Rattle.bag_renewed.specs.Target.{written_algs}
+use Rattle.bag_checked.specs.NewManifests.{manifests_for}
+use Rattle.bag_renewed.specs.Renewed.{algs_where, drops_payload_manifest, is_kept_alg, reads_payload}
+use Rattle.bag_renewed.specs.Renewed.{writes_payload_manifest}
 use Rattle.bag_renew.specs.NewInfo.{IsNewInfo}
-use Rattle.bag_renew.specs.Summed.{AreSummed, files_to_read, is_to_read, payload_of}
+use Rattle.bag_checked.specs.Summed.{AreSummedBy, files_to_read, is_to_read, payload_of}
 use Rattle.bag_tags.specs.declared.summed.SummedFile.{SummedFile}
 
 -- what a manifest says of files with their digests
 pub entries_are : (algs : List Alg) (alg : Alg) → Contains algs alg → (files : List File)
-    (summed : List SummedFile) → AreSummed algs files summed
+    (summed : List SummedFile) → AreSummedBy algs files summed
     → map (summed_entry alg) summed ≡ entries_of alg files
 entries_are algs alg has [] [] h = refl
 entries_are algs alg has (e ∷ files) (one ∷ summed) (s, rest) =
@@ -43,8 +43,8 @@ mapped_alike f g (x ∷ xs) same =
 
 -- the tag manifests that are put
 pub tag_manifests_are : (rules : Rules) (algs : List Alg) (files : List File) (summed : List SummedFile)
-    → AreSummed algs files summed
-    → manifests_by rules Tag algs summed ≡ map (λ alg. (tag_path (Manifest Tag alg), manifest rules alg files)) algs
+    → AreSummedBy algs files summed
+    → manifests_by rules Tag algs summed ≡ map (λ alg. (tag_path (Manifest Tag alg), manifest_by rules alg files)) algs
 tag_manifests_are rules algs files summed are =
     mapped_alike {B = File} _ _ algs (λ alg has i.
     (tag_path (Manifest Tag alg), manifest_text_by rules (entries_are algs alg has files summed are i)))
@@ -59,7 +59,7 @@ module _ (bag : Bag) (renewal : Renewal) where
 
   -- the manifest of an algorithm that isn't kept
   abbrev new_manifest : Alg → File
-  new_manifest alg = (path_of alg, manifest (new_rules bag renewal) alg (payload bag))
+  new_manifest alg = (path_of alg, manifest_by (new_rules bag renewal) alg (payload bag))
 
   abbrev is_written : Alg → Bool
   is_written alg = is_new_alg bag renewal alg && not (is_kept bag renewal (path_of alg))
@@ -82,7 +82,7 @@ module _ (bag : Bag) (renewal : Renewal) where
       (and_parts (is_new_alg bag renewal alg) (not (is_kept bag renewal (path_of alg))) (passes is_written alg has)).0
 
   manifest_is : (alg : Alg) → is_kept bag renewal (path_of alg) ≡ false → payload_manifest bag renewal alg ≡ new_manifest alg
-  manifest_is alg other = elim (kept_or_written bag renewal (path_of alg) (manifest (new_rules bag renewal) alg (payload bag))) [
+  manifest_is alg other = elim (kept_or_written bag renewal (path_of alg) (manifest_by (new_rules bag renewal) alg (payload bag))) [
     | inl kept ↦ absurd (false≢true (sym other ∙ kept.0))
     | inr written ↦ λ i. (path_of alg, written.1 i)
   ]
@@ -131,10 +131,10 @@ module _ (bag : Bag) (renewal : Renewal) where
       or_left (reads_payload bag renewal) (not (is_payload_path e.0)) read) (files_of bag)
 
   read_manifest : (alg : Alg) → Contains (algs_where is_written) alg
-      → ◌≡◌ {A = File} (path_of alg, manifest (new_rules bag renewal) alg (payload_of read_files)) (new_manifest alg)
+      → ◌≡◌ {A = File} (path_of alg, manifest_by (new_rules bag renewal) alg (payload_of read_files)) (new_manifest alg)
   read_manifest alg has =
       let read = reads_where_written alg (passes is_written alg has) in
-      λ i. (path_of alg, manifest (new_rules bag renewal) alg (payload_read read i))
+      λ i. (path_of alg, manifest_by (new_rules bag renewal) alg (payload_read read i))
 
   pub manifests_put : manifests_for (new_rules bag renewal) (written_algs bag renewal) (payload_of read_files)
       ≡ unkept bag renewal (payload_manifests bag renewal)

@@ -4,7 +4,7 @@ use Rattle.bag_renew.proofs.Common.{map, refl, ap, sym, subst, Contains, All, Al
 use Rattle.bag_renew.proofs.Common.{and_parts, or_from, not_from_true, All-from_recursion, list_any, eq_by_cmp}
 use Rattle.bag_renew.proofs.Common.{bytes_eq, entries_sorted, is_sorted, contains_mapped, mapped_contains, text_cmp}
 use Rattle.bag_renew.proofs.Common.{is_path, is_payload_path, is_manifest_name, Kind, Payload, Tag, Alg, Bag, HasFile}
-use Rattle.bag_renew.proofs.Common.{file, files_of, File, manifest, below_all}
+use Rattle.bag_renew.proofs.Common.{file, files_of, File, manifest_by, below_all}
 use Rattle.std.specs.List.{IsDistinct}
 use Rattle.std.specs.List.Sorted.{IsStrictlySortedBy}
 use Rattle.std.specs.FinMap.Entries.{is_sorted-where_key}
@@ -29,10 +29,10 @@ use Rattle.bag_tags.proofs.ManifestReadAgain.{manifest_again_by}
 use Rattle.bag_facts.proofs.Mapped.{kept, passed}
 use Rattle.bag_tree.proofs.PathEntries.{t_true}
 use Rattle.bag_tree.specs.Digest.{digest}
-use Rattle.bag_renew.specs.Renewed.{entries_of}
+use Rattle.bag_tags.specs.Summed.{entries_of}
 use Rattle.bag_renew.specs.Telling.{AreNameable, ArePaths, GivesDigests, IsManifestOf, IsToBeNamed, NamesAll, WrittenManifestsTell}
 use Rattle.bag_renew.specs.Telling.{is_to_name, paths_named, to_name}
-use Rattle.bag_renew.proofs.Digests.{good_digest}
+use Rattle.bag_tags.proofs.Digests.{good_digest}
 use Rattle.bag_facts.proofs.Found.{content_of, held_at, listed}
 use Rattle.bag_renew.proofs.Places.{at_place, place_of}
 
@@ -133,7 +133,7 @@ module _ (rules : Rules) (bag : Bag) (kind : Kind) (alg : Alg) where
         (All-from_recursion (λ (entry : NewEntry). IsText entry.1) entries good.0, (good.1, each_once))
 
     abbrev text_of : List ℕ
-    text_of = manifest rules alg (to_name bag kind)
+    text_of = manifest_by rules alg (to_name bag kind)
 
     abbrev lines : List (List ℕ)
     lines = lines_of_file text_of

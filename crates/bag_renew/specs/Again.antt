@@ -4,13 +4,13 @@ use Rattle.bag_tags.specs.Element.{NewElement}
 use Rattle.bag_tree.specs.Bag.{Bag, IsBag}
 use Rattle.bag_tree.specs.FileChanges.{IsAfterFirst}
 use Rattle.bag_renew.specs.Changes.{changes}
-use Rattle.bag_renew.specs.Elements.{renewed_elements}
+use Rattle.bag_renewed.specs.Elements.{renewed_elements}
 use Rattle.bag_renew.specs.OnTheWay.{CanRenewInPlace}
-use Rattle.bag_renew.specs.Renewed.{begun_file, renewed, writes_info}
-use Rattle.bag_renew.specs.Request.{is_bad_request}
+use Rattle.bag_renewed.specs.Renewed.{begun_file, renewed, writes_info}
+use Rattle.bag_renewed.specs.Request.{is_bad_request}
 use Rattle.bag_renew.specs.Valid.{HasGoodElements}
-use Rattle.bag_renew.specs.declared.renewal.ElementChanges.{ElementChanges}
-use Rattle.bag_renew.specs.declared.renewal.Renewal.{Renewal}
+use Rattle.bag_renewed.specs.declared.renewal.ElementChanges.{ElementChanges}
+use Rattle.bag_renewed.specs.declared.renewal.Renewal.{Renewal}
 
 -- the law: elements that were renewed are the same when that is asked again
 abbrev pub ElementsAreRenewedOnce : Type 0

@@ -8,10 +8,11 @@ use Rattle.bag_tree.specs.Bag.{Bag, has_file}
 use Rattle.bag_tree.specs.FileChanges.{after_changes}
 use Rattle.bag_tree.specs.declared.file_change.FileChange.{FileChange}
 use Rattle.bag_tree.specs.declared.file_change.FileChange.TheVariants.{Put, Remove}
-use Rattle.bag_renew.specs.Renewed.{File, algs_where, begun_file, declaration_file}
-use Rattle.bag_renew.specs.Renewed.{has_payload_manifest, has_tag_manifest, info_files, is_kept}
-use Rattle.bag_renew.specs.Renewed.{payload_manifests, tag_manifests, writes_info}
-use Rattle.bag_renew.specs.declared.renewal.Renewal.{Renewal}
+use Rattle.bag_renewed.specs.Renewed.{algs_where, begun_file, declaration_file}
+use Rattle.bag_renewed.specs.Renewed.{has_payload_manifest, has_tag_manifest, info_files, is_kept}
+use Rattle.bag_renewed.specs.Renewed.{payload_manifests, tag_manifests, writes_info}
+use Rattle.bag_tags.specs.Summed.{File}
+use Rattle.bag_renewed.specs.declared.renewal.Renewal.{Renewal}
 
 -- those of these files that aren't kept
 abbrev pub unkept : Bag → Renewal → List File → List File

@@ -4,10 +4,11 @@ use Rattle.bag_tree.specs.Bag.{Bag}
 use Rattle.bag_renew.specs.Changes.{put}
 use Rattle.bag_renew.specs.Composing.{AreOfFiles, last_files}
 use Rattle.bag_renew.specs.Planned.{first_from, named_from}
-use Rattle.bag_renew.specs.Renewed.{File, new_algs}
-use Rattle.bag_renew.specs.Summed.{AreSummed}
+use Rattle.bag_renewed.specs.Renewed.{new_algs}
+use Rattle.bag_tags.specs.Summed.{File}
+use Rattle.bag_checked.specs.Summed.{AreSummedBy}
 use Rattle.bag_renew.specs.declared.composing.Composed.{Composed}
-use Rattle.bag_renew.specs.declared.renewal.Renewal.{Renewal}
+use Rattle.bag_renewed.specs.declared.renewal.Renewal.{Renewal}
 
 -- these are the files that are put, and the digests of those that tag manifests name, where these
 -- files of the bag were read
@@ -15,7 +16,7 @@ pub record IsComposed (bag : Bag) (renewal : Renewal) (files : List File) (info 
     (composed : Composed) : Type 0 where
   pub first : composed.first.items ≡ first_from bag renewal files info
   pub last : composed.last.items ≡ last_files bag renewal
-  pub named : AreSummed (new_algs bag renewal) (named_from bag renewal files info)
+  pub named : AreSummedBy (new_algs bag renewal) (named_from bag renewal files info)
       composed.named.items
 
 -- whatever they are composed of, they are files of the base folder

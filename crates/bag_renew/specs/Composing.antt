@@ -1,9 +1,8 @@
 -- What the changes of a renewal are composed of.
-use Rattle.std.specs.Prelude.{ℕ, ◌||◌, ◌&&◌, Bool, not, List, [], ◌∷◌, ◌++◌, Option, bytes_eq}
+use Rattle.std.specs.Prelude.{ℕ, ◌||◌, Bool, not, List, [], ◌∷◌, ◌++◌, Option, bytes_eq}
 use Rattle.std.specs.Prelude.{All, map, if◌then◌else◌}
 use Rattle.std.specs.List.{list_any}
 use Rattle.bag_text.specs.Bytes.{Path}
-use Rattle.bag_text.specs.AlgList.{has_member}
 use Rattle.bag_text.specs.Path.{is_payload_path}
 use Rattle.bag_text.specs.declared.alg.Alg.{Alg}
 use Rattle.bag_text.specs.declared.rules.Rules.{Rules}
@@ -12,17 +11,17 @@ use Rattle.bag_read.specs.declared.kind.Kind.{Kind}
 use Rattle.bag_read.specs.declared.kind.Kind.TheVariants.{Payload, Tag}
 use Rattle.bag_read.specs.declared.tag_name.TagName.{TagName}
 use Rattle.bag_read.specs.declared.tag_name.TagName.TheVariants.{Declaration, Info, Manifest}
-use Rattle.bag_tags.specs.Summed.{manifests_by}
+use Rattle.bag_tags.specs.Summed.{manifests_by, File}
 use Rattle.bag_tree.specs.Bag.{Bag}
 use Rattle.bag_tree.specs.ChangeFiles.{IsOfFile}
 use Rattle.bag_tree.specs.declared.file_change.FileChange.{FileChange}
 use Rattle.bag_tree.specs.declared.file_change.FileChange.TheVariants.{Remove}
 use Rattle.bag_renew.specs.Changes.{put, unkept}
-use Rattle.bag_renew.specs.Renewed.{File, algs_where, begun_file, declaration_file, in_path_order}
-use Rattle.bag_renew.specs.Renewed.{info_files, is_kept, is_kept_alg, new_algs, payload_manifests}
-use Rattle.bag_renew.specs.Renewed.{stays, writes_info}
-use Rattle.bag_renew.specs.Summed.{AreSummed}
-use Rattle.bag_renew.specs.declared.renewal.Renewal.{Renewal}
+use Rattle.bag_renewed.specs.Renewed.{algs_where, begun_file, declaration_file, in_path_order}
+use Rattle.bag_renewed.specs.Renewed.{info_files, is_kept, is_kept_alg, payload_manifests, stays}
+use Rattle.bag_renewed.specs.Renewed.{writes_info}
+use Rattle.bag_checked.specs.Summed.{AreSummedBy}
+use Rattle.bag_renewed.specs.declared.renewal.Renewal.{Renewal}
 use Rattle.bag_tags.specs.declared.summed.SummedFile.{SummedFile}
 
 abbrev pub is_tag_file : File → Bool
@@ -42,15 +41,7 @@ is_tag_path path = not (is_payload_path path)
 
 -- these digests are of these files in the order of their paths
 abbrev pub AreInPathOrder : List Alg → List File → List SummedFile → Type 0
-AreInPathOrder algs files summed = AreSummed algs (in_path_order files) summed
-
--- the members of two sets of algorithms
-abbrev pub in_either : List Alg → List Alg → List Alg
-in_either some more = algs_where (λ alg. has_member some alg || has_member more alg)
-
--- the members of one set of algorithms that aren't in another
-abbrev pub in_first : List Alg → List Alg → List Alg
-in_first set other = algs_where (λ alg. has_member set alg && not (has_member other alg))
+AreInPathOrder algs files summed = AreSummedBy algs (in_path_order files) summed
 
 -- the manifests of these algorithms are removed
 abbrev pub removals_of : Kind → List Alg → List FileChange
@@ -86,7 +77,3 @@ module _ (bag : Bag) (renewal : Renewal) where
   first_files =
       (if writes_info bag renewal then info_files bag renewal else [])
       ++ unkept bag renewal (payload_manifests bag renewal)
-
-  -- the algorithms whose payload manifest is put
-  abbrev pub written_algs : List Alg
-  written_algs = in_first (new_algs bag renewal) (algs_where (is_kept_alg bag renewal))

@@ -10,9 +10,10 @@ use Rattle.bag_tree.specs.Bag.{Bag, file}
 use Rattle.bag_stages.specs.Payload.{payload}
 use Rattle.bag_tags.specs.Declaration.{declaration_text}
 use Rattle.bag_tags.specs.OnLines.{text_on_lines}
-use Rattle.bag_renew.specs.Renewed.{kept_or, manifest, named_tag_files, new_algs, new_elements}
-use Rattle.bag_renew.specs.Renewed.{new_rules, renewed, stays, writes_info}
-use Rattle.bag_renew.specs.declared.renewal.Renewal.{Renewal}
+use Rattle.bag_renewed.specs.Renewed.{kept_or, named_tag_files, new_algs, new_elements, new_rules}
+use Rattle.bag_renewed.specs.Renewed.{renewed, stays, writes_info}
+use Rattle.bag_tags.specs.Summed.{manifest_by}
+use Rattle.bag_renewed.specs.declared.renewal.Renewal.{Renewal}
 
 -- a file of the bag that stays: one of the payload, or a tag file that isn't written anew
 abbrev pub IsOld : Bag → Path → Content → Type 0
@@ -35,10 +36,10 @@ module _ (bag : Bag) (renewal : Renewal) where
   IsNewText (Manifest Payload alg) text =
       Contains (new_algs bag renewal) alg
       × IsKeptOr (tag_path (Manifest Payload alg))
-      (manifest (new_rules bag renewal) alg (payload bag)) text
+      (manifest_by (new_rules bag renewal) alg (payload bag)) text
   IsNewText (Manifest Tag alg) text =
       Contains (new_algs bag renewal) alg
-      × (text ≡ manifest (new_rules bag renewal) alg (named_tag_files bag renewal))
+      × (text ≡ manifest_by (new_rules bag renewal) alg (named_tag_files bag renewal))
 
   abbrev pub IsNew : Path → List ℕ → Type 0
   IsNew path text = (name : TagName) × (path ≡ tag_path name) × IsNewText name text

@@ -4,10 +4,10 @@ use Rattle.std.specs.List.{list_any}
 use Rattle.bag_text.specs.Text.{same_label}
 use Rattle.bag_tags.specs.Element.{NewElement}
 use Rattle.bag_stages.specs.MetadataStage.{oxum_label}
-use Rattle.bag_renew.specs.Elements.{after_oxum, before_oxum, goes, has_label, is_same}
-use Rattle.bag_renew.specs.Elements.{renewed_elements, some_has}
-use Rattle.bag_renew.specs.Request.{is_bad_request}
-use Rattle.bag_renew.specs.declared.renewal.ElementChanges.{ElementChanges}
+use Rattle.bag_renewed.specs.Elements.{after_oxum, before_oxum, goes, has_label, is_same}
+use Rattle.bag_renewed.specs.Elements.{renewed_elements, some_has}
+use Rattle.bag_renewed.specs.Request.{is_bad_request}
+use Rattle.bag_renewed.specs.declared.renewal.ElementChanges.{ElementChanges}
 
 -- those of these elements that have a label, in their order
 abbrev pub those_with : List ℕ → List NewElement → List NewElement

@@ -10,9 +10,9 @@ use Rattle.bag_tree.specs.FileChanges.{CanChangeAll, after_changes}
 use Rattle.bag_stages.specs.Payload.{payload}
 use Rattle.bag_stages.specs.TagFiles.{HasManifest}
 use Rattle.bag_renew.specs.Changes.{after, changes}
-use Rattle.bag_renew.specs.Renewed.{begun_file, renewed}
+use Rattle.bag_renewed.specs.Renewed.{begun_file, renewed}
 use Rattle.bag_renew.specs.Reserved.{IsOutOfTheWay}
-use Rattle.bag_renew.specs.declared.renewal.Renewal.{Renewal}
+use Rattle.bag_renewed.specs.declared.renewal.Renewal.{Renewal}
 
 -- its manifests are of supported algorithms alone, as those of a bag without a fault are
 abbrev pub HasKnownManifests : Bag → Type 0

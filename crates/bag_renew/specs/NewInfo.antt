@@ -7,19 +7,14 @@ use Rattle.bag_stages.specs.MetadataStage.{bag_info_txt}
 use Rattle.bag_stages.specs.Payload.{oxum}
 use Rattle.bag_read.specs.Oxum.{oxum_text}
 use Rattle.bag_stages.specs.TagFiles.{lines_in}
-use Rattle.bag_text.specs.Text.{IsText}
-use Rattle.bag_tags.specs.Element.{NewElement}
+use Rattle.bag_tags.specs.Element.{AreTexts, NewElement}
 use Rattle.bag_tags.specs.OnLines.{is_bad_long_element, text_on_lines}
 use Rattle.bag_tree.specs.Bag.{Bag}
-use Rattle.bag_renew.specs.Elements.{elements_on, renewed_elements}
-use Rattle.bag_renew.specs.Renewed.{writes_info}
+use Rattle.bag_renewed.specs.Elements.{elements_on, renewed_elements}
+use Rattle.bag_renewed.specs.Renewed.{writes_info}
 use Rattle.bag_renew.specs.declared.fault.RenewFault.{RenewFault}
 use Rattle.bag_renew.specs.declared.fault.RenewFault.TheVariants.{BadValue, Memory}
-use Rattle.bag_renew.specs.declared.renewal.Renewal.{Renewal}
-
--- a label and its value are texts
-abbrev pub AreTexts : NewElement → Type 0
-AreTexts element = IsText element.0 × IsText element.1
+use Rattle.bag_renewed.specs.declared.renewal.Renewal.{Renewal}
 
 -- the labels and the values of elements that were read
 abbrev pub labels_and_values : List Element → List NewElement

@@ -14,19 +14,19 @@ use Rattle.bag_read.specs.declared.kind.Kind.TheVariants.{Payload, Tag}
 use Rattle.bag_read.specs.declared.tag_name.TagName.TheVariants.{Fetch}
 use Rattle.bag_facts.specs.FactsOfBag.{IfBagRead, IsByV097, IsFactsOf}
 use Rattle.bag_facts.specs.declared.facts.Facts.{Facts}
-use Rattle.bag_facts.specs.declared.options.Depth.TheVariants as depth_of
+use Rattle.bag_faults.specs.declared.options.Depth.TheVariants as depth_of
 use Rattle.bag_stages.specs.TagFiles.{Names, named_in}
 use Rattle.bag_tags.specs.Writable as by_rules
 use Rattle.bag_tree.specs.Bag.{Bag, HasFile, LacksFile, files_of, has_folder}
 use Rattle.bag_tree.specs.Tree.{MayReportMemory, TreeState}
 use Rattle.bag_renew.specs.Folders.{IsRefusedLook}
-use Rattle.bag_renew.specs.Renewed.{begun_file, is_kept_alg, keeps, new_algs, new_rules}
-use Rattle.bag_renew.specs.Renewed.{writes_payload_manifest}
+use Rattle.bag_renewed.specs.Renewed.{begun_file, is_kept_alg, keeps, new_algs, new_rules}
+use Rattle.bag_renewed.specs.Renewed.{writes_payload_manifest}
 use Rattle.bag_renew.specs.Reserved.{IsOutOfTheWay, reserved_names}
 use Rattle.bag_renew.specs.Telling.{AreNameable, AreStillListed}
 use Rattle.bag_renew.specs.declared.fault.RenewFault.{RenewFault}
 use Rattle.bag_renew.specs.declared.fault.RenewFault.TheVariants as why
-use Rattle.bag_renew.specs.declared.renewal.Renewal.{Renewal}
+use Rattle.bag_renewed.specs.declared.renewal.Renewal.{Renewal}
 
 -- a tag manifest names the path
 abbrev pub IsNamedAsTag : Bag → Path → Type 0

@@ -3,7 +3,7 @@ use Rattle.std.specs.Prelude.{ℕ, ◌≡◌, ◌⊎◌, false, true}
 use Rattle.bag_text.specs.Bytes.{Path}
 use Rattle.bag_text.specs.declared.alg.Alg.{Alg}
 use Rattle.bag_read.specs.declared.kind.Kind.TheVariants.{Tag}
-use Rattle.bag_facts.specs.declared.fault.Fault.{Fault}
+use Rattle.bag_faults.specs.declared.fault.Fault.{Fault}
 use Rattle.bag_stages.specs.TagFiles.{Names}
 use Rattle.bag_tree.specs.Bag.{Bag, HasFile}
 use Rattle.bag_tree.specs.FileChanges.{IsAfterFirst}
@@ -11,9 +11,10 @@ use Rattle.bag_report.specs.Valid.{HasNoFault, IsFaultOf}
 use Rattle.bag_renew.specs.Changes.{after, changes}
 use Rattle.bag_renew.specs.Reserved.{IsOutOfTheWay}
 use Rattle.bag_renew.specs.Obstacles.{has_percent}
-use Rattle.bag_renew.specs.Renewed.{begun_file, keeps}
-use Rattle.bag_renew.specs.Valid.{CanRenew, HasGoodInfo, IsDamage}
-use Rattle.bag_renew.specs.declared.renewal.Renewal.{Renewal}
+use Rattle.bag_renewed.specs.Renewed.{begun_file, keeps}
+use Rattle.bag_renew.specs.Valid.{CanRenew, HasGoodInfo}
+use Rattle.bag_checked.specs.FirstFaults.{IsDamage}
+use Rattle.bag_renewed.specs.declared.renewal.Renewal.{Renewal}
 
 -- no tag manifest of the bag names a file that has the name of one that is begun
 abbrev pub NoTagManifestNamesBegun : Bag → Type 0

@@ -8,14 +8,15 @@ use Rattle.bag_tree.specs.Bag.{Bag}
 use Rattle.bag_tree.specs.Tree.{TreeState}
 use Rattle.bag_tree.specs.declared.file_change.FileChange.{FileChange}
 use Rattle.bag_renew.specs.Changes.{clearing, dropping, opening, put}
-use Rattle.bag_renew.specs.Compared.{AreCompared}
-use Rattle.bag_renew.specs.Composing.{is_tag_file, keeps_bytes, kept_names, last_files, written_algs}
+use Rattle.bag_checked.specs.Compared.{AreCompared}
+use Rattle.bag_renew.specs.Composing.{is_tag_file, keeps_bytes, kept_names, last_files}
+use Rattle.bag_renewed.specs.Target.{written_algs}
 use Rattle.bag_renew.specs.NewInfo.{IsInfoAfter}
-use Rattle.bag_renew.specs.NewManifests.{manifests_for}
-use Rattle.bag_renew.specs.Renewed.{File, in_path_order, manifest, new_algs, new_rules}
-use Rattle.bag_renew.specs.Renewed.{reads_payload, with_path}
-use Rattle.bag_renew.specs.Summed.{IsInfoAmong, payload_of}
-use Rattle.bag_renew.specs.declared.renewal.Renewal.{Renewal}
+use Rattle.bag_checked.specs.NewManifests.{manifests_for}
+use Rattle.bag_renewed.specs.Renewed.{in_path_order, new_algs, new_rules, reads_payload, with_path}
+use Rattle.bag_tags.specs.Summed.{File, manifest_by}
+use Rattle.bag_checked.specs.Summed.{IsInfoAmong, payload_of}
+use Rattle.bag_renewed.specs.declared.renewal.Renewal.{Renewal}
 
 -- of a bag these files were read, and this is the bag-info.txt that is written, if one is
 module _ (bag : Bag) (renewal : Renewal) (files : List File) (info : Option (List ℕ)) where
@@ -35,7 +36,7 @@ module _ (bag : Bag) (renewal : Renewal) (files : List File) (info : Option (Lis
 
   abbrev pub tag_manifests_from : List File
   tag_manifests_from =
-      map (λ alg. (tag_path (Manifest Tag alg), manifest (new_rules bag renewal) alg named_from))
+      map (λ alg. (tag_path (Manifest Tag alg), manifest_by (new_rules bag renewal) alg named_from))
       (new_algs bag renewal)
 
   -- all changes: files are removed by their names, and these are put

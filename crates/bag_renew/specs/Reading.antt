@@ -8,8 +8,7 @@ use Rattle.bag_facts.specs.Stops.{IsOfListing, MayRefuseFacts, ReportsAnswer}
 use Rattle.bag_facts.specs.TagReader.{OpensAll}
 use Rattle.bag_facts.specs.Wanted.{ForListing}
 use Rattle.bag_facts.specs.declared.facts.Facts.{Facts}
-use Rattle.bag_facts.specs.declared.fault.Fault.{Fault}
-use Rattle.bag_facts.specs.declared.options.Depth.TheVariants.{Declaration}
+use Rattle.bag_faults.specs.declared.options.Depth.TheVariants.{Declaration}
 use Rattle.bag_stages.specs.MetadataStage.{bag_info_txt}
 use Rattle.bag_stages.specs.Payload.{oxum}
 use Rattle.bag_stages.specs.TagFiles.{lines_in}
@@ -18,27 +17,29 @@ use Rattle.bag_tree.specs.Bag.{Bag, IsBag, files_of}
 use Rattle.bag_tree.specs.Tree.{Keeps, MayReportMemory, NothingFailed, TreeState}
 use Rattle.bag_tree.specs.declared.tree_fault.Stop.{Stop}
 use Rattle.bag_tree.specs.declared.tree_fault.TreeFault.TheVariants as cause_of
-use Rattle.bag_report.specs.Valid.{HasNoFault, IsFaultOf, full}
-use Rattle.bag_renew.specs.Compared.{AreCompared}
-use Rattle.bag_renew.specs.FirstFaults.{HasNoneBefore, IsFirst, IsFoundFirst, IsLookedFor}
+use Rattle.bag_report.specs.Valid.{HasNoFault, full}
+use Rattle.bag_checked.specs.Compared.{AreCompared}
+use Rattle.bag_checked.specs.FirstFaults.{HasNoEarlyFault, HasNoneBefore, IsFirst, IsFoundFirst}
+use Rattle.bag_checked.specs.FirstFaults.{IsLookedFor}
 use Rattle.bag_renew.specs.Folders.{IsRefusedLook}
 use Rattle.bag_renew.specs.NewInfo.{CanWriteInfo, IsInfoRefusal}
-use Rattle.bag_renew.specs.NewManifests.{OpensRead}
+use Rattle.bag_checked.specs.NewManifests.{OpensRead}
 use Rattle.bag_renew.specs.Obstacles.{CanNameFiles, HasNoObstacle, IfOwn, IsFreeToChange}
 use Rattle.bag_renew.specs.Obstacles.{IsInTheWay, IsObstacle}
-use Rattle.bag_renew.specs.Renewed.{File, new_algs, new_elements, reads_payload, writes_info}
-use Rattle.bag_renew.specs.Request.{is_bad_request}
+use Rattle.bag_renewed.specs.Renewed.{new_algs, new_elements, reads_payload, writes_info}
+use Rattle.bag_tags.specs.Summed.{File}
+use Rattle.bag_renewed.specs.Request.{is_bad_request}
 use Rattle.bag_renew.specs.Reserved.{IsOutOfTheWay, reserved_names}
-use Rattle.bag_renew.specs.Stops.{IsOfFile}
-use Rattle.bag_renew.specs.Summed.{AreSummed, IsInfoAmong, files_to_read}
-use Rattle.bag_renew.specs.Target.{IsTargetFor}
+use Rattle.bag_checked.specs.Stops.{IsOfFile}
+use Rattle.bag_checked.specs.Summed.{AreSummedBy, IsInfoAmong, files_to_read}
+use Rattle.bag_renewed.specs.Target.{IsTargetFor}
 use Rattle.bag_renew.specs.Valid.{CanRenew, HasGoodElements}
-use Rattle.bag_renew.specs.declared.checked.Unchecked.{Unchecked}
-use Rattle.bag_renew.specs.declared.checked.Unchecked.TheVariants as checked
+use Rattle.bag_checked.specs.declared.checked.Unchecked.{Unchecked}
+use Rattle.bag_checked.specs.declared.checked.Unchecked.TheVariants as checked
 use Rattle.bag_renew.specs.declared.fault.RenewFault.{RenewFault}
 use Rattle.bag_renew.specs.declared.fault.RenewFault.TheVariants as why
-use Rattle.bag_renew.specs.declared.renewal.Renewal.{Renewal}
-use Rattle.bag_renew.specs.declared.target.Target.{Target}
+use Rattle.bag_renewed.specs.declared.renewal.Renewal.{Renewal}
+use Rattle.bag_renewed.specs.declared.target.Target.{Target}
 use Rattle.bag_tags.specs.declared.summed.SummedFile.{SummedFile}
 
 -- the number of the payload's files and of their bytes can be written
@@ -64,13 +65,13 @@ pub record HasReadBag (renewal : Renewal) (old new : TreeState) (facts : Facts)
   pub options : facts.options ≡ full
   pub seen : (bag : Bag) × IsBag bag × IsFactsOf bag facts
   pub of_bag : IsTrue old.honest → IsFactsOf old.bag facts
-  pub sums : IsTrue old.honest → AreSummed (new_algs old.bag renewal)
+  pub sums : IsTrue old.honest → AreSummedBy (new_algs old.bag renewal)
       (files_to_read (reads_payload old.bag renewal) (files_of old.bag)) summed
   -- over any tree these files were read, of which digests were compared and computed
   pub files : List File
   pub compared : AreCompared seen.0 (reads_payload seen.0 renewal) files old new
   pub summed_of : (bag : Bag) → IsFactsOf bag facts
-      → AreSummed (new_algs bag renewal) files summed
+      → AreSummedBy (new_algs bag renewal) files summed
   pub info_of : IsInfoAmong files info
   pub lines : IsTrue old.honest → lines_of_file info ≡ lines_in old.bag bag_info_txt
 
@@ -94,10 +95,6 @@ pub record MayStopReadingBag (renewal : Renewal) (old new : TreeState) (stop : S
   pub answered : ReportsAnswer new stop
   pub path : IsOfListing old new stop ⊎ IsOfLook old new stop
       ⊎ IsOfFile (λ bag. reads_payload bag renewal) old new stop
-
--- the bag has no fault of the stages that open no payload file
-abbrev pub HasNoEarlyFault : Bag → Type 0
-HasNoEarlyFault bag = (f : Fault) → IsFaultOf bag f → stage f.code < 7 → ⊥
 
 -- Why a bag isn't renewed before a file of it was changed: of an honest tree for what its bag is. A
 -- fault is the first that is looked for, in the order of a report; but a digest that differs is told

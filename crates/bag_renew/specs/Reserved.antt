@@ -7,7 +7,7 @@ use Rattle.bag_read.specs.declared.kind.Kind.{Kind}
 use Rattle.bag_read.specs.declared.kind.Kind.TheVariants.{Payload, Tag}
 use Rattle.bag_read.specs.declared.tag_name.TagName.TheVariants.{Declaration, Info, Manifest}
 use Rattle.bag_tree.specs.Bag.{Bag, has_folder}
-use Rattle.bag_renew.specs.Renewed.{begun_file}
+use Rattle.bag_renewed.specs.Renewed.{begun_file}
 
 -- the names of the manifests of a kind, of each supported algorithm
 unfoldable pub manifest_names : Kind → List Name

@@ -16,7 +16,7 @@ use Rattle.bag_read.specs.declared.line_fault.LineFault.{LineFault}
 use Rattle.bag_read.specs.declared.manifest.ManifestEntry.{ManifestEntry}
 use Rattle.bag_read.specs.declared.tag_name.TagName.TheVariants.{Manifest}
 use Rattle.bag_facts.specs.Facts.{IsByV10, rules_in}
-use Rattle.bag_facts.specs.declared.fault.Fault.{Fault}
+use Rattle.bag_faults.specs.declared.fault.Fault.{Fault}
 use Rattle.bag_stages.specs.CompletenessStage.{IsOfCompleteness}
 use Rattle.bag_stages.specs.LeftOut.{IsLeftOut}
 use Rattle.bag_stages.specs.ManifestsStage.{IsOfManifests}
@@ -27,9 +27,10 @@ use Rattle.bag_stages.specs.Payload.{payload}
 use Rattle.bag_tree.specs.Bag.{Bag, HasFile, IsBag, file, files_of}
 use Rattle.bag_tree.specs.Digest.{digest}
 use Rattle.bag_renew.specs.Laws.{HasKnownManifests}
-use Rattle.bag_renew.specs.Renewed.{File, is_kept, is_kept_alg, manifest, new_rules, renewed}
-use Rattle.bag_renew.specs.Renewed.{writes_payload_manifest}
-use Rattle.bag_renew.specs.declared.renewal.Renewal.{Renewal}
+use Rattle.bag_renewed.specs.Renewed.{is_kept, is_kept_alg, new_rules, renewed}
+use Rattle.bag_renewed.specs.Renewed.{writes_payload_manifest}
+use Rattle.bag_tags.specs.Summed.{File, manifest_by}
+use Rattle.bag_renewed.specs.declared.renewal.Renewal.{Renewal}
 
 -- a manifest of a kind is to name the path: one of the payload, or of another file that is no tag
 -- manifest
@@ -116,7 +117,7 @@ BagsThatTellTheirFilesAreValid =
 
 -- the text is that of the manifest that is written by these rules
 abbrev pub IsManifestOf : Rules → Bag → Kind → Alg → Content → Type 0
-IsManifestOf rules bag kind alg text = text ≡ manifest rules alg (to_name bag kind)
+IsManifestOf rules bag kind alg text = text ≡ manifest_by rules alg (to_name bag kind)
 
 -- a line of a manifest can name each path by these rules
 abbrev pub AreNameable : Rules → Bag → Type 0

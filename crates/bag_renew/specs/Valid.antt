@@ -4,25 +4,21 @@ use Rattle.std.specs.List.{list_any}
 use Rattle.bag_text.specs.Bytes.{Content}
 use Rattle.bag_text.specs.Text.{IsText}
 use Rattle.bag_text.specs.declared.alg.Alg.{Alg}
-use Rattle.bag_text.specs.declared.code.Code.TheVariants.{PayloadSumDiffers}
 use Rattle.bag_read.specs.ManifestName.{tag_path}
 use Rattle.bag_read.specs.declared.tag_name.TagName.TheVariants.{Fetch, Info}
-use Rattle.bag_facts.specs.declared.fault.Fault.{Fault}
+use Rattle.bag_faults.specs.declared.fault.Fault.{Fault}
 use Rattle.bag_report.specs.Report.{asks}
 use Rattle.bag_report.specs.Valid.{HasNoFault, IsFaultOf, full}
 use Rattle.bag_stages.specs.MetadataStage.{IsOfMetadata, oxum_label}
 use Rattle.bag_stages.specs.Payload.{oxum}
 use Rattle.bag_tags.specs.OnLines.{is_bad_long_element}
 use Rattle.bag_tree.specs.Bag.{Bag, IsBag, LacksFile, file}
-use Rattle.bag_renew.specs.Elements.{has_label}
-use Rattle.bag_renew.specs.Renewed.{is_dropped_alg, is_kept_alg, keeps, new_algs, new_elements}
-use Rattle.bag_renew.specs.Renewed.{new_rules, renewed, writes_info}
+use Rattle.bag_renewed.specs.Elements.{has_label}
+use Rattle.bag_checked.specs.FirstFaults.{IsDamage}
+use Rattle.bag_renewed.specs.Renewed.{is_dropped_alg, is_kept_alg, keeps, new_algs, new_elements}
+use Rattle.bag_renewed.specs.Renewed.{new_rules, renewed, writes_info}
 use Rattle.bag_renew.specs.Telling.{AreNameable, AreStillListed}
-use Rattle.bag_renew.specs.declared.renewal.Renewal.{Renewal}
-
--- a file of the payload has another digest than a manifest gives
-abbrev pub IsDamage : Fault → Type 0
-IsDamage f = f.code ≡ PayloadSumDiffers
+use Rattle.bag_renewed.specs.declared.renewal.Renewal.{Renewal}
 
 -- A bag that can be renewed: it has no fault but damage of the payload; one of 0.97 that becomes one
 -- of 1.0 has nothing to fetch, since it spells paths otherwise; an algorithm is left, and manifests

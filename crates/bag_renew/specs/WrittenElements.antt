@@ -1,10 +1,10 @@
 -- The elements that are read of the bag-info.txt that a renewal writes (RFC 8493, 2.2.2).
 use Rattle.std.specs.Prelude.{◌≡◌, true}
 use Rattle.bag_tree.specs.Bag.{Bag}
-use Rattle.bag_renew.specs.Elements.{elements_of}
-use Rattle.bag_renew.specs.Renewed.{new_elements, renewed, writes_info}
+use Rattle.bag_renewed.specs.Elements.{elements_of}
+use Rattle.bag_renewed.specs.Renewed.{new_elements, renewed, writes_info}
 use Rattle.bag_renew.specs.Valid.{HasGoodElements}
-use Rattle.bag_renew.specs.declared.renewal.Renewal.{Renewal}
+use Rattle.bag_renewed.specs.declared.renewal.Renewal.{Renewal}
 
 -- the law: of the bag-info.txt that is written just these elements are read
 abbrev pub WrittenElementsAreRead : Type 0

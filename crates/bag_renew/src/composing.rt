@@ -4,16 +4,17 @@ ghost use Rattle.bag_renew.specs.Changes.{put};
 ghost use Rattle.bag_renew.specs.Composed.{IsComposed, PutsFiles};
 ghost use Rattle.bag_renew.specs.Composing.{AreOfFiles, tag_manifests_of};
 ghost use Rattle.bag_renew.specs.Planned.{changes_from};
-ghost use Rattle.bag_renew.specs.Renewed.{File, new_algs};
-ghost use Rattle.bag_renew.specs.Summed.{AreSummed};
-ghost use Rattle.bag_renew.specs.Target.{IfTarget, OfTarget};
+ghost use Rattle.bag_renewed.specs.Renewed.{new_algs};
+ghost use Rattle.bag_tags.specs.Summed.{File};
+ghost use Rattle.bag_checked.specs.Summed.{AreSummedBy};
+ghost use Rattle.bag_renewed.specs.Target.{IfTarget, OfTarget};
 
 use crate::named::{named_tag_files, parted};
 use crate::removing::{dropped, opened};
 use crate::tag_files::{first_files, kept_names, last_files};
-use crate::target::Target;
 use bag_facts::Facts;
 use bag_read::Kind;
+use bag_renewed::Target;
 use bag_tags::{SummedFile, TagFile, manifests_by};
 use bag_text::{Alg, Items, Rules};
 use bag_tree::FileChange;
@@ -40,7 +41,7 @@ pub(crate) fn changes_of(
     info: Option<Items<u8>>,
 ) -> Result<Vec<FileChange>, AllocError>
     ensures changes { IfOk result (λ made. IfTarget facts.now target.now (λ bag renewal.
-        (files : List File) → AreSummed (new_algs bag renewal) files summed.items
+        (files : List File) → AreSummedBy (new_algs bag renewal) files summed.items
         → made.items ≡ changes_from bag renewal files info)) }
     ensures files { IfOk result (λ made. AreOfFiles made.items) }
 {
@@ -63,7 +64,7 @@ fn compose(
     info: Option<Items<u8>>,
 ) -> Result<Composed, AllocError>
     ensures composed { IfOk result (λ composed. OfTarget target.now (λ bag renewal.
-        (files : List File) → AreSummed (new_algs bag renewal) files summed.items
+        (files : List File) → AreSummedBy (new_algs bag renewal) files summed.items
         → IsComposed bag renewal files info composed)) }
     ensures files { IfOk result PutsFiles }
 {

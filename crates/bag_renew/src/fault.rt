@@ -2,7 +2,7 @@
 ghost use Rattle.bag_renew.specs.Reading.{IsRefusalOf, IsRefusalOfStop};
 
 use crate::Unchecked;
-use bag_facts::Fault;
+use bag_faults::Fault;
 use bag_text::Text;
 use bag_tree::{Stop, TreeFault};
 

@@ -5,23 +5,21 @@ ghost use Rattle.bag_facts.specs.FactsOfBag.{IfBagRead, IsFactsOf};
 ghost use Rattle.bag_read.specs.Oxum.{oxum_text};
 ghost use Rattle.bag_stages.specs.MetadataStage.{bag_info_txt};
 ghost use Rattle.bag_stages.specs.PayloadSize.{listed_oxum};
+ghost use Rattle.bag_tags.specs.Element.{AreTexts};
 ghost use Rattle.bag_tags.specs.OnLines as bad;
 ghost use Rattle.bag_stages.specs.TagFiles.{lines_in};
 ghost use Rattle.bag_text.specs.Lines.{lines_of_file};
-ghost use Rattle.bag_text.specs.Text.{IsText};
 ghost use Rattle.bag_tree.specs.Bag.{Bag};
-ghost use Rattle.bag_renew.specs.Elements.{elements_of, elements_on};
+ghost use Rattle.bag_renewed.specs.Elements.{elements_of, elements_on};
 ghost use Rattle.bag_renew.specs.NewInfo as info;
-ghost use Rattle.bag_renew.specs.NewInfo.{AreTexts, CanBeWritten, CanWriteInfo};
-ghost use Rattle.bag_renew.specs.NewInfo.{IsInfoAfter, IsInfoRefusal};
-ghost use Rattle.bag_renew.specs.Target.{IsTargetOf};
+ghost use Rattle.bag_renew.specs.NewInfo.{CanBeWritten, CanWriteInfo, IsInfoAfter, IsInfoRefusal};
+ghost use Rattle.bag_renewed.specs.Target.{IsTargetOf};
 
-use crate::elements::renewed_elements;
-use crate::target::Target;
 use crate::{RenewFault, Renewal};
 use bag_facts::Facts;
 use bag_read::read_info;
-use bag_tags::{Element, is_bad_long_element, write_long_info};
+use bag_renewed::{Target, renewed_elements};
+use bag_tags::{Element, are_texts, is_bad_long_element, oxum_value, write_long_info};
 use bag_text::{Items, Rules, Text, is_payload};
 use bag_tree::FileEntry;
 use std::alloc::{AllocError, Global};
@@ -100,11 +98,6 @@ fn is_bad(element: &(Text, Text)) -> bool
     is_bad_long_element(element)
 }
 
-/// The law that what a `&str` holds is a text.
-fn are_texts(label: &str, value: &str)
-    ensures { IsText label.now × IsText value.now }
-{}
-
 /// The elements of the renewed bag, which all can be written, where the bag had these.
 fn new_elements(
     alloc: Global,
@@ -182,5 +175,5 @@ fn size_text(alloc: Global, files: &[FileEntry]) -> Result<Text, AllocError>
             streams += 1;
         }
     }
-    Ok(Text::from_string(format!(in alloc; "{octets}.{streams}")?))
+    oxum_value(alloc, octets, streams)
 }

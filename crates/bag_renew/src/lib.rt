@@ -1,19 +1,17 @@
-//! The renewed bag of a bag: its tag files written anew in place, and its payload as it was.
+//! Renewing a bag in place: one tag file after the other is put or removed, and its payload stays.
 //!
 //! ```
 //! let mut renewal = Renewal::nothing(alloc);
 //! renewal.added = AlgSet::empty().with(Alg::Sha512);
-//! let sums = check_and_sum(alloc, &mut tree, file, &expected, algs, &mut buffer)?;
-//! for manifest in &new_manifests(alloc, &mut tree, renewal.added)? {
-//!     let bytes = manifest.content.as_slice();
-//! }
+//! renew(alloc, &mut tree, &renewal)?;
 //! ```
 //!
-//! Manifests of further algorithms are made, and elements of `bag-info.txt` are set (RFC 8493, 2.1.1,
-//! 2.1.3, 2.2.1 and 2.2.2). A bag of version 0.97 stays one and is written by its rules, or becomes
-//! one of 1.0 where that is asked. After the tag files were read for what they say, each file is read
-//! once: the digests that manifests give are compared, and the new ones computed, over the same
-//! bytes; and the elements that stay are read of these bytes.
+//! What the renewed bag is, `bag_renewed` says: manifests of further algorithms are made, and elements
+//! of `bag-info.txt` are set (RFC 8493, 2.1.1, 2.1.3, 2.2.1 and 2.2.2). A bag of version 0.97 stays
+//! one and is written by its rules, or becomes one of 1.0 where that is asked. After the tag files
+//! were read for what they say, `bag_checked` reads each file once: the digests that manifests give
+//! are compared, and the new ones computed, over the same bytes; and the elements that stay are read
+//! of these bytes.
 //!
 //! Of a bag in which a fault is found nothing is made. A fault of the renewed bag of an honest tree is
 //! damage of the payload that wasn't read and that the old bag had. The changes that make it put or
@@ -21,30 +19,21 @@
 //! payload.
 #![tactic(auto)]
 
-mod algorithms;
-mod checked;
 mod composing;
-mod elements;
 mod fault;
 mod folders;
-mod further;
 mod info;
 pub mod laws;
 mod named;
 mod obstacles;
 mod reading;
 mod removing;
-mod renewal;
 mod renewing;
-mod stages;
-mod summed;
 mod tag_files;
-mod target;
 mod unlisted;
 
+pub use bag_checked::{Unchecked, check_and_sum, new_manifests};
+pub use bag_renewed::{ElementChanges, Renewal};
 pub use bag_tags::TagFile;
-pub use checked::{Unchecked, check_and_sum};
 pub use fault::RenewFault;
-pub use further::new_manifests;
-pub use renewal::{ElementChanges, Renewal};
 pub use renewing::{plan_renewal, renew};

@@ -1,16 +1,18 @@
 //! What tag manifests name.
-ghost use Rattle.std.specs.Prelude.{◌≡◌, ◌++◌, List, IfOk, OnOk, bytes_eq, filter, map, not};
+ghost use Rattle.std.specs.Prelude.{◌≡◌, ◌++◌, List, IfOk, bytes_eq, filter, map};
 ghost use Rattle.std.specs.List.{list_any};
 ghost use Rattle.bag_text.specs.Path.{is_payload_path};
 ghost use Rattle.bag_read.specs.ManifestName.{is_manifest_name, tag_path};
 ghost use Rattle.bag_text.specs.declared.alg.Alg.{Alg as Member};
+ghost use Rattle.bag_tags.specs.Summed.{File};
 ghost use Rattle.bag_renew.specs.Composing as spec;
-ghost use Rattle.bag_renew.specs.Renewed as renewed;
-ghost use Rattle.bag_renew.specs.Summed.{AreSummed};
+ghost use Rattle.bag_renewed.specs.Renewed as renewed;
+ghost use Rattle.bag_checked.specs.Summed.{AreSummedBy};
 
 use crate::obstacles::BEGUN_FILE;
-use crate::tag_files::{DECLARATION, INFO};
+use bag_checked::INFO;
 use bag_read::{Kind, TagName, manifest_alg};
+use bag_renewed::DECLARATION;
 use bag_tags::{SummedFile, TagFile, sum_texts};
 use bag_text::{AlgSet, Text, is_payload};
 use bag_tree::Sums;
@@ -100,7 +102,7 @@ pub(crate) fn named_tag_files(
     last: &[TagFile],
     algs: AlgSet,
 ) -> Result<Vec<SummedFile>, AllocError>
-    ensures { IfOk result (λ named. (files : List renewed.File) → AreSummed algs files tags.items
+    ensures { IfOk result (λ named. (files : List File) → AreSummedBy algs files tags.items
         → spec.AreInPathOrder algs (files ++ (first.now ++ last.now)) named.items) }
 {
     let mut files = tags;
@@ -111,8 +113,8 @@ pub(crate) fn named_tag_files(
 
 /// The files in the order of their paths.
 fn in_path_order(alloc: Global, files: Vec<SummedFile>) -> Result<Vec<SummedFile>, AllocError>
-    ensures { IfOk result (λ ordered. (algs : List Member) (of : List renewed.File)
-        → AreSummed algs of files.items → spec.AreInPathOrder algs of ordered.items) }
+    ensures { IfOk result (λ ordered. (algs : List Member) (of : List File)
+        → AreSummedBy algs of files.items → spec.AreInPathOrder algs of ordered.items) }
 {
     let mut files = files;
     let mut by_path = BTreeMap::new(alloc);

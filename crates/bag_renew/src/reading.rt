@@ -6,24 +6,17 @@ ghost use Rattle.bag_renew.specs.Openings.{OpensBefore, OpensForRenewal};
 ghost use Rattle.bag_renew.specs.Reading.{AllowsRenewal, HasReadBag, IsNotReady};
 ghost use Rattle.bag_renew.specs.Reading.{MayRefuseReading};
 ghost use Rattle.bag_renew.specs.Reserved.{IsOutOfTheWay};
-ghost use Rattle.bag_renew.specs.Target.{IsTargetFor};
+ghost use Rattle.bag_renewed.specs.Target.{IsTargetFor};
 
 use crate::fault::{refusal, stopped};
 use crate::info::check_info;
 use crate::obstacles::check_obstacles;
-use crate::stages::check_stages;
-use crate::summed::{CheckedFiles, check_files};
-use crate::target::{Target, target_of};
 use crate::{RenewFault, Renewal};
-use bag_facts::{Depth, Facts, Options};
+use bag_checked::{CheckedFiles, FULL, check_files, check_stages};
+use bag_facts::Facts;
+use bag_renewed::{Target, target_of};
 use bag_tree::ReplaceTree;
 use std::alloc::Global;
-
-/// Everything is checked, but for names that clash.
-pub(crate) const FULL: Options = Options {
-    depth: Depth::Full,
-    clashes: false,
-};
 
 /// Reads a bag, which can be renewed, decides what is made of it, and computes the digests by the
 /// algorithms of its new manifests.

@@ -7,16 +7,16 @@ ghost use Rattle.bag_tree.specs.declared.file_change.FileChange.{FileChange as C
 ghost use Rattle.bag_renew.specs.Openings.{OpensBefore, OpensForRenewal};
 ghost use Rattle.bag_renew.specs.Reading.{MayRefuseReading};
 ghost use Rattle.bag_renew.specs.Renew.{HasPlanned, HasStoppedAt, IsRenewal, told_as};
-ghost use Rattle.bag_renew.specs.Renewed.{begun_file};
-ghost use Rattle.bag_renew.specs.Request.{is_bad_request as is_bad};
+ghost use Rattle.bag_renewed.specs.Renewed.{begun_file};
+ghost use Rattle.bag_renewed.specs.Request.{is_bad_request as is_bad};
 
 use crate::composing::changes_of;
-use crate::elements::is_bad_request;
 use crate::info::info_file;
 use crate::obstacles::BEGUN_FILE;
 use crate::reading::read_bag;
-use crate::summed::CheckedFiles;
 use crate::{RenewFault, Renewal};
+use bag_checked::CheckedFiles;
+use bag_renewed::is_bad_request;
 use bag_text::Items;
 use bag_tree::{FileChange, RefusedChange, ReplaceTree, change_files};
 use std::alloc::{AllocError, Global};

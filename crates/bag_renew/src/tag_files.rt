@@ -3,25 +3,17 @@ ghost use Rattle.std.specs.Prelude.{◌≡◌, ◌++◌, ◌∷◌, [], IfOk, On
 ghost use Rattle.bag_read.specs.ManifestName.{tag_path};
 ghost use Rattle.bag_read.specs.declared.kind.Kind.TheVariants as kind;
 ghost use Rattle.bag_read.specs.declared.tag_name.TagName.TheVariants as tag;
-ghost use Rattle.bag_facts.specs.FactsOfBag.{IsFactsOf};
-ghost use Rattle.bag_tags.specs.Declaration.{declaration_text};
 ghost use Rattle.bag_tags.specs.Summed.{manifests_by};
-ghost use Rattle.bag_tree.specs.Bag.{Bag, has_file};
 ghost use Rattle.bag_renew.specs.Changes.{put};
 ghost use Rattle.bag_renew.specs.Composing as spec;
-ghost use Rattle.bag_renew.specs.Renewed.{with_path};
-ghost use Rattle.bag_renew.specs.Target.{OfTarget};
+ghost use Rattle.bag_renewed.specs.Renewed.{with_path};
+ghost use Rattle.bag_renewed.specs.Target.{OfTarget};
 
-use crate::target::Target;
-use bag_facts::Facts;
 use bag_read::{Kind, TagName};
-use bag_tags::{SummedFile, TagFile, manifests_by, write_declaration};
+use bag_renewed::Target;
+use bag_tags::{SummedFile, TagFile, declaration_file, manifests_by};
 use bag_text::{Alg, Items};
 use std::alloc::{AllocError, Global};
-
-pub(crate) const DECLARATION: &str = "bagit.txt";
-
-pub(crate) const INFO: &str = "bag-info.txt";
 
 /// The tag files whose names a renewal writes, and that are kept.
 pub(crate) fn kept_names(alloc: Global, target: &Target) -> Result<Vec<TagName>, AllocError>
@@ -83,22 +75,9 @@ pub(crate) fn last_files(alloc: Global, target: &Target) -> Result<Vec<TagFile>,
     ensures files { IfOk result (λ made. spec.AreOfFiles (map put made.items)) }
 {
     let mut files = Vec::new(alloc);
-    let file = TagFile {
-        path: TagName::Declaration.path(alloc)?,
-        content: declaration(alloc)?,
-    };
+    let file = declaration_file(alloc)?;
     push_where(&mut files, file, !target.keeps_declaration)?;
     Ok(files)
-}
-
-/// The text of the declaration (RFC 8493, 2.1.1).
-fn declaration(alloc: Global) -> Result<Items<u8>, AllocError>
-    ensures { IfOk result (λ text. text ≡ declaration_text) }
-{
-    match write_declaration(alloc) {
-        Ok(bytes) => Ok(Items::from_vec(bytes)),
-        Err(_) => Err(AllocError),
-    }
 }
 
 /// Puts an item at the end, where something is so.
@@ -114,14 +93,4 @@ pub(crate) fn push_where<T: Drop>(
         items.push(item)?;
     }
     Ok(())
-}
-
-/// Whether a file is listed, found in time log n of all files.
-pub(crate) fn is_listed(facts: &Facts, path: &str) -> bool
-    ensures { (bag : Bag) → IsFactsOf bag facts.now → result ≡ has_file bag path.now }
-{
-    facts
-        .files()
-        .binary_search_by(|entry| entry.path.as_str().cmp(path))
-        .is_ok()
 }

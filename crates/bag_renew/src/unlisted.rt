@@ -4,15 +4,14 @@ ghost use Rattle.std.specs.Option.{option_copied};
 ghost use Rattle.bag_facts.specs.Facts.{rules_in};
 ghost use Rattle.bag_facts.specs.FactsOfBag.{IsByV097};
 ghost use Rattle.bag_renew.specs.Obstacles as spec;
-ghost use Rattle.bag_renew.specs.Renewed as renewed;
-ghost use Rattle.bag_renew.specs.Target.{IfTarget};
+ghost use Rattle.bag_renewed.specs.Renewed as renewed;
+ghost use Rattle.bag_renewed.specs.Target.{IfTarget};
 ghost use Rattle.bag_renew.specs.Telling.{AreStillListed};
 
-use crate::algorithms::{has, has_some};
 use crate::obstacles::is_named_by;
-use crate::target::Target;
 use bag_facts::Facts;
 use bag_read::Kind;
+use bag_renewed::{Target, has, has_some};
 use bag_text::{Alg, Rules, Text, is_payload};
 use bag_tree::FileEntry;
 use std::alloc::{AllocError, Global};

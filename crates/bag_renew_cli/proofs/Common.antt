@@ -17,7 +17,7 @@ pub use Rattle.bag_text.specs.Alg.{algs, name}
 pub use Rattle.bag_text.specs.Code.{number}
 pub use Rattle.bag_text.specs.CodeWord.{word}
 pub use Rattle.bag_text.specs.declared.alg.Alg.{Alg}
-pub use Rattle.bag_facts.specs.FaultLine.{alg_field, fault_line, field, line_field}
+pub use Rattle.bag_faults.specs.FaultLine.{alg_field, fault_line, field, line_field}
 pub use Rattle.bag_tree.specs.Out.{IsCut, OutState}
 pub use Rattle.bag_tree.specs.Tree.{cause_word}
 pub use Rattle.bag_tree.specs.declared.out.Refused.{Refused}

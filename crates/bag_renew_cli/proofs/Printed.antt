@@ -7,10 +7,10 @@ use Rattle.bag_text.specs.declared.alg.Alg.TheVariants.{Md5, Sha1, Sha224, Sha25
 use Rattle.bag_facts.specs.Facts.{rules_in}
 use Rattle.bag_stages.specs.Payload.{payload}
 use Rattle.bag_tree.specs.Tree.{Keeps, TreeState}
-use Rattle.bag_cli.specs.FolderDeeds.{Reports}
-use Rattle.bag_renew.specs.NewManifests.{AreOfSameBytes, manifests_for}
-use Rattle.bag_renew.specs.Openings.{OpensAllInTurn}
-use Rattle.bag_renew.specs.Renewed.{File, manifest}
+use Rattle.bag_program.specs.FolderDeeds.{Reports}
+use Rattle.bag_checked.specs.NewManifests.{AreOfSameBytes, manifests_for}
+use Rattle.bag_checked.specs.InTurn.{OpensAllInTurn}
+use Rattle.bag_tags.specs.Summed.{File, manifest_by}
 use Rattle.bag_report.specs.Valid.{HasNoFault}
 use Rattle.bag_renew_cli.specs.Printing.{IsPrinting, text_of}
 
@@ -39,7 +39,7 @@ module _ (alg : Alg) (algs : List Alg) (is : algs ≡ alg ∷ []) (old new : Tre
       valid = valid;
       text = λ honest.
           ap (flat_map text_of) (manifests honest ∙ ap (λ some. manifests_for (rules_in old.bag) some (payload old.bag)) is)
-          ∙ append-nil (manifest (rules_in old.bag) alg (payload old.bag));
+          ∙ append-nil (manifest_by (rules_in old.bag) alg (payload old.bag));
       reports = reports;
     });
   }

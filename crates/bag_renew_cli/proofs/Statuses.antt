@@ -6,11 +6,10 @@ use Rattle.bag_disk.specs.Disk.{DiskState}
 use Rattle.bag_store.specs.FileTree.{tree_state}
 use Rattle.bag_tree.specs.Tree.{TreeState}
 use Rattle.bag_tree.specs.declared.out.Refused.{Refused}
-use Rattle.bag_cli.proofs.Arms.{said_status}
-use Rattle.bag_cli.proofs.Makings.{deeds_status}
-use Rattle.bag_cli.specs.Visits.{Event}
-use Rattle.bag_renew.specs.declared.checked.Unchecked.{Unchecked}
-use Rattle.bag_renew.specs.declared.checked.Unchecked.TheVariants.{Faulty, Stopped}
+use Rattle.bag_program.proofs.Deeds.{deeds_status, said_status}
+use Rattle.bag_program.specs.Visits.{Event}
+use Rattle.bag_checked.specs.declared.checked.Unchecked.{Unchecked}
+use Rattle.bag_checked.specs.declared.checked.Unchecked.TheVariants.{Faulty, Stopped}
 use Rattle.bag_renew.specs.declared.fault.RenewFault.{RenewFault}
 use Rattle.bag_renew.specs.declared.fault.RenewFault.TheVariants as why
 use Rattle.bag_renew_cli.specs.Printing.{is_status_of}

@@ -1,7 +1,7 @@
 -- The line of a fault, in the parts in which it is written.
 use Rattle.std.specs.Prelude.{ℕ, List, ◌++◌, codes}
-use Rattle.bag_facts.specs.FaultLine.{alg_field, field, line_field}
-use Rattle.bag_facts.specs.declared.fault.Fault.{Fault}
+use Rattle.bag_faults.specs.FaultLine.{alg_field, field, line_field}
+use Rattle.bag_faults.specs.declared.fault.Fault.{Fault}
 
 -- its line and its detail, with the line end
 abbrev pub end : Fault → List ℕ

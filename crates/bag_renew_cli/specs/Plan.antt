@@ -15,8 +15,8 @@ use Rattle.bag_renew_cli.specs.declared.plan.RenewAction.{RenewAction}
 use Rattle.bag_renew_cli.specs.declared.plan.RenewAction.TheVariants.{Help, Bags}
 use Rattle.bag_renew_cli.specs.declared.plan.BagAction.{BagAction}
 use Rattle.bag_renew_cli.specs.declared.plan.BagAction.TheVariants.{Renew, DryRun, Print}
-use Rattle.bag_renew.specs.Asked.{nothing}
-use Rattle.bag_renew.specs.declared.renewal.Renewal.{Renewal}
+use Rattle.bag_renewed.specs.Asked.{nothing}
+use Rattle.bag_renewed.specs.declared.renewal.Renewal.{Renewal}
 use Rattle.bag_renew_cli.specs.declared.plan.RenewPlan.{RenewPlan}
 use Rattle.bag_renew_cli.specs.declared.request_option.ElementOption.{ElementOption}
 use Rattle.bag_renew_cli.specs.declared.request_option.ElementOption.TheVariants as element

@@ -8,13 +8,13 @@ use Rattle.bag_tree.specs.Out.{OutState}
 use Rattle.bag_tree.specs.Tree.{Keeps, TreeState}
 use Rattle.bag_tree.specs.declared.out.Refused.{Refused}
 use Rattle.bag_report.specs.Valid.{HasNoFault}
-use Rattle.bag_cli.specs.FolderDeeds.{Reports}
-use Rattle.bag_renew.specs.NewManifests.{AreOfSameBytes, IsRefusedFor}
-use Rattle.bag_renew.specs.Openings.{OpensAllInTurn, OpensBeforeFiles}
-use Rattle.bag_renew.specs.Renewed.{File, manifest}
-use Rattle.bag_renew.specs.Stops.{MayStopUnchecked}
-use Rattle.bag_renew.specs.declared.checked.Unchecked.{Unchecked}
-use Rattle.bag_renew.specs.declared.checked.Unchecked.TheVariants.{Faulty, Stopped}
+use Rattle.bag_program.specs.FolderDeeds.{Reports}
+use Rattle.bag_checked.specs.NewManifests.{AreOfSameBytes, IsRefusedFor}
+use Rattle.bag_checked.specs.InTurn.{OpensAllInTurn, OpensBeforeFiles}
+use Rattle.bag_tags.specs.Summed.{File, manifest_by}
+use Rattle.bag_checked.specs.Stops.{MayStopUnchecked}
+use Rattle.bag_checked.specs.declared.checked.Unchecked.{Unchecked}
+use Rattle.bag_checked.specs.declared.checked.Unchecked.TheVariants.{Faulty, Stopped}
 use Rattle.bag_renew.specs.declared.fault.RenewFault.{RenewFault}
 use Rattle.bag_renew.specs.declared.fault.RenewFault.TheVariants as why
 
@@ -40,7 +40,7 @@ pub record IsPrinted (alg : Alg) (old new : TreeState) (before after : OutState)
   pub same_bytes : AreOfSameBytes (alg ∷ []) old new made
   pub valid : IsTrue old.honest → HasNoFault old.bag
   pub text : IsTrue old.honest
-      → flat_map text_of made ≡ manifest (rules_in old.bag) alg (payload old.bag)
+      → flat_map text_of made ≡ manifest_by (rules_in old.bag) alg (payload old.bag)
   pub reports : Reports (flat_map text_of made) 0 before after reported
 
 -- The bag was refused, and nothing was written.

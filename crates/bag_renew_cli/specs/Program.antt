@@ -3,10 +3,10 @@ use Rattle.std.specs.Prelude.{ℕ, ◌≡◌, ◌⊎◌, true, List, Result, Ok,
 use Rattle.bag_tree.specs.Out.{OutState}
 use Rattle.bag_arguments.specs.Plan.{usage_status as status_without_words}
 use Rattle.bag_arguments.specs.declared.usage.Usage.{Usage}
-use Rattle.bag_cli.specs.InTurn.{Deed}
-use Rattle.bag_cli.specs.Performed.{Below, IsNothing}
-use Rattle.bag_cli.specs.Program.{IsRun}
-use Rattle.bag_cli.specs.Visits.{Event}
+use Rattle.bag_program.specs.InTurn.{Deed}
+use Rattle.bag_program.specs.Deeds.{Below, IsNothing}
+use Rattle.bag_program.specs.ProgramRun.{IsRun}
+use Rattle.bag_program.specs.Visits.{Event}
 use Rattle.bag_renew_cli.specs.Plan.{IsNotRefused, IsPlanned, usage_status}
 use Rattle.bag_renew_cli.specs.Renewals.{IsPerformed}
 use Rattle.bag_renew_cli.specs.Words.{clap_takes}

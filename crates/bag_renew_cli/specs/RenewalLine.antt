@@ -1,8 +1,8 @@
 -- The line that says how renewing a bag went, and the exit status.
 use Rattle.std.specs.Prelude.{ℕ, Bool, List, [], ◌++◌, Result, codes, if◌then◌else◌}
 use Rattle.std.specs.declared.result.Result.TheVariants.{Ok, Err}
-use Rattle.bag_facts.specs.FaultLine.{fault_line, field}
-use Rattle.bag_facts.specs.declared.fault.Fault.{Fault}
+use Rattle.bag_faults.specs.FaultLine.{fault_line, field}
+use Rattle.bag_faults.specs.declared.fault.Fault.{Fault}
 use Rattle.bag_tree.specs.Tree.{cause_word}
 use Rattle.bag_tree.specs.declared.tree_fault.TreeFault.{TreeFault}
 use Rattle.bag_renew.specs.declared.fault.RenewFault.{RenewFault}

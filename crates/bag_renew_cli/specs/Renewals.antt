@@ -2,9 +2,9 @@
 use Rattle.std.specs.Prelude.{ℕ, List}
 use Rattle.bag_tree.specs.Tree.{TreeState}
 use Rattle.bag_store.specs.FileTree.{tree_state}
-use Rattle.bag_cli.specs.FolderDeeds.{AreDoneWith, TreeDeed}
-use Rattle.bag_cli.specs.InTurn.{Deed}
-use Rattle.bag_cli.specs.Performed.{Below, IsSaid}
+use Rattle.bag_program.specs.FolderDeeds.{AreDoneWith, TreeDeed}
+use Rattle.bag_program.specs.InTurn.{Deed}
+use Rattle.bag_program.specs.Deeds.{Below, IsSaid}
 use Rattle.bag_renew_cli.specs.Printing.{IsPrinting}
 use Rattle.bag_renew_cli.specs.Renewing.{IsDryRun, IsRenewing}
 use Rattle.bag_renew_cli.specs.declared.plan.BagAction.{BagAction}

@@ -1,6 +1,6 @@
 -- What the program says where the words of a renewal are refused.
 use Rattle.std.specs.Prelude.{ℕ, ◌++◌, List, codes}
-use Rattle.bag_cli.specs.Saying.{with_line_end}
+use Rattle.bag_program.specs.Saying.{with_line_end}
 use Rattle.bag_renew_cli.specs.Options.{element_name, list_name, written}
 use Rattle.bag_renew_cli.specs.declared.usage.RenewUsage.{RenewUsage}
 use Rattle.bag_renew_cli.specs.declared.usage.RenewUsage.TheVariants.{Refused, Memory}

@@ -1,10 +1,10 @@
 //! The line of a fault, written without memory.
 ghost use Rattle.std.specs.Prelude.{◌≡◌, ◌++◌, codes};
-ghost use Rattle.bag_facts.specs.FaultLine.{alg_field, fault_line, line_field};
+ghost use Rattle.bag_faults.specs.FaultLine.{alg_field, fault_line, line_field};
 ghost use Rattle.bag_renew_cli.specs.FaultParts as spec;
 ghost use Rattle.bag_tree.specs.Pieces.{Writes};
 
-use bag_facts::{Fault, put_line};
+use bag_faults::{Fault, put_line};
 use bag_text::Alg;
 use bag_tree::{Out, Refused, put_pieces};
 use itoa::Buffer;

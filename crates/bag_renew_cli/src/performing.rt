@@ -1,14 +1,14 @@
 //! Does what a plan says.
 ghost use Rattle.std.specs.Prelude.{◌≤◌};
-ghost use Rattle.bag_cli.specs.Folders.{disks_of};
-ghost use Rattle.bag_cli.specs.Halt.{status_of};
-ghost use Rattle.bag_cli.specs.InTurn.{Does};
+ghost use Rattle.bag_program.specs.Folders.{disks_of};
+ghost use Rattle.bag_program.specs.Halt.{status_of};
+ghost use Rattle.bag_program.specs.InTurn.{Does};
 ghost use Rattle.bag_renew_cli.specs.Renewals.{IsPerformed};
 
 use crate::renewals::Renewals;
 use crate::said::PROGRAM;
 use crate::{RenewAction, RenewPlan};
-use bag_cli::{Disks, Folders, Halt, InFolders, Visits, in_turn, told_status, write_text};
+use bag_program::{Disks, Folders, Halt, InFolders, Visits, in_turn, told_status, write_text};
 use bag_tree::Out;
 use std::alloc::Global;
 

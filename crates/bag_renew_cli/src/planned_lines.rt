@@ -5,7 +5,7 @@ ghost use Rattle.bag_tree.specs.Pieces.{Writes};
 
 use crate::renewal_line::put_not_renewed;
 use crate::said::{WOULD_PUT, WOULD_REMOVE};
-use bag_facts::put_line;
+use bag_faults::put_line;
 use bag_renew::RenewFault;
 use bag_text::Items;
 use bag_tree::{FileChange, Out, Refused};

@@ -8,9 +8,10 @@ use crate::said::{
     CANT_BE_NAMED, FAULT, FETCH, IN_NO_MANIFEST, IN_THE_WAY, NOT_RENEWED, OUT_OF_DATE, PUT, READ,
     REMOVE, RENEWED,
 };
-use bag_facts::{Fault, put_line};
+use bag_faults::{Fault, put_line};
 use bag_renew::RenewFault;
-use bag_text::said::{BAD_VALUE, NO_ALGORITHM, OUT_OF_MEMORY};
+use bag_tags::said::{BAD_VALUE, NO_ALGORITHM};
+use bag_text::said::OUT_OF_MEMORY;
 use bag_tree::{Out, Refused, TreeFault};
 
 /// Hands the line about a bag of this name to the output, or nothing where the bag was renewed and

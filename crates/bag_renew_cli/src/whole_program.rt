@@ -1,14 +1,14 @@
 //! The whole program.
 ghost use Rattle.bag_arguments.specs.Words.{texts_of_words};
-ghost use Rattle.bag_cli.specs.Folders.{disks_of};
-ghost use Rattle.bag_cli.specs.InTurn.{Does};
+ghost use Rattle.bag_program.specs.Folders.{disks_of};
+ghost use Rattle.bag_program.specs.InTurn.{Does};
 ghost use Rattle.bag_renew_cli.specs.Program.{IsProgram, IsUnread, IsWholeProgram, is_usage_of};
 
 use crate::performing::perform;
 use crate::said::WORD_NOT_UTF8;
 use crate::{RenewUsage, refuse_words, renewal_of};
 use bag_arguments::Usage;
-use bag_cli::{Disks, Folders, Visits, Words, asked_words, texts_of};
+use bag_program::{Disks, Folders, Visits, Words, asked_words, texts_of};
 use bag_text::Text;
 use bag_tree::Out;
 use std::alloc::{AllocError, Global};

@@ -1,14 +1,14 @@
 //! What is said where the words of a renewal's command line are refused.
 ghost use Rattle.std.specs.Prelude.{◌≡◌};
 ghost use Rattle.bag_renew_cli.specs.Plan.{usage_status};
-ghost use Rattle.bag_cli.specs.Saying.{Says};
+ghost use Rattle.bag_program.specs.Saying.{Says};
 ghost use Rattle.bag_renew_cli.specs.WordsRefusal.{usage_line};
 
 use crate::RenewUsage;
 use crate::said::{
     NOT_ALGORITHMS, NOT_AN_ALGORITHM, NOT_AN_ELEMENT, PRINT_SEVERAL, PRINT_WITH_OTHERS, PROGRAM,
 };
-use bag_cli::{say_ended, say_on};
+use bag_program::{say_ended, say_on};
 use bag_text::said::OUT_OF_MEMORY;
 use bag_tree::Out;
 

@@ -4,9 +4,9 @@ use Rattle.bag_report.proofs.Common.{stage, IsListOf, NameClash, nothing_listed,
 use Rattle.bag_report.proofs.Common.{reaches, Check, is_fast, IsStageOf, IsFoundAt}
 use Rattle.std.proofs.lemmas.Bool.Decides.{nat_tests}
 use Rattle.bag_text.specs.declared.code.Code.{Code}
-use Rattle.bag_facts.specs.declared.options.Depth.{Depth}
-use Rattle.bag_facts.specs.declared.options.Depth.TheVariants.{Declaration, Full}
-use Rattle.bag_facts.specs.declared.options.Options.{Options}
+use Rattle.bag_faults.specs.declared.options.Depth.{Depth}
+use Rattle.bag_faults.specs.declared.options.Depth.TheVariants.{Declaration, Full}
+use Rattle.bag_faults.specs.declared.options.Options.{Options}
 use Rattle.bag_report.specs.Report.{asks}
 use Rattle.bag_report.proofs.Filtered.{filtered_list}
 

@@ -4,14 +4,14 @@ pub use Rattle.std.proofs.Common.{refl, rules, subst, suc, sym, true, zero, ℕ,
 pub use Rattle.std.proofs.lemmas.Bool.{and_parts}
 pub use Rattle.std.specs.Option.{option_copied}
 pub use Rattle.std.specs.declared.cmp.Ordering.{Ordering}
-pub use Rattle.bag_conformance.proofs.ConformanceFaultsLaws.{conformance_faults_are_listed}
-pub use Rattle.bag_conformance.proofs.ConformanceFaultsLaws.{conformance_faults_are_of_stage_eight}
-pub use Rattle.bag_conformance.specs.ConformanceStage.{IsOfConformance}
+pub use Rattle.bag_report.proofs.ConformanceFaultsLaws.{conformance_faults_are_listed}
+pub use Rattle.bag_report.proofs.ConformanceFaultsLaws.{conformance_faults_are_of_stage_eight}
+pub use Rattle.bag_report.specs.ConformanceStage.{IsOfConformance}
 pub use Rattle.bag_facts.proofs.Mapped.{kept, passed}
-pub use Rattle.bag_facts.proofs.Ordered.{fault_cmp_same, fault_cmp_total}
-pub use Rattle.bag_facts.specs.FaultOrder.{fault_cmp}
-pub use Rattle.bag_facts.specs.Options.{reaches}
-pub use Rattle.bag_facts.specs.declared.fault.Fault.{Fault}
+pub use Rattle.bag_faults.proofs.Ordered.{fault_cmp_same, fault_cmp_total}
+pub use Rattle.bag_faults.specs.FaultOrder.{fault_cmp}
+pub use Rattle.bag_faults.specs.Options.{reaches}
+pub use Rattle.bag_faults.specs.declared.fault.Fault.{Fault}
 pub use Rattle.bag_profile.specs.Profile.{Profile}
 pub use Rattle.bag_stages.specs.CompletenessStage.{IsOfCompleteness}
 pub use Rattle.bag_stages.specs.CompletenessFaults.{IsSoughtInStageSix}

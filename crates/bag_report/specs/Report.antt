@@ -7,15 +7,15 @@ use Rattle.bag_text.specs.Order.{IsListOf}
 use Rattle.bag_text.specs.declared.code.Code.{Code}
 use Rattle.bag_text.specs.declared.code.Code.TheVariants.{NoOxum, NameClash}
 use Rattle.bag_tree.specs.Bag.{Bag}
-use Rattle.bag_facts.specs.FaultOrder.{fault_cmp}
-use Rattle.bag_facts.specs.declared.fault.Fault.{Fault}
-use Rattle.bag_facts.specs.Options.{reaches}
-use Rattle.bag_facts.specs.declared.options.Depth.{Depth}
-use Rattle.bag_facts.specs.declared.options.Depth.TheVariants.{Fast}
-use Rattle.bag_facts.specs.declared.options.Options.{Options}
+use Rattle.bag_faults.specs.FaultOrder.{fault_cmp}
+use Rattle.bag_faults.specs.declared.fault.Fault.{Fault}
+use Rattle.bag_faults.specs.Options.{reaches}
+use Rattle.bag_faults.specs.declared.options.Depth.{Depth}
+use Rattle.bag_faults.specs.declared.options.Depth.TheVariants.{Fast}
+use Rattle.bag_faults.specs.declared.options.Options.{Options}
 use Rattle.bag_profile.specs.Profile.{Profile}
 use Rattle.bag_stages.specs.CompletenessStage.{IsOfCompleteness}
-use Rattle.bag_conformance.specs.ConformanceStage.{IsOfConformance}
+use Rattle.bag_report.specs.ConformanceStage.{IsOfConformance}
 use Rattle.bag_stages.specs.DeclarationStage.{IsOfDeclaration}
 use Rattle.bag_stages.specs.FetchStage.{IsOfFetch}
 use Rattle.bag_stages.specs.ManifestsStage.{IsOfManifests}

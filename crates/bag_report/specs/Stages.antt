@@ -3,11 +3,11 @@ use Rattle.std.specs.Prelude.{ℕ, ◌≡◌, Bool, true, Option, List}
 use Rattle.bag_text.specs.Code.{stage}
 use Rattle.bag_text.specs.declared.code.Code.TheVariants.{NameClash}
 use Rattle.bag_tree.specs.Bag.{Bag}
-use Rattle.bag_facts.specs.declared.fault.Fault.{Fault}
+use Rattle.bag_faults.specs.declared.fault.Fault.{Fault}
 use Rattle.bag_profile.specs.Profile.{Profile}
 use Rattle.bag_report.specs.Report.{Is, Check, IsReported, check_with}
 use Rattle.bag_text.specs.Order.{IsListOf}
-use Rattle.bag_facts.specs.FaultOrder.{fault_cmp}
+use Rattle.bag_faults.specs.FaultOrder.{fault_cmp}
 use Rattle.bag_facts.specs.declared.facts.Facts.{Facts}
 
 -- a fault of the bag that this stage looks for: a clash of names only where clashes are

@@ -1,9 +1,9 @@
 -- A bag that has no fault.
 use Rattle.std.specs.Prelude.{[], None, false}
 use Rattle.bag_tree.specs.Bag.{Bag}
-use Rattle.bag_facts.specs.declared.fault.Fault.{Fault}
-use Rattle.bag_facts.specs.declared.options.Depth.TheVariants.{Full}
-use Rattle.bag_facts.specs.declared.options.Options.{Options}
+use Rattle.bag_faults.specs.declared.fault.Fault.{Fault}
+use Rattle.bag_faults.specs.declared.options.Depth.TheVariants.{Full}
+use Rattle.bag_faults.specs.declared.options.Options.{Options}
 use Rattle.bag_report.specs.Report.{IsReport, IsReported}
 
 -- everything is checked, but for names that clash

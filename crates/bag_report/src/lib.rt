@@ -10,18 +10,29 @@
 //! ```
 //!
 //! Of RFC 8493 it keeps what a complete bag and a valid one have (3). What is read of a bag, faults
-//! and their lines are in `bag_facts`, profiles in `bag_profile`, and the faults of each stage in
-//! `bag_stages` and `bag_conformance`.
+//! and their lines are in `bag_facts`, profiles in `bag_profile`, the faults of each other stage than
+//! the eighth in `bag_stages`. Those of the eighth are here: where a bag doesn't conform to a profile
+//! (BagIt Profiles Specification), of what was read of it beyond the declaration.
 //!
 //! Of each stage but the seventh exactly the part of the report is found that is asked for; every
 //! bag has exactly one report.
 #![tactic(auto)]
 
+mod by_label;
+mod conformance;
+mod elements;
+mod has_file;
+mod info_fault;
+mod label_rule;
 pub mod laws;
+mod manifest_names;
+mod profile_rules;
 mod stages;
+mod tag_files;
+mod whole_bag;
 
-pub use bag_facts::{
-    CursorFault, Depth, Facts, Fault, FetchList, Manifest, Metadata, Options, Stage, TagFacts,
-};
+pub use bag_facts::{Facts, FetchList, Manifest, Metadata, TagFacts};
+pub use bag_faults::{CursorFault, Depth, Fault, Options, Stage};
 pub use bag_profile::{Profile, ProfileFault};
+pub use conformance::conformance_faults;
 pub use stages::{faults_of_stage, stage_faults};

@@ -3,19 +3,20 @@ ghost use Rattle.std.specs.Prelude.{◌≡◌, ◌≢◌, ◌<◌, [], false, If
 ghost use Rattle.std.specs.Option.{option_copied};
 ghost use Rattle.bag_text.specs.Order.{IsListOf};
 ghost use Rattle.bag_tree.specs.Bag.{Bag};
-ghost use Rattle.bag_facts.specs.FaultOrder.{fault_cmp};
+ghost use Rattle.bag_faults.specs.FaultOrder.{fault_cmp};
 ghost use Rattle.bag_facts.specs.FactsOfBag.{IsFactsOf};
-ghost use Rattle.bag_facts.specs.Options.{reaches};
-ghost use Rattle.bag_facts.specs.Stage.{stage_number};
-ghost use Rattle.bag_facts.specs.declared.options.Depth.TheVariants.{Declaration};
-ghost use Rattle.bag_facts.specs.declared.stage.Stage.TheVariants as stage_of;
-ghost use Rattle.bag_conformance.specs.ConformanceStage.{IsOfConformance};
+ghost use Rattle.bag_faults.specs.Options.{reaches};
+ghost use Rattle.bag_faults.specs.Stage.{stage_number};
+ghost use Rattle.bag_faults.specs.declared.options.Depth.TheVariants.{Declaration};
+ghost use Rattle.bag_faults.specs.declared.stage.Stage.TheVariants as stage_of;
+ghost use Rattle.bag_report.specs.ConformanceStage.{IsOfConformance};
 ghost use Rattle.bag_report.specs.Report.{asks};
 ghost use Rattle.bag_report.specs.Stages.{IsFoundAt, IsStageOf, check_of_facts};
 ghost use Rattle.bag_stages.specs.Found.{AreFaultsOf};
 
-use bag_conformance::conformance_faults;
-use bag_facts::{Depth, Facts, Fault, Options, Stage};
+use crate::conformance::conformance_faults;
+use bag_facts::Facts;
+use bag_faults::{Depth, Fault, Options, Stage};
 use bag_profile::Profile;
 use bag_stages::{
     completeness_faults, declaration_faults, fetch_faults, manifest_faults, metadata_faults,

@@ -28,22 +28,22 @@ pub use Rattle.std.specs.List.Sorted.{IsPermutation, IsSorted, IsSortedBy, IsStr
 pub use Rattle.std.specs.Ordering.{eq_by_cmp, is_eq, nat_cmp, on, ordering_reverse}
 pub use Rattle.std.specs.Prelude.{All}
 pub use Rattle.std.specs.Str.{IsAscii, is_utf8}
-pub use Rattle.bag_facts.proofs.Ascending.{not_both, not_less_than_itself, self_ties}
+pub use Rattle.bag_faults.proofs.Ascending.{not_both, not_less_than_itself, self_ties}
 pub use Rattle.bag_facts.proofs.ByPath.{items_ascend, less_case, paths_ascend, reversed, tie_case}
 pub use Rattle.bag_facts.proofs.ListedFiles.{file_listed, listed_file}
 pub use Rattle.bag_facts.proofs.Mapped.{contains_mapped, kept, mapped_contains, passed, take_one_more, taken_cases}
-pub use Rattle.bag_facts.proofs.Ordered.{fault_cmp_same, fault_cmp_total}
+pub use Rattle.bag_faults.proofs.Ordered.{fault_cmp_same, fault_cmp_total}
 pub use Rattle.bag_facts.specs.Facts.{IsByV10, rules_in}
 pub use Rattle.bag_facts.specs.FactsOfBag.{IsByV097, IsFactsOf, IsSaidOfTagFile, IfBagRead}
-pub use Rattle.bag_facts.specs.FaultAt.{of_bag, of_line, of_path}
-pub use Rattle.bag_facts.specs.FaultOrder.{fault_cmp}
+pub use Rattle.bag_faults.specs.FaultAt.{of_bag, of_line, of_path}
+pub use Rattle.bag_faults.specs.FaultOrder.{fault_cmp}
 pub use Rattle.bag_facts.specs.TagFacts.{AreByPath, AreEntriesOf, IsDeclarationOf, IsFetchListOf, IsManifestNamed}
 pub use Rattle.bag_facts.specs.TagFacts.{IsMetadataOf, IsReadOf, SaysOfTagFile, entry_paths, name_of, path_of}
 pub use Rattle.bag_facts.specs.TagFacts.{text_test}
 pub use Rattle.bag_facts.specs.TagReader.{AreFilesOfBag}
 pub use Rattle.bag_facts.specs.Wanted.{paths_of}
 pub use Rattle.bag_facts.specs.declared.facts.Facts.{Facts}
-pub use Rattle.bag_facts.specs.declared.fault.Fault.{Fault}
+pub use Rattle.bag_faults.specs.declared.fault.Fault.{Fault}
 pub use Rattle.bag_facts.specs.declared.tag_facts.Manifest.{Manifest}
 pub use Rattle.bag_facts.specs.declared.tag_facts.TagFacts.{TagFacts}
 pub use Rattle.bag_read.proofs.FaultOrder.{line_below, lower}

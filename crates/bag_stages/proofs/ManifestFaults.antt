@@ -17,7 +17,7 @@ use Rattle.bag_read.specs.declared.tag_name.TagName.TheVariants as tag_name
 use Rattle.bag_read.proofs.ManifestCodes.{IsManifestCode, manifest_fault_code, manifest_fault_stage}
 use Rattle.bag_read.proofs.ManifestCodes.{manifest_fault_line}
 use Rattle.bag_read.proofs.ManifestFaults.{faults_of_no_text}
-use Rattle.bag_facts.specs.declared.options.Depth.TheVariants.{Declaration}
+use Rattle.bag_faults.specs.declared.options.Depth.TheVariants.{Declaration}
 use Rattle.bag_facts.specs.declared.tag_facts.TagFacts.TheVariants as facts
 use Rattle.bag_stages.specs.ManifestsStage.{ManifestHolds, IsOfManifests}
 use Rattle.bag_stages.proofs.FaultFields.{made_of}

@@ -12,7 +12,7 @@ use Rattle.bag_stages.proofs.Common.{TagFacts, file_listed, listed_file, contain
 use Rattle.bag_stages.proofs.Common.{ListsPayloadManifest, HasTextless, IsUnsupported, IsFileFault, IsFaultAmong}
 use Rattle.bag_stages.proofs.Common.{FaultsAreOfStage, of_bag, HasManifest, HasNoText}
 use Rattle.bag_read.specs.declared.tag_name.TagName.TheVariants as tag_name
-use Rattle.bag_facts.specs.declared.options.Depth.TheVariants.{Declaration}
+use Rattle.bag_faults.specs.declared.options.Depth.TheVariants.{Declaration}
 use Rattle.bag_facts.specs.declared.tag_facts.TagFacts.TheVariants as facts
 use Rattle.bag_stages.specs.PartsStage.{PartHolds, IsOfParts}
 use Rattle.bag_stages.proofs.FaultFields.{has_fields, made_of}

@@ -5,8 +5,8 @@ use Rattle.std.specs.HashMap.{HashMap, get_by_text}
 use Rattle.std.specs.Option.{option_map}
 use Rattle.bag_text.specs.Bytes.{Path}
 use Rattle.bag_text.specs.declared.code.Code.TheVariants.{NameClash}
-use Rattle.bag_facts.specs.FaultAt.{of_path}
-use Rattle.bag_facts.specs.declared.fault.Fault.{Fault}
+use Rattle.bag_faults.specs.FaultAt.{of_path}
+use Rattle.bag_faults.specs.declared.fault.Fault.{Fault}
 use Rattle.bag_stages.specs.Clashes.{nfc_of, Clashes}
 
 -- the fault that a name isn't the least of its class

@@ -6,8 +6,8 @@ use Rattle.bag_text.specs.Order.{IsListOf}
 use Rattle.bag_text.specs.Text.{text_cmp}
 use Rattle.bag_text.specs.declared.code.Code.TheVariants.{NameClash}
 use Rattle.bag_tree.specs.Bag.{Bag}
-use Rattle.bag_facts.specs.FaultOrder.{fault_cmp}
-use Rattle.bag_facts.specs.declared.fault.Fault.{Fault}
+use Rattle.bag_faults.specs.FaultOrder.{fault_cmp}
+use Rattle.bag_faults.specs.declared.fault.Fault.{Fault}
 use Rattle.bag_stages.specs.Clashes.{IsLeast}
 use Rattle.bag_stages.specs.CompletenessStage.{IsOfCompleteness, IsPayloadName}
 

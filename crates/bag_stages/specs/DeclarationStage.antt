@@ -4,7 +4,7 @@ use Rattle.bag_text.specs.declared.code.Code.{Code}
 use Rattle.bag_text.specs.declared.code.Code.TheVariants as code
 use Rattle.bag_read.specs.Declaration.{IsDeclarationFault}
 use Rattle.bag_tree.specs.Bag.{Bag, LacksFile}
-use Rattle.bag_facts.specs.declared.fault.Fault.{Fault}
+use Rattle.bag_faults.specs.declared.fault.Fault.{Fault}
 use Rattle.bag_stages.specs.FaultFields.{At, InFile}
 use Rattle.bag_stages.specs.TagFiles.{bagit_txt}
 

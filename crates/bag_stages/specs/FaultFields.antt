@@ -4,7 +4,7 @@ use Rattle.bag_text.specs.Bytes.{Content, Path}
 use Rattle.bag_text.specs.declared.alg.Alg.{Alg}
 use Rattle.bag_read.specs.declared.line_fault.LineFault.{LineFault}
 use Rattle.bag_tree.specs.Bag.{Bag, file}
-use Rattle.bag_facts.specs.declared.fault.Fault.{Fault}
+use Rattle.bag_faults.specs.declared.fault.Fault.{Fault}
 
 -- the fault is about this path, with the algorithm of its manifest, a line or 0, and this detail
 pub record At (f : Fault) (path : Path) (alg : Option Alg) (line : ℕ)

@@ -9,8 +9,8 @@ use Rattle.bag_text.specs.declared.code.Code.TheVariants.{FetchNotInManifest}
 use Rattle.bag_read.specs.declared.fetch.FetchEntry.{FetchEntry}
 use Rattle.bag_read.specs.declared.manifest.ManifestEntry.{ManifestEntry}
 use Rattle.bag_tree.specs.Bag.{Bag}
-use Rattle.bag_facts.specs.FaultAt.{of_line}
-use Rattle.bag_facts.specs.declared.fault.Fault.{Fault}
+use Rattle.bag_faults.specs.FaultAt.{of_line}
+use Rattle.bag_faults.specs.declared.fault.Fault.{Fault}
 use Rattle.bag_facts.specs.Facts.{IsByV10}
 use Rattle.bag_facts.specs.FactsOfBag.{IsByV097}
 use Rattle.bag_facts.specs.TagFacts.{entry_paths}

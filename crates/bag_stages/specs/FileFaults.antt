@@ -9,7 +9,7 @@ use Rattle.bag_read.specs.declared.kind.Kind.TheVariants.{Payload}
 use Rattle.bag_read.specs.declared.tag_name.TagName.{TagName}
 use Rattle.bag_tree.specs.Bag.{Bag, HasFile}
 use Rattle.bag_tree.specs.declared.listing.FileEntry.{FileEntry}
-use Rattle.bag_facts.specs.declared.fault.Fault.{Fault}
+use Rattle.bag_faults.specs.declared.fault.Fault.{Fault}
 use Rattle.bag_facts.specs.FactsOfBag.{IsSaidOfTagFile}
 use Rattle.bag_facts.specs.TagFacts.{name_of, text_test}
 use Rattle.bag_facts.specs.Wanted.{paths_of}

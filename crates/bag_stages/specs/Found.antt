@@ -4,10 +4,10 @@ use Rattle.bag_text.specs.Bytes.{Path}
 use Rattle.bag_text.specs.Order.{IsListOf}
 use Rattle.bag_tree.specs.Bag.{Bag}
 use Rattle.bag_read.specs.declared.fetch.FetchEntry.{FetchEntry}
-use Rattle.bag_facts.specs.FaultOrder.{fault_cmp}
+use Rattle.bag_faults.specs.FaultOrder.{fault_cmp}
 use Rattle.bag_facts.specs.FactsOfBag.{IfBagRead}
 use Rattle.bag_facts.specs.declared.facts.Facts.{Facts}
-use Rattle.bag_facts.specs.declared.fault.Fault.{Fault}
+use Rattle.bag_faults.specs.declared.fault.Fault.{Fault}
 use Rattle.bag_stages.specs.CompletenessFaults.{HasEachOnce}
 use Rattle.bag_stages.specs.FetchFaults.{AreFetched}
 use Rattle.bag_stages.specs.FetchStage.{fetch_txt}

@@ -3,7 +3,7 @@ use Rattle.std.specs.Prelude.{◌≡◌, ℕ, List}
 use Rattle.bag_text.specs.Bytes.{Path}
 use Rattle.bag_text.specs.Code.{stage}
 use Rattle.bag_tree.specs.Bag.{Bag}
-use Rattle.bag_facts.specs.declared.fault.Fault.{Fault}
+use Rattle.bag_faults.specs.declared.fault.Fault.{Fault}
 use Rattle.bag_stages.specs.HasList.{HasList}
 use Rattle.bag_stages.specs.TagFiles.{Names}
 use Rattle.bag_read.specs.declared.kind.Kind.{Kind}

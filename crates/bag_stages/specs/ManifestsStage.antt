@@ -9,7 +9,7 @@ use Rattle.bag_read.specs.ManifestName.{manifest_name}
 use Rattle.bag_read.specs.declared.kind.Kind.{Kind}
 use Rattle.bag_read.specs.declared.kind.Kind.TheVariants.{Payload, Tag}
 use Rattle.bag_tree.specs.Bag.{Bag}
-use Rattle.bag_facts.specs.declared.fault.Fault.{Fault}
+use Rattle.bag_faults.specs.declared.fault.Fault.{Fault}
 use Rattle.bag_facts.specs.Facts.{rules_in, IsByV10}
 use Rattle.bag_stages.specs.FaultFields.{At, InFile}
 use Rattle.bag_stages.specs.TagFiles.{manifest_of, HasManifest, HasSupported, Names}

@@ -9,8 +9,8 @@ use Rattle.bag_text.specs.declared.code.Code.TheVariants.{NoOxum}
 use Rattle.bag_read.specs.Oxum.{oxum_of, oxum_text}
 use Rattle.bag_read.specs.declared.info.Element.{Element}
 use Rattle.bag_read.specs.declared.oxum.Oxum.{Oxum}
-use Rattle.bag_facts.specs.FaultAt.{of_line, of_path}
-use Rattle.bag_facts.specs.declared.fault.Fault.{Fault}
+use Rattle.bag_faults.specs.FaultAt.{of_line, of_path}
+use Rattle.bag_faults.specs.declared.fault.Fault.{Fault}
 use Rattle.bag_stages.specs.MetadataStage.{oxum_label, pair}
 
 abbrev pub is_oxum : Element → Bool

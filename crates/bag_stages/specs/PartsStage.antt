@@ -7,7 +7,7 @@ use Rattle.bag_read.specs.ManifestName.{manifest_name}
 use Rattle.bag_read.specs.declared.kind.Kind.{Kind}
 use Rattle.bag_read.specs.declared.kind.Kind.TheVariants.{Payload}
 use Rattle.bag_tree.specs.Bag.{Bag, has_folder}
-use Rattle.bag_facts.specs.declared.fault.Fault.{Fault}
+use Rattle.bag_faults.specs.declared.fault.Fault.{Fault}
 use Rattle.bag_stages.specs.FaultFields.{At, AtPath}
 use Rattle.bag_stages.specs.TagFiles.{HasManifest, HasNoText}
 

@@ -9,8 +9,8 @@ use Rattle.bag_read.specs.declared.kind.Kind.{Kind}
 use Rattle.bag_read.specs.declared.kind.Kind.TheVariants.{Payload, Tag}
 use Rattle.bag_tree.specs.Digest.{digest}
 use Rattle.bag_tree.specs.DigestsOf.{sum_at}
-use Rattle.bag_facts.specs.FaultAt.{of_path}
-use Rattle.bag_facts.specs.declared.fault.Fault.{Fault}
+use Rattle.bag_faults.specs.FaultAt.{of_path}
+use Rattle.bag_faults.specs.declared.fault.Fault.{Fault}
 use Rattle.bag_stages.specs.Expected.{Expected}
 use Rattle.bag_stages.specs.Given.{kind_of}
 use Rattle.bag_stages.specs.ValidityStage.{expected_and_found, IsOfValidity}

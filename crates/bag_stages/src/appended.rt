@@ -1,7 +1,7 @@
 //! Lists of faults, one behind the other.
 ghost use Rattle.std.specs.Prelude.{◌≡◌, ◌++◌, IfOk};
 
-use bag_facts::Fault;
+use bag_faults::Fault;
 use std::alloc::AllocError;
 
 /// The first, and the others behind them. Takes no memory where one of them has none.

@@ -5,7 +5,7 @@ ghost use Rattle.std.specs.Option.{option_map};
 ghost use Rattle.std.specs.Str.{IsAscii};
 ghost use Rattle.bag_text.specs.Order.{IsListOf};
 ghost use Rattle.bag_text.specs.Text.{text_cmp};
-ghost use Rattle.bag_facts.specs.FaultOrder.{fault_cmp};
+ghost use Rattle.bag_faults.specs.FaultOrder.{fault_cmp};
 ghost use Rattle.bag_stages.specs.Clashes.{nfc_of};
 ghost use Rattle.bag_stages.specs.ClashFaults.{first_of_form, first_with, name_clash, IsClashAmong};
 ghost use Rattle.bag_stages.specs.ClashStage.{IsClashFault};
@@ -13,7 +13,8 @@ ghost use Rattle.bag_stages.specs.Names.{texts_of};
 ghost use Rattle.bag_stages.specs.Found.{AreFaultsOf};
 
 use crate::names::{in_order, payload_names};
-use bag_facts::{Facts, Fault};
+use bag_facts::Facts;
+use bag_faults::Fault;
 use bag_text::{Code, Text};
 use std::alloc::{AllocError, Global};
 use std::collections::HashMap;

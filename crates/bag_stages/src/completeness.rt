@@ -9,7 +9,8 @@ use crate::clashes::clash_faults;
 use crate::left_out::left_out_by_all;
 use crate::missing::missing_tag_files;
 use crate::payload_named::payload_faults;
-use bag_facts::{Facts, Fault};
+use bag_facts::Facts;
+use bag_faults::Fault;
 use std::alloc::{AllocError, Global};
 
 /// The faults of completeness (RFC 8493, 3), of facts read for more than the declaration, and where

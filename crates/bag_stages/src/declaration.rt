@@ -2,12 +2,13 @@
 ghost use Rattle.std.specs.Prelude.{IfOk};
 ghost use Rattle.bag_text.specs.Order.{IsListOf};
 ghost use Rattle.bag_tree.specs.Bag.{Bag};
-ghost use Rattle.bag_facts.specs.FaultOrder.{fault_cmp};
+ghost use Rattle.bag_faults.specs.FaultOrder.{fault_cmp};
 ghost use Rattle.bag_facts.specs.FactsOfBag.{IsFactsOf};
 ghost use Rattle.bag_stages.specs.DeclarationStage.{IsOfDeclaration};
 
 use crate::tag_file::faults_in_file;
-use bag_facts::{Facts, Fault};
+use bag_facts::Facts;
+use bag_faults::Fault;
 use bag_read::TagName;
 use bag_text::Code;
 use std::alloc::{AllocError, Global};

@@ -1,7 +1,7 @@
 //! Stage 4: the list of files to fetch.
 ghost use Rattle.std.specs.Prelude.{◌≡◌, IfOk};
 ghost use Rattle.bag_text.specs.Order.{IsListOf};
-ghost use Rattle.bag_facts.specs.FaultOrder.{fault_cmp};
+ghost use Rattle.bag_faults.specs.FaultOrder.{fault_cmp};
 ghost use Rattle.bag_facts.specs.FactsOfBag.{IfBagRead};
 ghost use Rattle.bag_facts.specs.TagFacts.{AreByPath};
 ghost use Rattle.bag_stages.specs.FetchFaults.{not_in_manifest, AreByLine};
@@ -14,7 +14,8 @@ ghost use Rattle.bag_stages.specs.Found.{AreFaultsOf, AreFetchFaultsOf};
 
 use crate::named::is_named;
 use crate::tag_file::faults_in_file;
-use bag_facts::{Facts, Fault, Manifest};
+use bag_facts::{Facts, Manifest};
+use bag_faults::Fault;
 use bag_read::{FetchEntry, Kind, TagName};
 use bag_text::{Alg, Code, Rules, Text};
 use std::alloc::{AllocError, Global};

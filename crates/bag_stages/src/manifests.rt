@@ -5,7 +5,7 @@ ghost use Rattle.bag_text.specs.Order.{IsListOf};
 ghost use Rattle.bag_text.specs.Only.{IsOnly};
 ghost use Rattle.bag_text.specs.Text.{text_cmp};
 ghost use Rattle.bag_tree.specs.Bag.{Bag};
-ghost use Rattle.bag_facts.specs.FaultOrder.{fault_cmp};
+ghost use Rattle.bag_faults.specs.FaultOrder.{fault_cmp};
 ghost use Rattle.bag_facts.specs.FactsOfBag.{IsFactsOf, IsSaidOfTagFile};
 ghost use Rattle.bag_facts.specs.TagFacts.{AreByPath};
 ghost use Rattle.bag_facts.specs.Wanted.{paths_of};
@@ -16,7 +16,8 @@ ghost use Rattle.bag_stages.specs.ManifestsStage.{IsOfManifests};
 ghost use Rattle.bag_stages.specs.Found.{AreFaultsOf};
 
 use crate::tag_file::line_faults;
-use bag_facts::{Facts, Fault, Manifest, TagFacts};
+use bag_facts::{Facts, Manifest, TagFacts};
+use bag_faults::Fault;
 use bag_read::{Kind, TagName, manifest_alg};
 use bag_text::{Code, Rules, Text};
 use bag_tree::FileEntry;

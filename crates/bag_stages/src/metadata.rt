@@ -2,7 +2,7 @@
 ghost use Rattle.std.specs.Prelude.{◌≡◌, IfOk};
 ghost use Rattle.bag_text.specs.Order.{IsListOf};
 ghost use Rattle.bag_tree.specs.Bag.{Bag};
-ghost use Rattle.bag_facts.specs.FaultOrder.{fault_cmp};
+ghost use Rattle.bag_faults.specs.FaultOrder.{fault_cmp};
 ghost use Rattle.bag_facts.specs.FactsOfBag.{IsSaidOfTagFile};
 ghost use Rattle.bag_facts.specs.declared.tag_facts.TagFacts.TheVariants as known;
 ghost use Rattle.bag_stages.specs.MetadataStage.{IsOfMetadata, bag_info_txt};
@@ -12,7 +12,8 @@ ghost use Rattle.bag_stages.specs.Found.{AreFaultsOf};
 
 use crate::oxum_faults::{no_oxum, oxum_faults};
 use crate::tag_file::line_faults;
-use bag_facts::{Facts, Fault, Metadata};
+use bag_facts::{Facts, Metadata};
+use bag_faults::Fault;
 use bag_read::TagName;
 use bag_text::Text;
 use bag_tree::FileEntry;

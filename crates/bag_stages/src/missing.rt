@@ -4,7 +4,7 @@ ghost use Rattle.std.specs.List.Sorted.{IsStrictlySortedBy};
 ghost use Rattle.bag_text.specs.Order.{IsListOf};
 ghost use Rattle.bag_text.specs.Text.{text_cmp};
 ghost use Rattle.bag_read.specs.declared.kind.Kind.TheVariants.{Tag};
-ghost use Rattle.bag_facts.specs.FaultOrder.{fault_cmp};
+ghost use Rattle.bag_faults.specs.FaultOrder.{fault_cmp};
 ghost use Rattle.bag_facts.specs.TagFacts.{AreByPath};
 ghost use Rattle.bag_facts.specs.Wanted.{paths_of};
 ghost use Rattle.bag_stages.specs.CompletenessFaults.{missing_code, IsMissing};
@@ -13,7 +13,8 @@ ghost use Rattle.bag_stages.specs.Found.{AreFaultsOf, AreEachOnceOf};
 
 use crate::appended::appended;
 use crate::seek::seek;
-use bag_facts::{Facts, Fault};
+use bag_facts::Facts;
+use bag_faults::Fault;
 use bag_read::{Kind, ManifestEntry};
 use bag_text::{Alg, Code};
 use bag_tree::FileEntry;

@@ -4,7 +4,7 @@ ghost use Rattle.bag_stages.specs.OxumFaults as reported;
 ghost use Rattle.bag_stages.specs.PayloadSize.{listed_oxum};
 
 use crate::payload_size::{PayloadSize, payload_size};
-use bag_facts::Fault;
+use bag_faults::Fault;
 use bag_read::{Element, oxum_of};
 use bag_text::{Code, Text, same_label};
 use bag_tree::FileEntry;

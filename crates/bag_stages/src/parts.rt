@@ -9,8 +9,8 @@ ghost use Rattle.bag_text.specs.declared.code.Code.TheVariants.{NoPayloadFolder,
 ghost use Rattle.bag_read.specs.ManifestName.{is_alg_text, manifest_name};
 ghost use Rattle.bag_read.specs.declared.kind.Kind.{Kind};
 ghost use Rattle.bag_tree.specs.Bag.{Bag};
-ghost use Rattle.bag_facts.specs.FaultAt.{of_bag};
-ghost use Rattle.bag_facts.specs.FaultOrder.{fault_cmp};
+ghost use Rattle.bag_faults.specs.FaultAt.{of_bag};
+ghost use Rattle.bag_faults.specs.FaultOrder.{fault_cmp};
 ghost use Rattle.bag_facts.specs.TagFacts.{name_of, text_test};
 ghost use Rattle.bag_facts.specs.Wanted.{paths_of};
 ghost use Rattle.bag_stages.specs.FileFaults.{AreTagsOf, ListsPayloadManifest, HasTextless};
@@ -19,7 +19,8 @@ ghost use Rattle.bag_stages.specs.PartsStage.{IsOfParts};
 ghost use Rattle.bag_stages.specs.TagFiles.{HasNoText};
 ghost use Rattle.bag_stages.specs.Found.{AreFaultsOf};
 
-use bag_facts::{Facts, Fault, TagFacts};
+use bag_facts::{Facts, TagFacts};
+use bag_faults::Fault;
 use bag_read::{Kind, TagName, manifest_alg};
 use bag_text::{Alg, Code, Text};
 use bag_tree::FileEntry;

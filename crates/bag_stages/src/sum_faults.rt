@@ -9,7 +9,7 @@ ghost use Rattle.bag_stages.specs.ValidityStage.{expected_and_found};
 
 use crate::Packed;
 use crate::expected::kind_of;
-use bag_facts::Fault;
+use bag_faults::Fault;
 use bag_read::Kind;
 use bag_text::{Alg, Code, Text};
 use bag_tree::{HexFault, Sums};

@@ -2,7 +2,7 @@
 ghost use Rattle.std.specs.Prelude.{◌≡◌, [], IfOk, map, if◌then◌else◌};
 ghost use Rattle.bag_stages.specs.FaultPlaces.{in_file};
 
-use bag_facts::Fault;
+use bag_faults::Fault;
 use bag_read::LineFault;
 use bag_text::{Alg, Text};
 use std::alloc::{AllocError, Global};

@@ -2,7 +2,7 @@ pub use Rattle.bag_disk.specs.BagBelow
 pub use Rattle.bag_disk.specs.Disk
 pub use Rattle.bag_disk.specs.DiskBag
 pub use Rattle.bag_disk.specs.Location
-pub use Rattle.bag_disk.specs.SystemDisk
+pub use Rattle.bag_system.specs.SystemDisk
 pub use Rattle.bag_disk.specs.WritableDisk
 pub use Rattle.bag_memory.specs.FailTree
 pub use Rattle.bag_memory.specs.KthCall

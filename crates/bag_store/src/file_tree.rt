@@ -5,7 +5,8 @@ ghost use Rattle.bag_store.specs.Asking.{HasDurableFolders};
 use crate::answered::Answered;
 use crate::standing::has_folder_named;
 use crate::{changing, replacing, writing};
-use bag_disk::{Disk, Refusal, ReplaceDisk, SystemDisk, WritableDisk, list_below, open_at};
+use bag_disk::{Disk, Refusal, ReplaceDisk, WritableDisk, list_below, open_at};
+use bag_system::SystemDisk;
 use bag_tree::{Listing, ReplaceTree, Tree, TreeFault, WriteTree};
 use std::alloc::{AllocError, Global};
 use std::rt::Files;
@@ -246,7 +247,7 @@ impl<D: ReplaceDisk + Drop> ReplaceTree for FileTree<D> {
 
 impl<R: Files + AllocGlobal + Clone + Drop> FileTree<SystemDisk<R>> {
     ghost use Rattle.std.specs.Prelude.{[], IfOk, false};
-    ghost use Rattle.bag_disk.specs.SystemDisk.{base_of, system_state};
+    ghost use Rattle.bag_system.specs.SystemDisk.{base_of, system_state};
     ghost use Rattle.bag_store.specs.FileTree.{tree_state};
     ghost use Rattle.bag_store.specs.FileTreeCalls.{disk_of};
 

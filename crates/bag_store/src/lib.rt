@@ -30,8 +30,9 @@ mod syncing;
 mod target;
 mod writing;
 
-pub use bag_disk::{Disk, DiskFault, Entry, ReplaceDisk, SystemDisk, WritableDisk};
+pub use bag_disk::{Disk, DiskFault, Entry, ReplaceDisk, WritableDisk};
 pub use bag_memory::{FailTree, MemoryTree, SkewTree};
+pub use bag_system::SystemDisk;
 pub use bag_tree::{
     Answer, DeviceEvent, Digests, FileEntry, HexFault, Listing, Out, Refused, ReplaceTree, Stop,
     Sums, Tree, TreeFault, WriteTree, WriterOut, digest_file, put_all, put_pieces, read_whole,

@@ -1,6 +1,7 @@
 pub mod Common
 pub mod CutTexts
 pub mod DeclarationReadAgain
+pub mod Digests
 pub mod DistinctPaths
 pub mod EscapedPaths
 pub mod HexTexts

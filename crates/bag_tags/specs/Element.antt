@@ -2,7 +2,7 @@
 use Rattle.std.specs.Prelude.{ℕ, ◌||◌, Bool, not, List, [], ◌∷◌, ◌++◌, bytes_eq, codes, flat_map}
 use Rattle.std.specs.List.{list_any}
 use Rattle.bag_text.specs.Bytes.{Content}
-use Rattle.bag_text.specs.Text.{trim, has_mark}
+use Rattle.bag_text.specs.Text.{IsText, trim, has_mark}
 use Rattle.bag_text.specs.Lines.{line_feed}
 use Rattle.bag_text.specs.LineEnd.{is_line_end}
 use Rattle.bag_read.specs.Info.{is_colon}
@@ -10,6 +10,10 @@ use Rattle.bag_read.specs.Info.{is_colon}
 -- a label and its value
 abbrev pub NewElement : Type 0
 NewElement = List ℕ × List ℕ
+
+-- they are texts
+abbrev pub AreTexts : NewElement → Type 0
+AreTexts element = IsText element.0 × IsText element.1
 
 -- LABEL: VALUE
 abbrev pub info_line : NewElement → List ℕ

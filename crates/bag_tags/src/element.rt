@@ -1,10 +1,29 @@
-//! Elements that can't be written to `bag-info.txt` (RFC 8493, 2.2.2).
-ghost use Rattle.std.specs.Prelude.{◌≡◌};
+//! Elements that are written to `bag-info.txt`, and those that can't be (RFC 8493, 2.2.2).
+ghost use Rattle.std.specs.Prelude.{◌≡◌, IfOk};
 ghost use Rattle.std.specs.List.{list_any};
 ghost use Rattle.bag_text.specs.LineEnd.{is_line_end};
+ghost use Rattle.bag_text.specs.Text.{IsText};
+ghost use Rattle.bag_read.specs.Oxum.{oxum_text};
 ghost use Rattle.bag_tags.specs.Element as spec;
 
 use bag_text::{BYTE_ORDER_MARK, Text, trim};
+use std::alloc::{AllocError, Global};
+
+/// The label of the element that is computed.
+pub const OXUM_LABEL: &str = "Payload-Oxum";
+
+/// The value of `Payload-Oxum`: how many bytes the payload has, a dot, and how many files.
+pub fn oxum_value(alloc: Global, octets: u128, streams: u64) -> Result<Text, AllocError>
+    ensures { IfOk result (λ text.
+        text ≡ oxum_text (record { octets = octets; streams = streams })) }
+{
+    Ok(Text::from_string(format!(in alloc; "{octets}.{streams}")?))
+}
+
+/// The law that what a `&str` holds is a text.
+pub fn are_texts(label: &str, value: &str)
+    ensures { IsText label.now × IsText value.now }
+{}
 
 /// Whether a label and its value can't be written to `bag-info.txt`, since they would not be read
 /// again as they are (RFC 8493, 2.2.2), by the conditions of `write_info`.

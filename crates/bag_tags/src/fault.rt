@@ -1,5 +1,6 @@
 //! Why a tag file isn't written.
-use bag_text::said;
+use crate::said;
+use bag_text::said::OUT_OF_MEMORY;
 use std::alloc::AllocError;
 use thiserror::Error;
 
@@ -7,7 +8,7 @@ use thiserror::Error;
 #[derive(Clone, Copy, Debug, PartialEq, Eq, Error)]
 pub enum WriteFault {
     /// Memory ran out.
-    #[error("{why}", why = said::OUT_OF_MEMORY)]
+    #[error("{why}", why = OUT_OF_MEMORY)]
     Memory,
     /// A value that would not be read again as it is given.
     #[error("{why}", why = said::BAD_VALUE)]

@@ -27,6 +27,7 @@ pub mod laws;
 mod line;
 mod long_info;
 mod manifest;
+pub mod said;
 mod spelling;
 mod summed;
 mod tag_file;
@@ -36,12 +37,12 @@ pub use bag_read::{
     TagName, declared_rules, manifest_alg, oxum_of, read_declaration, read_fetch, read_info,
     read_manifest,
 };
-pub use declaration::write_declaration;
-pub use element::is_bad_element;
+pub use declaration::{declaration_file, write_declaration};
+pub use element::{OXUM_LABEL, are_texts, is_bad_element, oxum_value};
 pub use fault::WriteFault;
 pub use info::write_info;
 pub use long_info::{is_bad_long_element, write_long_info};
 pub use manifest::{push_entry, write_manifest, write_manifest_by};
 pub use spelling::is_unnameable;
-pub use summed::{SummedFile, manifests_by, manifests_of, sum_text, sum_texts};
+pub use summed::{SummedFile, manifests_by, manifests_of, sum_text, sum_texts, sums_of};
 pub use tag_file::TagFile;

@@ -47,7 +47,7 @@ pub fn sum_text(alloc: Global, file: &TagFile, algs: AlgSet) -> Result<SummedFil
 }
 
 /// The digests of bytes.
-fn sums_of(bytes: &[u8], algs: AlgSet) -> Sums
+pub fn sums_of(bytes: &[u8], algs: AlgSet) -> Sums
     ensures { AreSumsOf algs bytes.now result }
 {
     let mut digests = Digests::new(algs);

@@ -38,6 +38,7 @@ mod out;
 mod path_rest;
 mod putting;
 mod replace_tree;
+pub mod said;
 mod sums;
 mod tree;
 mod tree_fault;

@@ -4,7 +4,7 @@ ghost use Rattle.std.specs.Io.KnownBytes.{Keeps};
 ghost use Rattle.bag_tree.specs.Out.{OutState};
 ghost use Rattle.bag_tree.specs.Heard.{Takes};
 
-use bag_text::said;
+use crate::said;
 use thiserror::Error;
 
 /// The bytes weren't taken.

@@ -4,7 +4,8 @@ ghost use Rattle.bag_tree.specs.declared.tree_fault.TreeFault.TheVariants.{Memor
 ghost use Rattle.bag_tree.specs.Stop.{IsOutOfMemory, IsRefusalOf};
 ghost use Rattle.bag_tree.specs.Tree as spec;
 
-use bag_text::{Text, said};
+use crate::said;
+use bag_text::Text;
 use std::alloc::{AllocError, AllocFailed, Global};
 use std::fmt;
 use thiserror::Error;

@@ -8,11 +8,11 @@ use Rattle.std.specs.Prelude.{◌/◌, ◌%◌}
 use Rattle.std.specs.List.Sorted.{IsStrictlySortedBy}
 use Rattle.std.proofs.Math.Numerals.{add-one}
 use Rattle.std.proofs.Math.Nat.{div-add-mod, mod-lt}
-use Rattle.bag_walk.proofs.Parts.{begins_at, begins_within, ends_or_is, ends_past, passes_over, sorted_behind}
-use Rattle.bag_walk.specs.Parts.{PartsAreEven, begin_of, first_after}
-use Rattle.bag_walk.specs.Parts.{is_file_before, share, weight, weight_of}
-use Rattle.bag_walk.specs.declared.part.Bound.{Bound}
-use Rattle.bag_walk.specs.declared.part.Bound.TheVariants.{File, End}
+use Rattle.bag_sources.proofs.Parts.{begins_at, begins_within, ends_or_is, ends_past, passes_over, sorted_behind}
+use Rattle.bag_sources.specs.Parts.{PartsAreEven, begin_of, first_after}
+use Rattle.bag_sources.specs.Parts.{is_file_before, share, weight, weight_of}
+use Rattle.bag_sources.specs.declared.part.Bound.{Bound}
+use Rattle.bag_sources.specs.declared.part.Bound.TheVariants.{File, End}
 
 -- ---- what the files cost that pass a test
 

@@ -7,7 +7,7 @@ use Rattle.bag_stages.specs.HasList.{HasList}
 use Rattle.bag_stages.proofs.BagLists.{over_algs}
 use Rattle.bag_stages.proofs.HasLists.{Decided, both_decided, for_each, one_where, same_set, true_or_not}
 use Rattle.bag_report.proofs.AscendingList.{ascending_list}
-use Rattle.bag_walk.proofs.Chosen.{full_or_not}
+use Rattle.bag_sources.proofs.Chosen.{full_or_not}
 
 text_same : IsAntisymmetric text_cmp
 text_same = slice_cmp-IsAntisymmetric nat_cmp-IsAntisymmetric

@@ -12,7 +12,7 @@ use Rattle.bag_report.proofs.AscendingList.{keys_rise}
 use Rattle.bag_tree.proofs.SameText.{same_test}
 use Rattle.bag_tree.specs.Bag.{files_of}
 use Rattle.bag_tree.specs.Listing.{entry_at, entry_of_file, size_at}
-use Rattle.bag_walk.specs.Parts.{AreFilesIn, OneListOfFiles}
+use Rattle.bag_sources.specs.Parts.{AreFilesIn, OneListOfFiles}
 
 abbrev by_path : FileEntry → FileEntry → Ordering
 by_path = on (λ (entry : FileEntry). entry.path) text_cmp

@@ -6,16 +6,16 @@ use Rattle.bag_walk.proofs.Common.{[], ◌∷◌, Bool, true, false, None, Some,
 use Rattle.bag_walk.proofs.Common.{is_above, limit_of, fault_cmp, IsStrictlySortedBy-filter, IsTrue, Option, Profile}
 use Rattle.bag_walk.proofs.Common.{Request, TreeState}
 use Rattle.bag_walk.proofs.OneList.{one_list_of_files}
-use Rattle.bag_walk.proofs.Parts.{parts_join}
-use Rattle.bag_walk.proofs.Places.{cursor_cuts_list}
+use Rattle.bag_sources.proofs.Parts.{parts_join}
+use Rattle.bag_sources.proofs.Places.{cursor_cuts_list}
 use Rattle.bag_walk.proofs.RunLines.{concat_joined}
-use Rattle.bag_walk.proofs.Positions.{above_none}
+use Rattle.bag_sources.proofs.Positions.{above_none}
 use Rattle.bag_tree.proofs.Writing.{Appends-append}
 use Rattle.bag_walk.specs.PartRuns.{CursorCutsPart, DonePartIsWritten, IsRunOfPart, OneListIsTold, PartsWriteReport}
 use Rattle.bag_walk.specs.PartRuns.{PutsPartClosing, done_line, first_counts, first_lines, part_outcome}
-use Rattle.bag_walk.specs.Parts.{AreFilesIn, bounds_of, first_parts, is_within, listed_of, part_of}
-use Rattle.bag_walk.specs.declared.part.Listed.{Listed}
-use Rattle.bag_facts.specs.Part.{Part}
+use Rattle.bag_sources.specs.Parts.{AreFilesIn, bounds_of, first_parts, is_within, listed_of, part_of}
+use Rattle.bag_sources.specs.declared.part.Listed.{Listed}
+use Rattle.bag_faults.specs.Part.{Part}
 use Rattle.bag_walk.specs.declared.part_run.PartOutcome.TheVariants.{Done}
 use Rattle.bag_walk.specs.declared.segment.SegmentEnd.TheVariants.{Full, AtEnd, Unread, Unwritten}
 

@@ -11,16 +11,16 @@ use Rattle.bag_walk.proofs.Common.{IsToOpen, NoFaultBefore, NoFaultBeforeStop, O
 use Rattle.bag_walk.proofs.Common.{EndsSegment, IsRefusedAt, still_to_come, looked_past, false, refl, All-nil}
 use Rattle.bag_walk.proofs.Common.{all_along, each_from_members, is_passed, IsBag, None}
 use Rattle.std.specs.List.Sorted.{IsStrictlySortedBy}
-use Rattle.bag_facts.specs.Part.{Part}
-use Rattle.bag_walk.proofs.Filling.{again_within, opened_front}
+use Rattle.bag_faults.specs.Part.{Part}
+use Rattle.bag_sources.proofs.Filling.{again_within, opened_front}
 use Rattle.bag_walk.proofs.OneList.{one_list_of_files}
 use Rattle.bag_walk.proofs.Openings.{early_at, none_of}
 use Rattle.bag_walk.proofs.Running.{memory_may_stop}
 use Rattle.bag_walk.proofs.Shown.{above_report}
 use Rattle.bag_walk.specs.PartRuns.{ForPart, LooksNoFurtherInPart, OpensInPart, OpensPartUpTo, WritesPart}
-use Rattle.bag_walk.specs.Parts.{AreFilesIn, bounds_of, is_file_within, is_within, part_of}
-use Rattle.bag_walk.specs.StartPart.{AreToOpenWithin, IsPartStarted, IsWithin}
-use Rattle.bag_walk.specs.declared.part.Bounds.{Bounds}
+use Rattle.bag_sources.specs.Parts.{AreFilesIn, bounds_of, is_file_within, is_within, part_of}
+use Rattle.bag_sources.specs.StartPart.{AreToOpenWithin, IsPartStarted, IsWithin}
+use Rattle.bag_sources.specs.declared.part.Bounds.{Bounds}
 use Rattle.bag_walk.specs.declared.segment.SegmentEnd.TheVariants.{AtEnd, Full as IsFull, Unread, Unwritten}
 
 -- a request for the faults above a cursor

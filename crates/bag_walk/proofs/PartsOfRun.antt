@@ -7,7 +7,7 @@ use Rattle.bag_walk.specs.Ending.{TookAll}
 use Rattle.bag_walk.specs.declared.outcome.Outcome.TheVariants.{Clean, Faults, Rest, Stopped, Unread, Unwritten}
 use Rattle.bag_walk.proofs.PartLines.{parts_write_report}
 use Rattle.bag_walk.proofs.RunLines.{concat-append_one}
-use Rattle.bag_walk.proofs.Positions.{above_none}
+use Rattle.bag_sources.proofs.Positions.{above_none}
 use Rattle.bag_walk.specs.PartRuns.{RunIsItsParts}
 
 module _ (request : Request) (faults : List Fault) (Stops : Stop → Type 0) (k : ℕ) where

@@ -4,7 +4,7 @@ use Rattle.bag_walk.proofs.Common.{sym, ◌∙◌, append_assoc, append-nil, tak
 use Rattle.bag_walk.proofs.Common.{concat, Appends, IsCutAt, IsCut, ◌+◌, None, codes, IsLineOf, Fault, IsLastLine}
 use Rattle.bag_walk.proofs.Common.{IsLastOf, same_from_push, length-append}
 use Rattle.bag_tree.proofs.Writing.{Appends-append}
-use Rattle.bag_facts.proofs.Lines.{lines_tell_faults_apart}
+use Rattle.bag_faults.proofs.Lines.{lines_tell_faults_apart}
 
 pub concat_joined : (xs ys : List (List ℕ)) → concat (xs ++ ys) ≡ concat xs ++ concat ys
 concat_joined [] ys = refl

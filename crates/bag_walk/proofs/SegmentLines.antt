@@ -10,7 +10,7 @@ use Rattle.bag_walk.proofs.Common.{IsLastOf, IsSegment, MayStopRun, AtEnd, drop-
 use Rattle.bag_walk.proofs.Common.{option_map, true}
 use Rattle.bag_walk.proofs.RunLines.{concat-append_one, cut_at, place_behind}
 use Rattle.bag_tree.proofs.Writing.{Appends-append}
-use Rattle.bag_walk.proofs.Filling.{behind_on, once, reached_on, sees_later, sees_parts, stop_later}
+use Rattle.bag_sources.proofs.Filling.{behind_on, once, reached_on, sees_later, sees_parts, stop_later}
 use Rattle.bag_walk.specs.declared.segment.SegmentEnd.TheVariants.{Full, Unread, Unwritten}
 
 pub opens_nothing : (old : TreeState) (xs : List (List ℕ)) → Opens xs xs old old

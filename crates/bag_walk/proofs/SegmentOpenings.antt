@@ -8,10 +8,10 @@ use Rattle.bag_walk.proofs.Common.{NoFaultBefore, OpensAgain, OpensNoFileEarly, 
 use Rattle.bag_walk.proofs.Common.{looked_past, still_to_come, AreCompared, IsComparedFile, OpensFew, OpensInSegment}
 use Rattle.bag_walk.proofs.Common.{not_passed, cursor_after, Segment, not-true, append_cancel_left, cases_lt}
 use Rattle.bag_walk.specs.declared.segment.SegmentEnd.TheVariants.{Full}
-use Rattle.bag_walk.proofs.Filling.{opened_front}
+use Rattle.bag_sources.proofs.Filling.{opened_front}
 use Rattle.bag_walk.proofs.Openings.{no_payload, payload_of}
 use Rattle.bag_walk.proofs.Passed.{NoneBehindLast, no_more, one_twice}
-use Rattle.bag_walk.proofs.Places.{at_later, at_place, contains_from}
+use Rattle.bag_sources.proofs.Places.{at_later, at_place, contains_from}
 
 -- ---- one segment
 

@@ -6,11 +6,11 @@ use Rattle.bag_walk.proofs.Common.{OpensAgain, OpensNoFileEarly, Sees, IsListedT
 use Rattle.bag_walk.proofs.Common.{IsSegment, still_to_come, AreCompared, OpensInSegment, not_passed, cursor_after}
 use Rattle.bag_walk.proofs.Common.{ContinuesReport, Segment}
 use Rattle.bag_walk.proofs.PartRuns.{left_of, sees_of}
-use Rattle.bag_walk.proofs.Stages.{payload_to_open}
+use Rattle.bag_sources.proofs.Stages.{payload_to_open}
 use Rattle.bag_walk.proofs.WholeRun.{all_of_it}
-use Rattle.bag_walk.proofs.Within.{all_to_open}
-use Rattle.bag_walk.specs.Parts.{only_part}
-use Rattle.bag_walk.specs.StartPart.{IsPartStarted}
+use Rattle.bag_sources.proofs.Within.{all_to_open}
+use Rattle.bag_sources.specs.Parts.{only_part}
+use Rattle.bag_sources.specs.StartPart.{IsPartStarted}
 use Rattle.bag_walk.proofs.SegmentOpenings.{not_passed_listed, opens_front}
 use Rattle.bag_walk.proofs.SegmentSteps.{above_behind, last_later}
 

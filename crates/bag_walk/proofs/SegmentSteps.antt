@@ -15,8 +15,8 @@ use Rattle.bag_walk.specs.declared.segment.SegmentEnd.TheVariants as end_of
 use Rattle.bag_walk.proofs.Closed.{end_has_no_stop}
 use Rattle.bag_walk.proofs.Passed.{passed_later}
 use Rattle.bag_walk.proofs.RunLines.{concat_joined}
-use Rattle.bag_walk.proofs.Positions.{above_none}
-use Rattle.bag_walk.proofs.Places.{at_later, at_place, cursor_cuts_list}
+use Rattle.bag_sources.proofs.Positions.{above_none}
+use Rattle.bag_sources.proofs.Places.{at_later, at_place, cursor_cuts_list}
 use Rattle.bag_walk.proofs.SegmentOpenings.{OpenedSoFar, few_of, few_with_last, full_more, none_behind_last}
 use Rattle.bag_walk.proofs.SegmentOpenings.{opened_none, unread_more}
 use Rattle.bag_walk.specs.SegmentLaws.{ChainsAreSegments}

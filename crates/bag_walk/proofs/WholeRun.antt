@@ -3,49 +3,28 @@ use Rattle.bag_walk.proofs.Common.{◌≡◌, ◌⊎◌, ◌∷◌, ◌∙◌, �
 use Rattle.bag_walk.proofs.Common.{IsTrue, false, ◌≢◌, ◌<◌, ◌++◌, true, true≢false, filter, drop, min, take, ◌-◌}
 use Rattle.bag_walk.proofs.Common.{append_cancel_left, All-filter, all_along, each_from_members, same_members}
 use Rattle.bag_walk.proofs.Common.{is_payload_path, fault_cmp, length-take-le, take_all, Bag, IsBag, IsSummed}
-use Rattle.bag_walk.proofs.Common.{NothingFailed, OutState, Stop, TreeState, Fault, FileEntry, Options, Profile}
-use Rattle.bag_walk.proofs.Common.{Check, above, stage, NoFaultBefore, is_passed, limit_of, IsAsked, check_of, IsRun}
+use Rattle.bag_walk.proofs.Common.{NothingFailed, OutState, Stop, TreeState, Fault, FileEntry, Profile}
+use Rattle.bag_walk.proofs.Common.{above, stage, NoFaultBefore, is_passed, limit_of, IsAsked, check_of, IsRun}
 use Rattle.bag_walk.proofs.Common.{IsHonestOrReadOnce, LooksNoFurther, OpensInRun, OpensInTurn, OpensNonePassed}
 use Rattle.bag_walk.proofs.Common.{OpensUpToSummed, StopsInTurn, written_before, Outcome, Request, count_of}
 use Rattle.bag_walk.proofs.Common.{ClosesSegment, IfRunUnread, IfUnread, IsRead, IsSegment, MayStop, Segment}
-use Rattle.bag_walk.proofs.Common.{SegmentEnd, StopsAt, looked_past, still_to_come, IsStarted, ForListing, OpensUpTo}
-use Rattle.bag_walk.proofs.Chosen.{full_or_not}
+use Rattle.bag_walk.proofs.Common.{SegmentEnd, StopsAt, looked_past, still_to_come, ForListing, OpensUpTo}
+use Rattle.bag_sources.proofs.Chosen.{full_or_not}
 use Rattle.bag_walk.proofs.OneList.{bag_is_listed}
 use Rattle.bag_walk.proofs.Openings.{payload_of}
 use Rattle.bag_walk.proofs.Running.{looked_before, stopped_when, wider_end}
 use Rattle.bag_walk.proofs.Shown.{AreAsked, above_report, front_is_first}
-use Rattle.bag_walk.proofs.Stages.{payload_to_open}
-use Rattle.bag_walk.proofs.Within.{all_ahead, all_to_open}
+use Rattle.bag_sources.proofs.Within.{all_to_open}
 use Rattle.bag_report.proofs.EachReport.{each_bag_has_a_report}
-use Rattle.bag_report.specs.Report.{check_with}
 use Rattle.bag_walk.specs.PartRuns.{ForPart, LooksNoFurtherInPart, OpensInPart, OpensPartUpTo, StopsInPartInTurn, WritesPart}
-use Rattle.bag_walk.specs.Parts.{AreFilesIn, only_part, part_of}
+use Rattle.bag_sources.specs.Parts.{AreFilesIn, only_part, part_of}
 use Rattle.bag_walk.specs.Run.{ForReportAsked}
-use Rattle.bag_walk.specs.StartPart.{IsPartStarted}
 use Rattle.bag_walk.specs.declared.segment.SegmentEnd.TheVariants.{Unread}
 
 -- all faults stand in that part
 pub all_of_it : (files : List FileEntry) (faults : List Fault) → part_of files only_part faults ≡ faults
 all_of_it files [] = refl
 all_of_it files (f ∷ faults) = ap (λ rest. f ∷ rest) (all_of_it files faults)
-
--- a walk over it that was started is one over the report
-pub whole_started : {old : TreeState} {profile : Option Profile} {options : Options} {after : Option Fault}
-    {IsOf : Bag → Type 0} {left : Bag → List Fault} {todo : List (List ℕ)}
-    → IsPartStarted old profile options after only_part IsOf left todo
-    → IsStarted old profile options after IsOf left todo
-whole_started {profile = profile} {options = options} {after = after} {left = left} {todo = todo} started =
-    let check : Check = check_with started.seen profile options in
-    let files = all_to_open check after todo started.files in
-    record {
-      seen = started.seen;
-      is_bag = started.is_bag;
-      honest = started.honest;
-      of = started.of;
-      stands = all_ahead check after (left started.seen) started.stands;
-      files = files;
-      payload = payload_to_open check after todo files;
-    }
 
 if_unread : (end : SegmentEnd) (P Q : Stop → Type 0) → ((stop : Stop) → P stop → Q stop) → IfUnread end P → IfUnread end Q
 if_unread (Unread stop) P Q more p = more stop p

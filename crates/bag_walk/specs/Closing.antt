@@ -2,9 +2,9 @@
 use Rattle.std.specs.Prelude.{ℕ, List, [], ◌++◌, codes, decimal, if◌then◌else◌}
 use Rattle.bag_tree.specs.Tree.{cause_word}
 use Rattle.bag_tree.specs.declared.tree_fault.Stop.{Stop}
-use Rattle.bag_facts.specs.FaultLine.{field}
-use Rattle.bag_facts.specs.declared.options.Depth.{Depth}
-use Rattle.bag_facts.specs.declared.options.Depth.TheVariants.{Declaration, Fast, Complete, Full}
+use Rattle.bag_faults.specs.FaultLine.{field}
+use Rattle.bag_faults.specs.declared.options.Depth.{Depth}
+use Rattle.bag_faults.specs.declared.options.Depth.TheVariants.{Declaration, Fast, Complete, Full}
 use Rattle.bag_walk.specs.declared.outcome.Outcome.{Outcome}
 use Rattle.bag_walk.specs.declared.outcome.Outcome.TheVariants.{Clean, Faults, Stopped, Rest}
 use Rattle.bag_walk.specs.declared.outcome.Outcome.TheVariants.{Unread, Unwritten}

@@ -1,7 +1,7 @@
 -- The line that was written last.
 use Rattle.std.specs.Prelude.{zero, suc, ℕ, ◌≡◌, List, [], Option, None, Some, slice_get}
-use Rattle.bag_facts.specs.LineOf.{IsFault}
-use Rattle.bag_facts.specs.declared.fault.Fault.{Fault}
+use Rattle.bag_faults.specs.LineOf.{IsFault}
+use Rattle.bag_faults.specs.declared.fault.Fault.{Fault}
 use Rattle.bag_walk.specs.Ending.{written_line}
 
 -- the last of the first n faults, from which a segment goes on: none where there is none yet

@@ -14,25 +14,25 @@ use Rattle.bag_tree.specs.Listing.{IsOrdered}
 use Rattle.bag_tree.specs.Out.{IsCut, OutState}
 use Rattle.bag_tree.specs.Tree.{IsRefusedAt, Keeps, NothingFailed, TreeState}
 use Rattle.bag_tree.specs.declared.listing.FileEntry.{FileEntry}
-use Rattle.bag_facts.specs.FaultLine.{field}
-use Rattle.bag_facts.specs.FaultOrder.{fault_cmp}
-use Rattle.bag_facts.specs.Part.{Part}
+use Rattle.bag_faults.specs.FaultLine.{field}
+use Rattle.bag_faults.specs.FaultOrder.{fault_cmp}
+use Rattle.bag_faults.specs.Part.{Part}
 use Rattle.bag_facts.specs.Wanted.{AreWanted, ForListing, IsWanted, OpensUpTo, OpensWanted}
-use Rattle.bag_facts.specs.declared.fault.Fault.{Fault}
-use Rattle.bag_facts.specs.declared.options.Depth.TheVariants.{Full}
+use Rattle.bag_faults.specs.declared.fault.Fault.{Fault}
+use Rattle.bag_faults.specs.declared.options.Depth.TheVariants.{Full}
 use Rattle.bag_profile.specs.Profile.{Profile}
 use Rattle.bag_report.specs.Report.{IsReport, above, first}
 use Rattle.bag_walk.specs.Closing.{about_count, closing, unread_line}
 use Rattle.bag_walk.specs.Ending.{ReachesEnd, ended, limit_of, written}
-use Rattle.bag_walk.specs.Parts.{AreFilesIn, bounds_of, is_file_within, listed_of, part_of}
+use Rattle.bag_sources.specs.Parts.{AreFilesIn, bounds_of, is_file_within, listed_of, part_of}
 use Rattle.bag_walk.specs.Run.{ForReportAsked, IsAsked, IsRunByReport, IsHonestOrReadOnce, check_of}
-use Rattle.bag_walk.specs.Openings.{IsToOpen, NoFaultBefore, is_passed}
+use Rattle.bag_sources.specs.Openings.{IsToOpen, NoFaultBefore, is_passed}
 use Rattle.bag_walk.specs.SegmentEnds.{IfUnread, IsRead, IsSegment, still_to_come}
-use Rattle.bag_walk.specs.StartPart.{AreToOpenWithin, IsWithin}
+use Rattle.bag_sources.specs.StartPart.{AreToOpenWithin, IsWithin}
 use Rattle.bag_walk.specs.Stops.{MayStop}
 use Rattle.bag_walk.specs.declared.outcome.Outcome.{Outcome}
 use Rattle.bag_walk.specs.declared.outcome.Request.{Request}
-use Rattle.bag_walk.specs.declared.part.Listed.{Listed}
+use Rattle.bag_sources.specs.declared.part.Listed.{Listed}
 use Rattle.bag_walk.specs.declared.part_run.PartOutcome.{PartOutcome}
 use Rattle.bag_walk.specs.declared.part_run.PartOutcome.TheVariants.{Done, Rest, Stopped, Unread, Unwritten}
 use Rattle.bag_walk.specs.declared.segment.Segment.{Segment}

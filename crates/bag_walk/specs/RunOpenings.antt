@@ -9,11 +9,11 @@ use Rattle.bag_text.specs.Path.{is_payload_path}
 use Rattle.bag_text.specs.Text.{text_cmp}
 use Rattle.bag_tree.specs.Bag.{Bag}
 use Rattle.bag_tree.specs.Tree.{TreeState, IsRefusedAt}
-use Rattle.bag_facts.specs.FaultOrder.{fault_cmp}
-use Rattle.bag_facts.specs.declared.fault.Fault.{Fault}
+use Rattle.bag_faults.specs.FaultOrder.{fault_cmp}
+use Rattle.bag_faults.specs.declared.fault.Fault.{Fault}
 use Rattle.bag_facts.specs.Wanted.{AreWanted, ForListing, IsWanted, OpensUpTo, OpensWanted}
-use Rattle.bag_facts.specs.declared.options.Depth.TheVariants.{Full}
-use Rattle.bag_facts.specs.declared.options.Options.{Options}
+use Rattle.bag_faults.specs.declared.options.Depth.TheVariants.{Full}
+use Rattle.bag_faults.specs.declared.options.Options.{Options}
 use Rattle.bag_profile.specs.Profile.{Profile}
 use Rattle.bag_stages.specs.LeftOut.{IsNamedBySome}
 use Rattle.bag_stages.specs.SummedFiles.{IsSummed}
@@ -22,7 +22,7 @@ use Rattle.bag_walk.specs.Closing.{count_of}
 use Rattle.bag_walk.specs.Ending.{limit_of}
 use Rattle.bag_walk.specs.declared.outcome.Outcome.{Outcome}
 use Rattle.bag_walk.specs.declared.outcome.Request.{Request}
-use Rattle.bag_walk.specs.Openings.{NoFaultBefore, AreToOpen, is_passed}
+use Rattle.bag_sources.specs.Openings.{NoFaultBefore, AreToOpen, is_passed}
 use Rattle.bag_walk.specs.Run.{check_of, ForReportAsked, IsAsked}
 use Rattle.bag_walk.specs.Stops.{IfRunUnread}
 

@@ -2,7 +2,7 @@
 use Rattle.std.specs.Prelude.{ℕ, ◌-◌, ◌<◌, ◌≤◌, ◌≡◌, ⊤, List, length, take, drop}
 use Rattle.bag_tree.specs.Out.{OutState}
 use Rattle.bag_tree.specs.declared.tree_fault.Stop.{Stop}
-use Rattle.bag_facts.specs.declared.fault.Fault.{Fault}
+use Rattle.bag_faults.specs.declared.fault.Fault.{Fault}
 use Rattle.bag_walk.specs.Ending.{written, IsAnswered, TookAll, TookPart}
 use Rattle.bag_walk.specs.Writer.{WritesReport}
 use Rattle.bag_walk.specs.declared.outcome.Outcome.{Outcome}

@@ -7,12 +7,12 @@ use Rattle.bag_text.specs.Path.{is_payload_path}
 use Rattle.bag_text.specs.Text.{text_cmp}
 use Rattle.bag_tree.specs.Bag.{Bag, HasFile}
 use Rattle.bag_tree.specs.Tree.{TreeState}
-use Rattle.bag_facts.specs.declared.fault.Fault.{Fault}
-use Rattle.bag_facts.specs.declared.options.Depth.TheVariants.{Full}
-use Rattle.bag_facts.specs.declared.options.Options.{Options}
+use Rattle.bag_faults.specs.declared.fault.Fault.{Fault}
+use Rattle.bag_faults.specs.declared.options.Depth.TheVariants.{Full}
+use Rattle.bag_faults.specs.declared.options.Options.{Options}
 use Rattle.bag_stages.specs.LeftOut.{IsNamedBySome}
 use Rattle.bag_walk.specs.LastLine.{cursor_after}
-use Rattle.bag_walk.specs.Openings.{NoFaultBefore, is_passed}
+use Rattle.bag_sources.specs.Openings.{NoFaultBefore, is_passed}
 use Rattle.bag_walk.specs.SegmentEnds.{still_to_come}
 use Rattle.bag_walk.specs.declared.segment.Segment.{Segment}
 

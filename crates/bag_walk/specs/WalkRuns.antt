@@ -3,16 +3,16 @@ use Rattle.std.specs.Prelude.{ℕ, List, drop}
 use Rattle.bag_tree.specs.Out.{OutState}
 use Rattle.bag_tree.specs.Tree.{Keeps, NothingFailed, TreeState}
 use Rattle.bag_tree.specs.declared.tree.Tree as Tree
-use Rattle.bag_facts.specs.declared.fault.Fault.{Fault}
+use Rattle.bag_faults.specs.declared.fault.Fault.{Fault}
 use Rattle.bag_walk.specs.LastLine.{IsLastOf}
 use Rattle.bag_walk.specs.Segment.{MayStopRun}
 use Rattle.bag_walk.specs.SegmentEnds.{IfUnread, IsRead, IsSegment}
 use Rattle.bag_walk.specs.SegmentEnds.{still_to_come}
-use Rattle.bag_walk.specs.SourceOpenings.{NoFaultBeforeStop, OpensAgain, OpensNoFileEarly}
-use Rattle.bag_walk.specs.Steps.{ForEachBag, WalkIsOfHonest, left, state, to_open}
+use Rattle.bag_sources.specs.SourceOpenings.{NoFaultBeforeStop, OpensAgain, OpensNoFileEarly}
+use Rattle.bag_sources.specs.Steps.{ForEachBag, WalkIsOfHonest, left, state, to_open}
 use Rattle.bag_walk.specs.declared.segment.Segment.{Segment}
-use Rattle.bag_walk.specs.declared.source.Source as Source
-use Rattle.bag_walk.specs.declared.steps.Steps.{Steps}
+use Rattle.bag_sources.specs.declared.source.Source as Source
+use Rattle.bag_sources.specs.declared.steps.Steps.{Steps}
 
 module _ {T S : Type 0} (tree : Tree.Ghosts T) (source : Source.Ghosts S T) where
   -- A segment of what a walk had still to give, which left its tree as `new`: the lines of the

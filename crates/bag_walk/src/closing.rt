@@ -1,12 +1,11 @@
 //! The line that ends a report. Writing it takes no memory.
 ghost use Rattle.std.specs.Prelude.{◌≡◌, ◌++◌};
-ghost use Rattle.bag_facts.specs.FaultLine.{field};
+ghost use Rattle.bag_faults.specs.FaultLine.{field};
 ghost use Rattle.bag_walk.specs.Closing as spec;
 ghost use Rattle.bag_tree.specs.Pieces.{Writes};
 
-use crate::{Outcome, Request};
-use bag_facts::{Depth, put_line};
-use bag_text::said;
+use crate::{Outcome, Request, said};
+use bag_faults::{Depth, put_line};
 use bag_tree::{Out, Refused, Stop};
 use itoa::Buffer;
 

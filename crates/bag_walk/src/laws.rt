@@ -1,8 +1,8 @@
 //! Laws of the definitions, each the contract of a function that does nothing.
-ghost use Rattle.bag_walk.specs.Cursor.{CursorCutsList};
+ghost use Rattle.bag_sources.specs.Cursor.{CursorCutsList};
 ghost use Rattle.bag_walk.specs.PartRuns.{CursorCutsPart, DonePartIsWritten, OneListIsTold};
 ghost use Rattle.bag_walk.specs.PartRuns.{PartsWriteReport, RunIsItsParts};
-ghost use Rattle.bag_walk.specs.Parts.{OneListOfFiles, PartsAreEven, PartsJoin};
+ghost use Rattle.bag_sources.specs.Parts.{OneListOfFiles, PartsAreEven, PartsJoin};
 ghost use Rattle.bag_walk.specs.SegmentLaws.{AnswersReportUnread, ChainsAreSegments, SegmentsAddUp};
 ghost use Rattle.bag_walk.specs.SegmentOpenings.{EachBagHasComparedFiles};
 ghost use Rattle.bag_walk.specs.Segments.{SegmentsJoin};

@@ -3,7 +3,7 @@ ghost use Rattle.std.specs.Prelude.{◌≡◌};
 ghost use Rattle.bag_walk.specs.Closing as spec;
 ghost use Rattle.bag_walk.specs.ExitStatus as exit_status;
 
-use bag_facts::{Fault, Options};
+use bag_faults::{Fault, Options};
 use bag_text::Text;
 use bag_tree::Stop;
 

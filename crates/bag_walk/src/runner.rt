@@ -3,11 +3,11 @@ ghost use Rattle.std.specs.Prelude.{◌≡◌, Some};
 ghost use Rattle.std.specs.Option.{option_copied};
 ghost use Rattle.bag_walk.specs.WholeRun.{IsRunOver};
 
-use crate::part::only_part;
 use crate::part_run::lines_of_part;
 use crate::segment::close_segment;
 use crate::{Outcome, Request};
 use bag_report::Profile;
+use bag_sources::only_part;
 use bag_tree::{Out, Tree};
 use std::alloc::Global;
 

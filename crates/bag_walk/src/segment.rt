@@ -2,20 +2,20 @@
 ghost use Rattle.std.specs.Prelude.{◌≡◌, List, [], string_bytes, IfOk, IsTrue, OnOk, Option};
 ghost use Rattle.std.specs.Option.{option_copied};
 ghost use Rattle.bag_tree.specs.Out.{OutState};
-ghost use Rattle.bag_facts.specs.declared.fault.Fault.{Fault as FaultValue};
+ghost use Rattle.bag_faults.specs.declared.fault.Fault.{Fault as FaultValue};
 ghost use Rattle.bag_walk.specs.Closing.{count_of};
 ghost use Rattle.bag_walk.specs.Ending.{limit_of, written_line, ended};
 ghost use Rattle.bag_walk.specs.LastLine.{IsLastLine};
 ghost use Rattle.bag_walk.specs.SegmentEnds.{ClosesSegment, IsSegment, StopsAt};
 ghost use Rattle.bag_walk.specs.Stops.{IfRunUnread};
 ghost use Rattle.bag_walk.specs.WalkRuns.{WritesSegment};
-ghost use Rattle.bag_facts.specs.LineOf.{IsFault};
+ghost use Rattle.bag_faults.specs.LineOf.{IsFault};
 ghost use Rattle.bag_walk.specs.Writer.{Closes};
 
 use crate::closing::put_closing;
 use crate::{InOrder, Outcome, Request, Steps};
-use bag_facts::Fault;
-use bag_facts::laws::every_fault_is_one;
+use bag_faults::Fault;
+use bag_faults::laws::every_fault_is_one;
 use bag_tree::{Out, Refused, Stop, Tree, put_all};
 use std::alloc::{AllocError, Global};
 use std::mem;

@@ -2,7 +2,7 @@
 ghost use Rattle.std.specs.Prelude.{◌≡◌, ◌<◌, ◌≤◌, ◌^◌, ℕ, List, sum, string_bytes};
 ghost use Rattle.std.specs.Option.{option_copied};
 ghost use Rattle.bag_tree.specs.Tree.{Keeps, NothingFailed};
-ghost use Rattle.bag_facts.specs.declared.fault.Fault.{Fault as FaultValue};
+ghost use Rattle.bag_faults.specs.declared.fault.Fault.{Fault as FaultValue};
 ghost use Rattle.bag_walk.specs.SegmentEnds.{IfUnread, IsRead, IsSegment};
 ghost use Rattle.bag_walk.specs.SegmentChain.{RunsInSegments};
 ghost use Rattle.bag_walk.specs.SegmentOpenings.{AreCompared, OpensInSegment};
@@ -11,10 +11,10 @@ ghost use Rattle.bag_walk.specs.Segments as spec;
 ghost use Rattle.bag_walk.specs.Segments.{ForReportFrom};
 ghost use Rattle.bag_walk.specs.WalkRuns.{WritesSegment};
 
-use crate::part::only_part;
 use crate::segment::{LineBuffers, Segment, SegmentEnd, end_of_report, write_faults};
 use crate::{InOrder, Outcome, Steps, Walk};
 use bag_report::{Options, Profile};
+use bag_sources::only_part;
 use bag_tree::{Out, Stop, Tree};
 use std::alloc::{AllocError, Global};
 

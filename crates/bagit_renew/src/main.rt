@@ -1,8 +1,9 @@
 //! `bagit-renew`: renews BagIt bags in place (RFC 8493); `--help` says more.
 #![tactic(auto)]
 
-use bag_cli::{Folders, WriterOut};
+use bag_program::Folders;
 use bag_renew_cli::run_renewal;
+use bag_tree::WriterOut;
 use std::io;
 use std::process::ExitCode;
 

@@ -1,7 +1,7 @@
 -- What the example of a renewal asks for.
 use Rattle.std.specs.Prelude.{[], ◌∷◌, false}
 use Rattle.bag_text.specs.declared.alg.Alg.TheVariants.{Sha512}
-use Rattle.bag_renew.specs.declared.renewal.Renewal.{Renewal}
+use Rattle.bag_renewed.specs.declared.renewal.Renewal.{Renewal}
 
 -- manifests of SHA-512, and nothing else
 abbrev pub adding_sha512 : Renewal

@@ -1,7 +1,7 @@
 //! A check, one fault at a time, that passes over files that can't be read.
 ghost use Rattle.std.specs.Prelude.{◌≤◌, IfOk};
 ghost use Rattle.bag_tree.specs.Tree.{Keeps};
-ghost use Rattle.bag_walk.specs.Steps.{state};
+ghost use Rattle.bag_sources.specs.Steps.{state};
 
 use crate::NotDone;
 use bag_report::{Fault, Options};

@@ -3,7 +3,7 @@ use crate::bytes::Bytes;
 use crate::shown::Shown;
 use crate::words::words_of;
 use bag_arguments::{Action, Plan, Usage, plan_of};
-use bag_facts::Depth;
+use bag_faults::Depth;
 use bag_text::Alg;
 use std::alloc::Global;
 

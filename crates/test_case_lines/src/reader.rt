@@ -5,7 +5,7 @@ use crate::plans::plan;
 use crate::spelled;
 use crate::tag_files::manifest_name;
 use crate::written::pairs_of;
-use bag_facts::Fault;
+use bag_faults::Fault;
 use bag_profile::Profile;
 use bag_read::{Kind, read_declaration, read_fetch, read_info, read_manifest};
 use bag_tags::{write_info, write_manifest_by};

@@ -1,6 +1,6 @@
 //! What the readers and writers answer, as rows want it.
 use crate::bytes::Bytes;
-use bag_facts::Fault;
+use bag_faults::Fault;
 use bag_text::Text;
 use std::fmt::Display;
 

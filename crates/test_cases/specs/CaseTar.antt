@@ -1,7 +1,7 @@
 -- The tar files of a case.
 use Rattle.std.specs.Prelude.{length}
-use Rattle.bag_tar.specs.Archive.{ArchiveState}
-use Rattle.bag_cli.specs.SystemTar.{refused_times}
+use Rattle.bag_archive.specs.Archive.{ArchiveState}
+use Rattle.bag_program.specs.SystemTar.{refused_times}
 use Rattle.test_cases.specs.declared.case_tar.CaseTar.{CaseTar}
 
 -- nothing is claimed of what it holds; so often it refused, and it was asked for these parts

@@ -1,7 +1,7 @@
 //! The tar files of a case, in memory.
 ghost use Rattle.std.specs.Prelude.{◌≡◌, ◌≤◌, [], IfOk, length};
-ghost use Rattle.bag_tar.specs.SystemArchive.{no_bytes};
-ghost use Rattle.bag_cli.specs.SystemTar.{refused_times};
+ghost use Rattle.bag_archive.specs.SystemArchive.{no_bytes};
+ghost use Rattle.bag_program.specs.SystemTar.{refused_times};
 ghost use Rattle.test_cases.specs.CaseTar.{case_tar_state};
 
 use bag_tar::{Archive, AskedPlaces, MemoryArchive, Unread};

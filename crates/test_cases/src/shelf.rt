@@ -1,7 +1,7 @@
 //! Disks in memory for the program.
 ghost use Rattle.std.specs.Prelude.{◌≡◌, [], ⊤, IfOk, length};
-ghost use Rattle.bag_cli.specs.SystemReports.{unread_reports};
-ghost use Rattle.bag_cli.specs.SystemTar.{refused_times};
+ghost use Rattle.bag_program.specs.SystemReports.{unread_reports};
+ghost use Rattle.bag_program.specs.SystemTar.{refused_times};
 ghost use Rattle.test_disk.specs.MemoryDisk.{state_of};
 ghost use Rattle.test_disk.specs.Refusing.{refusing};
 ghost use Rattle.test_cases.specs.Shelf.{disk_at, unclaimed};

@@ -1,12 +1,8 @@
-pub mod CutBags
-pub mod CutNames
-pub mod CutPaths
 pub mod HeldCopied
 pub mod HeldGone
 pub mod HeldMoved
 pub mod HeldNames
 pub mod HeldNodes
 pub mod HeldPut
-pub mod LeftOver
 pub mod Placed
 pub mod PutPlaced

@@ -1,5 +1,4 @@
 pub mod Changing
-pub mod Cuts
 pub mod DiskCalls
 pub mod Held
 pub mod MemoryDisk

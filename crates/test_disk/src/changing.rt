@@ -18,7 +18,7 @@ use std::alloc::{AllocError, Global};
 use std::collections::BTreeMap;
 
 /// Puts a node in place of what stood at a path.
-pub(crate) fn put_node(
+fn put_node(
     nodes: &mut BTreeMap<Vec<u8>, Node>,
     path: Vec<u8>,
     node: Node,
@@ -105,7 +105,7 @@ pub(crate) fn moved_to(
 }
 
 /// What is held without what stands at a path.
-pub(crate) fn without(
+fn without(
     alloc: Global,
     nodes: &BTreeMap<Vec<u8>, Node>,
     path: &[u8],

@@ -4,16 +4,14 @@ use bag_store::{MemoryTree, Tree, WriterOut};
 use bag_text::{Text, check_path};
 use bag_walk::{Request, run, status};
 use std::alloc::Global;
-use std::collections::BTreeMap;
 use std::io::Write;
 use std::process::Abort;
-use test_disk::{MemoryDisk, Node};
 
 /// Paths, each with the bytes of its file.
 pub(crate) type Files = &'static [(&'static str, &'static [u8])];
 
 /// A declaration that is right (RFC 8493, 2.1.1).
-pub(crate) const DECLARED: Files = &[(
+const DECLARED: Files = &[(
     "bagit.txt",
     b"BagIt-Version: 1.0\nTag-File-Character-Encoding: UTF-8\n",
 )];
@@ -32,7 +30,7 @@ pub(crate) const WRONG: Files = &[
 ];
 
 /// Puts a file into a tree. A text that isn't a path is refused.
-pub(crate) fn put(stop: &impl Abort, tree: &mut MemoryTree, path: &str, bytes: &[u8]) {
+fn put(stop: &impl Abort, tree: &mut MemoryTree, path: &str, bytes: &[u8]) {
     check_path(path).expect(stop, "succeeds");
     tree.put_file(path, bytes).expect(stop, "succeeds")
 }
@@ -44,18 +42,16 @@ pub(crate) fn put_files(stop: &impl Abort, tree: &mut MemoryTree, files: Files) 
     }
 }
 
-/// Puts a file of `size` letters `a` at each of these paths.
+/// Puts a file of `size` letters `a` into a tree.
 pub(crate) fn put_letters(
     stop: &impl Abort,
     alloc: Global,
     tree: &mut MemoryTree,
-    paths: &str,
+    path: &str,
     size: usize,
 ) {
     let letters = Vec::from_elem(alloc, b'a', size).expect(stop, "succeeds");
-    for path in paths.lines() {
-        put(stop, tree, path, &letters);
-    }
+    put(stop, tree, path, &letters);
 }
 
 /// A bag in memory, with a payload folder and a declaration.
@@ -65,30 +61,6 @@ pub(crate) fn tree_of(stop: &impl Abort, alloc: Global, files: Files) -> MemoryT
     put_files(stop, &mut tree, DECLARED);
     put_files(stop, &mut tree, files);
     tree
-}
-
-/// Puts something on a disk's places.
-fn put_node(
-    stop: &impl Abort,
-    alloc: Global,
-    nodes: &mut BTreeMap<Vec<u8>, Node>,
-    path: &str,
-    node: Node,
-) {
-    let key = path.as_bytes().to_vec(alloc).expect(stop, "succeeds");
-    let put: Result<_, _> = nodes.insert(key, node);
-    put.expect(stop, "succeeds");
-}
-
-/// The disk of such a bag.
-pub(crate) fn disk_of(stop: &impl Abort, alloc: Global, files: Files) -> MemoryDisk {
-    let mut nodes = BTreeMap::new(alloc);
-    put_node(stop, alloc, &mut nodes, "data", Node::Folder);
-    for (path, bytes) in DECLARED.iter().chain(files) {
-        let node = Node::File(bytes.to_vec(alloc).expect(stop, "succeeds"));
-        put_node(stop, alloc, &mut nodes, path, node);
-    }
-    MemoryDisk::holding(alloc, nodes).expect(stop, "a disk")
 }
 
 /// The paths that a tree opened, each with its line's end.
@@ -117,26 +89,15 @@ pub(crate) fn cursor(stop: &impl Abort, alloc: Global, line: Option<&str>) -> Op
     }
 }
 
-/// A request for the faults of a bag called `d`.
-pub(crate) fn request_of(
-    stop: &impl Abort,
-    alloc: Global,
-    options: Options,
-    after: Option<Fault>,
-    limit: Option<u64>,
-) -> Request {
+/// A request for all faults of a bag called `d`, but for names that clash.
+pub(crate) fn request_at(stop: &impl Abort, alloc: Global, depth: Depth) -> Request {
     Request {
-        options,
-        after,
-        limit,
+        options: options_of(depth),
+        after: None,
+        limit: None,
         quiet: false,
         name: Text::from_str(alloc, "d").expect(stop, "succeeds"),
     }
-}
-
-/// A request for all of them, but for names that clash.
-pub(crate) fn request_at(stop: &impl Abort, alloc: Global, depth: Depth) -> Request {
-    request_of(stop, alloc, options_of(depth), None, None)
 }
 
 /// The tree after a check, and what the check wrote, with its exit status after it.

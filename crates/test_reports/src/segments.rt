@@ -1,16 +1,14 @@
 //! Reports in segments: what they write, how they end, which files they open, and what comes where
-//! a call of a tree or of a disk is refused.
+//! a call of a tree is refused.
 ghost use Rattle.std.specs.Prelude.{◌<◌, ◌^◌, sum};
 
-use crate::checks::{Files, WRONG, disk_of, opened, options_of, tree_of};
+use crate::checks::{Files, WRONG, opened, options_of, tree_of};
 use crate::walks::EACH_TWICE;
-use bag_disk::DiskFault;
 use bag_report::Depth;
-use bag_store::{FailTree, FileTree, Tree, WriterOut};
+use bag_store::{FailTree, Tree, WriterOut};
 use bag_walk::{Outcome, run_segments};
 use std::alloc::Global;
 use std::process::Abort;
-use test_disk::{Call, RefusingDisk};
 
 /// A manifest of which no line can be read.
 const UNREAD_LINES: Files = &[(
@@ -95,32 +93,4 @@ fn few_files_are_opened_again(rt: HostRuntime) {
         .lines()
         .filter(|path| path.starts_with("data/"));
     assert!(rt; payload.count() <= 9);
-}
-
-/// Whether segments over the disk of these files, of which the call of this number is refused,
-/// write the whole report and come to its end.
-fn are_whole(stop: &impl Abort, alloc: Global, refused: (u64, DiskFault), limits: &[u64]) -> bool
-    requires { sum limits.now < 2 ^ 64 }
-{
-    let (call, fault) = refused;
-    let disk = disk_of(stop, alloc, EACH_TWICE);
-    let disk = RefusingDisk::over(disk, Call::Numbered(call), fault);
-    let (_tree, text, outcome) = in_segments(stop, alloc, FileTree::over(alloc, disk), limits);
-    text.as_str() == TWICE && matches!(outcome, Outcome::Faults(6))
-}
-
-/// More calls than seven segments make.
-const CALLS: u64 = 200;
-
-#[test]
-fn one_segment_more_makes_up_for_a_refused_call(rt: HostRuntime) {
-    for fault in [DiskFault::Device, DiskFault::Memory] {
-        for call in 0..CALLS {
-            assert!(rt;
-                are_whole(&rt, rt.alloc(), (call, fault), &[1, 1, 1, 1, 1, 1, 1, 1]),
-                "call {call}"
-            );
-        }
-        assert!(rt; are_whole(&rt, rt.alloc(), (CALLS, fault), &[1, 1, 1, 1, 1, 1, 1]));
-    }
 }

@@ -1,15 +1,7 @@
-//! Examples of trees and digests: disks that a test makes up, real folders, and the trees over them,
-//! which are listed, read and changed step by step; and digests in pieces.
+//! Examples of trees: over disks that a test makes up and over real folders, listed, read and changed
+//! step by step; and how often a file is read for its digests.
 #![tactic(auto)]
 
-mod same_disks;
-
-pub use same_disks::checked;
-
-#[cfg(test)]
-mod as_found;
-#[cfg(test)]
-mod deep_folders;
 #[cfg(test)]
 mod digests;
 #[cfg(test)]

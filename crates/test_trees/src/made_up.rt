@@ -1,5 +1,5 @@
 //! Trees over disks that no disk is: what they name stands twice, or at no path, or is too much.
-ghost use Rattle.bag_disk.specs.SystemDisk.{system_state};
+ghost use Rattle.bag_system.specs.SystemDisk.{system_state};
 ghost use Rattle.bag_disk.specs.DiskNodes.{empty_disk};
 ghost use Rattle.bag_disk.specs.Failures.{failures_counted};
 

@@ -3,7 +3,7 @@ use Rattle.bag_cli.proofs.Common.{Err, OutState, Event, NotGiven, CheckOutcome, 
 use Rattle.bag_cli.proofs.Common.{IsCheckOfSample, IsLastCheck, IsVisitToCheck, IsWholeCheck, visit_of, sample_state}
 use Rattle.bag_cli.proofs.Common.{whole_status}
 use Rattle.bag_cli.proofs.Checks.{next_check}
-use Rattle.bag_cli.proofs.Turns.{only_one}
+use Rattle.bag_program.proofs.Turns.{only_one}
 use Rattle.bag_cli.proofs.all_checks.check_samples.Goals as goal
 
 -- the check of the sample, as a visit to a folder of its name during which no device failed, or as one that couldn't be

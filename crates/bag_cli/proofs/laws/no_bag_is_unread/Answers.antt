@@ -4,7 +4,7 @@ use Rattle.bag_cli.proofs.Common.{ArchiveState, Event, OutState, Plan, SummedPro
 use Rattle.bag_cli.proofs.Common.{IsLastTarCheck, IsWholeTarCheck, unwrap_or}
 use Rattle.bag_tar.specs.Found.{Contents}
 use Rattle.bag_tar.specs.Walk.{MayStop, contents_of}
-use Rattle.bag_tar.specs.declared.tar_fault.TarFault.{TarFault}
+use Rattle.bag_archive.specs.declared.tar_fault.TarFault.{TarFault}
 use Rattle.bag_cli.specs.TarReported.{IsSaidFor, IsToldFor}
 use Rattle.bag_cli.proofs.laws.no_bag_is_unread.Goals as goal
 

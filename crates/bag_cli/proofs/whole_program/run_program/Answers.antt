@@ -1,6 +1,6 @@
 use Rattle.bag_cli.proofs.Common.{inl, inr, [], refl, sym, ap, ◌∙◌, append-nil, disks_of, Err, visits_of}
 use Rattle.bag_arguments.specs.Plan.{usage_status}
-use Rattle.bag_cli.proofs.Runs.{words_run}
+use Rattle.bag_program.proofs.Runs.{words_run}
 use Rattle.bag_cli.specs.Program.{IsProgram}
 use Rattle.bag_cli.proofs.whole_program.run_program.Goals as goal
 

@@ -1,5 +1,5 @@
 use Rattle.bag_facts.proofs.Common.{◌≡◌, ◌++◌, ◌+◌, ◌∷◌, [], rules, nothing_then}
-use Rattle.bag_facts.proofs.PassedOn.{passed_on, on_error}
+use Rattle.bag_faults.proofs.PassedOn.{passed_on, on_error}
 use Rattle.bag_facts.proofs.Reading.{reads_none, reads_no_more, reads_one_more, opened_more, opens_first}
 use Rattle.bag_facts.proofs.Reading.{opens_first_here, opens_up_to, stops_at, all_wanted, all_texts}
 use Rattle.bag_facts.proofs.Refusing.{stop_of_memory}

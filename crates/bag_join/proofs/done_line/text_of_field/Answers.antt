@@ -2,7 +2,7 @@ use Rattle.std.proofs.Common.{◌≡◌, Some, sym, subst, ap, ◌∙◌}
 use Rattle.std.specs.Prelude.{IsUtf8}
 unfoldable use Rattle.percent_encoding.specs.Percent.{percent_decode}
 use Rattle.percent_encoding.specs.Iter.{decoded_bytes}
-use Rattle.bag_facts.proofs.Lines.{text_written, nothing_written}
+use Rattle.bag_faults.proofs.Lines.{text_written, nothing_written}
 use Rattle.bag_join.proofs.done_line.text_of_field.Goals as goal
 
 pub returns-then-eq-clause-reads : goal.returns-then-eq-clause-reads

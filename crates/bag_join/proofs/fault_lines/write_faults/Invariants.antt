@@ -1,6 +1,6 @@
 use Rattle.std.proofs.Common.{◌≡◌, ◌++◌, List}
 use Rattle.std.specs.List.{concat}
-use Rattle.bag_facts.specs.declared.fault.Fault.{Fault}
+use Rattle.bag_faults.specs.declared.fault.Fault.{Fault}
 use Rattle.bag_join.specs.Faults.{WritesFaults}
 use Rattle.bag_join.specs.Reports.{ReadsOn}
 use Rattle.bag_walk.specs.Ending.{written}

@@ -1,5 +1,5 @@
 use Rattle.bag_make.proofs.Common.{StopsSumming}
-use Rattle.bag_facts.proofs.PassedOn.{passed_on}
+use Rattle.bag_faults.proofs.PassedOn.{passed_on}
 use Rattle.bag_make.proofs.Summing.{sums_none, sums_one_more, opens_first, stops_at, opens_all, opens_all_first}
 use Rattle.bag_make.proofs.Summing.{sums_all}
 use Rattle.bag_make.proofs.summed.sum_each.Goals as goal

@@ -2,7 +2,7 @@ use Rattle.bag_renew.proofs.Common.{◌≡◌, ◌∙◌, ap, sym, subst, new_al
 use Rattle.std.proofs.Common.{filter}
 use Rattle.bag_renew.specs.Composing.{keeps_bytes, kept_names, last_files, of_path, is_tag_path}
 use Rattle.bag_renew.specs.Planned.{first_from, kept_from}
-use Rattle.bag_renew.specs.Summed.{AreSummed}
+use Rattle.bag_checked.specs.Summed.{AreSummedBy}
 use Rattle.bag_renew.proofs.ComposedChanges.{first_is, kept_summed, named_summed}
 use Rattle.bag_renew.proofs.composing.compose.Goals as goal
 
@@ -25,7 +25,7 @@ returns-clause-composed c = λ bag renewal aim files are.
       named = named_summed bag renewal files info target.algs c.in_ok-payload.tags.items
           c.in_ok-named.named.items c.deref-3.result.now c.deref-4.result.now aim.algs
           (c.deref-3.ensures.value ∙ first) (c.deref-4.ensures.value ∙ last)
-          (subst (AreSummed (new_algs bag renewal) (kept_from bag renewal files info)) (sym tags)
+          (subst (AreSummedBy (new_algs bag renewal) (kept_from bag renewal files info)) (sym tags)
           (kept_summed bag renewal files info c.args.summed.items are))
           c.in_ok-named.ensures;
     }

@@ -4,7 +4,7 @@ use Rattle.bag_stages.proofs.PayloadSize.{listed_size}
 use Rattle.bag_read.specs.Oxum.{oxum_text}
 use Rattle.bag_stages.specs.Payload.{oxum}
 use Rattle.bag_stages.specs.PayloadSize.{listed_oxum}
-use Rattle.bag_renew.specs.Elements.{renewed_elements}
+use Rattle.bag_renewed.specs.Elements.{renewed_elements}
 use Rattle.bag_renew.proofs.info.changed_elements.Goals as goal
 
 pub returns : goal.returns

@@ -2,7 +2,7 @@ use Rattle.std.proofs.Common.{rules, tests}
 use Rattle.std.proofs.lemmas.Bool.{MatchBool-at_false}
 use Rattle.std.proofs.lemmas.Iterator.{YieldsList-from_slice, cases_from_any}
 use Rattle.std.proofs.lemmas.List.Elements.{All-from_all_within}
-use Rattle.bag_renew.specs.NewInfo.{AreTexts}
+use Rattle.bag_tags.specs.Element.{AreTexts}
 use Rattle.bag_renew.proofs.info.has_bad.Goals as goal
 
 pub returns-clause-texts : goal.returns-clause-texts

@@ -1,7 +1,7 @@
 use Rattle.bag_renew.proofs.Common.{◌≡◌, ◌∙◌, ap, subst, sym}
 use Rattle.bag_text.specs.Lines.{lines_of_file}
 use Rattle.bag_renew.proofs.InfoRead.{written}
-use Rattle.bag_renew.specs.Elements.{elements_on}
+use Rattle.bag_renewed.specs.Elements.{elements_on}
 use Rattle.bag_renew.specs.NewInfo.{AreRefused, CanBeWritten, elements_after, elements_from}
 use Rattle.bag_renew.proofs.info.info_file.Goals as goal
 

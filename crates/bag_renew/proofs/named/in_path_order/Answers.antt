@@ -1,7 +1,7 @@
 use Rattle.bag_renew.proofs.Common.{◌≡◌, ◌∙◌, [], List, sym, subst, Alg, File}
 use Rattle.std.proofs.lemmas.Result.{IfOk-weaker}
 use Rattle.bag_renew.specs.Composing.{AreInPathOrder}
-use Rattle.bag_renew.specs.Summed.{AreSummed}
+use Rattle.bag_checked.specs.Summed.{AreSummedBy}
 use Rattle.bag_renew.proofs.InPathOrder.{IsPutFrom, all_put, no_length, put_none, put_one_more}
 use Rattle.bag_renew.proofs.named.in_path_order.Goals as goal
 
@@ -21,8 +21,8 @@ pub returns : goal.returns
 returns c =
     let none : c.loop-one.files.items ≡ [] =
     no_length c.loop-one.files.items (sym c.loop-one.files.ok.0 ∙ c.in_default.ensures.cases.0) in
-    IfOk-weaker c.listed.result _ (λ ordered. (algs : List Alg) (of : List File) → AreSummed algs of c.args.files.items
+    IfOk-weaker c.listed.result _ (λ ordered. (algs : List Alg) (of : List File) → AreSummedBy algs of c.args.files.items
     → AreInPathOrder algs of ordered.items) (λ ordered h algs of are.
-    subst (AreSummed algs _) (sym h) (all_put algs of c.loop-one.by_path.entries
+    subst (AreSummedBy algs _) (sym h) (all_put algs of c.loop-one.by_path.entries
     (subst (λ left. IsPutFrom algs of left c.loop-one.by_path.entries) none (c.loop-one.invariant algs of are))))
     c.listed.ensures

@@ -1,12 +1,12 @@
 use Rattle.bag_renew.proofs.Common.{Alg, File, List}
 use Rattle.std.proofs.Common.{vec_len}
-use Rattle.bag_renew.specs.Summed.{AreSummed}
+use Rattle.bag_checked.specs.Summed.{AreSummedBy}
 use Rattle.bag_renew.proofs.InPathOrder.{IsPutFrom}
 use Rattle.bag_renew.proofs.named.in_path_order.Given as goal
 
 abbrev pub invariant-loop-one : goal.invariant-loop-one
 invariant-loop-one l =
-    (algs : List Alg) (of : List File) → AreSummed algs of l.fn.files.items
+    (algs : List Alg) (of : List File) → AreSummedBy algs of l.fn.files.items
     → IsPutFrom algs of l.files.items l.by_path.entries
 
 abbrev pub decreases-loop-one : goal.decreases-loop-one

@@ -1,11 +1,12 @@
 use Rattle.bag_facts.proofs.Reading.{keeps_on}
 use Rattle.bag_tree.proofs.Calm.{nothing_then}
-use Rattle.bag_renew.proofs.CheckedBag.{has_checked}
-use Rattle.bag_renew.proofs.Openings.{all_still, before_by_check, for_renewal_of_files, for_renewal_of_tags}
-use Rattle.bag_renew.proofs.Openings.{gives_still, wanted_still}
+use Rattle.bag_checked.proofs.CheckedBag.{has_checked}
+use Rattle.bag_renew.proofs.Openings.{before_by_check, for_renewal_of_files, for_renewal_of_tags}
+use Rattle.bag_checked.proofs.InTurn.{all_still}
+use Rattle.bag_checked.proofs.InTurn.{gives_still, wanted_still}
 use Rattle.bag_renew.proofs.ReadBag.{has_read_bag, own_way, refused_by_check, refused_by_facts, refused_stop}
-use Rattle.bag_renew.proofs.ReadBag.{stop_of_facts}
-use Rattle.bag_renew.specs.Renewed.{reads_payload}
+use Rattle.bag_checked.proofs.StopsOfBag.{stop_of_facts}
+use Rattle.bag_renewed.specs.Renewed.{reads_payload}
 use Rattle.bag_renew.proofs.reading.read_bag.Goals as goal
 
 pub returns-in-Err-clause-refused : goal.returns-in-Err-clause-refused

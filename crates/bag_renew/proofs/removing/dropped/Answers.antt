@@ -1,7 +1,7 @@
 use Rattle.bag_renew.proofs.Common.{◌≡◌, ◌∙◌, ap, sym, subst, dropping, Payload}
 use Rattle.std.proofs.lemmas.Result.{IfOk-weaker}
 use Rattle.bag_renew.specs.Composing.{AreOfFiles, removals_of}
-use Rattle.bag_renew.specs.Target.{OfTarget}
+use Rattle.bag_renewed.specs.Target.{OfTarget}
 use Rattle.bag_renew.proofs.OfFiles.{removals_of_files}
 use Rattle.bag_renew.proofs.removing.dropped.Goals as goal
 

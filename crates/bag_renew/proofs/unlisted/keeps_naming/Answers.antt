@@ -1,7 +1,7 @@
 use Rattle.bag_renew.proofs.Common.{◌∙◌, ◌&&◌, ap, sym, bytes_eq, has_member, is_kept_alg, list_any, Payload}
 use Rattle.bag_stages.specs.TagFiles.{named_in}
 use Rattle.bag_renew.specs.Obstacles.{keeps_naming}
-use Rattle.bag_renew.proofs.AlgsMade.{has_member_where}
+use Rattle.bag_renewed.proofs.AlgsMade.{has_member_where}
 use Rattle.bag_renew.proofs.Obstructed.{names_by}
 use Rattle.bag_renew.proofs.unlisted.keeps_naming.Goals as goal
 

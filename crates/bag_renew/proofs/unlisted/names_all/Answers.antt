@@ -1,7 +1,7 @@
 use Rattle.bag_renew.proofs.Common.{◌∙◌, ◌||◌, ap, sym}
-use Rattle.bag_renew.specs.Renewed.{is_v10, writes_payload_manifest}
-use Rattle.bag_renew.specs.Target.{has_some}
-use Rattle.bag_renew.proofs.AlgsMade.{writes_some}
+use Rattle.bag_renewed.specs.Renewed.{is_v10, writes_payload_manifest}
+use Rattle.bag_renewed.specs.Target.{has_some}
+use Rattle.bag_renewed.proofs.AlgsMade.{writes_some}
 use Rattle.bag_renew.proofs.unlisted.names_all.Goals as goal
 
 pub returns-in-V097 : goal.returns-in-V097

@@ -1,6 +1,6 @@
 use Rattle.bag_renew_cli.proofs.Common.{◌≡◌, ℕ, List, [], append-nil, sym, subst, OutState}
-use Rattle.bag_cli.specs.Folders.{visits_of}
-use Rattle.bag_cli.specs.Visits.{Event}
+use Rattle.bag_program.specs.Folders.{visits_of}
+use Rattle.bag_program.specs.Visits.{Event}
 use Rattle.bag_disk.specs.Disk.{DiskState}
 use Rattle.bag_renew_cli.specs.Renewals.{IsDoneBy, IsPerformed}
 use Rattle.bag_renew_cli.specs.declared.plan.RenewAction.{RenewAction}

@@ -1,4 +1,4 @@
-use Rattle.bag_cli.specs.Folders.{disks_of}
+use Rattle.bag_program.specs.Folders.{disks_of}
 use Rattle.bag_renew_cli.proofs.Statuses.{performed_status}
 use Rattle.bag_renew_cli.proofs.performing.perform.Goals as goal
 

@@ -1,7 +1,7 @@
 use Rattle.bag_renew_cli.proofs.Common.{inl, inr, [], refl, sym, ap, ◌∙◌, append-nil, Err}
-use Rattle.bag_cli.specs.Folders.{disks_of, visits_of}
+use Rattle.bag_program.specs.Folders.{disks_of, visits_of}
 use Rattle.bag_arguments.specs.Plan.{usage_status}
-use Rattle.bag_cli.proofs.Runs.{words_run}
+use Rattle.bag_program.proofs.Runs.{words_run}
 use Rattle.bag_renew_cli.specs.Program.{IsProgram}
 use Rattle.bag_renew_cli.proofs.whole_program.run_renewal.Goals as goal
 

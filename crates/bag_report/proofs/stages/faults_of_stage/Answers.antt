@@ -1,6 +1,6 @@
 use Rattle.bag_report.proofs.Common.{◌≡◌, ◌∙◌, sym, true, filter, rules, option_copied, reaches, asks, Check}
 use Rattle.std.proofs.lemmas.Fn.{filter_same}
-use Rattle.bag_facts.specs.Stage.{stage_number}
+use Rattle.bag_faults.specs.Stage.{stage_number}
 use Rattle.bag_report.proofs.Asked.{asked_of_stage, not_reached, reads_more}
 use Rattle.bag_report.proofs.stages.faults_of_stage.Goals as goal
 

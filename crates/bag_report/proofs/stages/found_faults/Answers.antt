@@ -1,6 +1,6 @@
 use Rattle.bag_report.proofs.Common.{ap, arith, option_copied}
 use Rattle.std.proofs.lemmas.Result.{IfOk-weaker}
-use Rattle.bag_facts.specs.Stage.{stage_number}
+use Rattle.bag_faults.specs.Stage.{stage_number}
 use Rattle.bag_report.proofs.Found.{stage_found, stage_six}
 use Rattle.bag_report.proofs.stages.found_faults.Goals as goal
 

@@ -1,5 +1,5 @@
 use Rattle.bag_report.proofs.Common.{[], refl, sym, option_copied, Check}
-use Rattle.bag_facts.specs.declared.stage.Stage.TheVariants as of
+use Rattle.bag_faults.specs.declared.stage.Stage.TheVariants as of
 use Rattle.bag_report.proofs.Asked.{asked_of_stage}
 use Rattle.bag_report.proofs.Found.{no_stage}
 use Rattle.bag_report.proofs.stages.stage_faults.Goals as goal

@@ -1,4 +1,4 @@
-use Rattle.bag_walk.proofs.Parts.{parts_join}
+use Rattle.bag_sources.proofs.Parts.{parts_join}
 use Rattle.bag_walk.proofs.laws.parts_join.Goals as goal
 
 pub returns : goal.returns

@@ -2,7 +2,7 @@ use Rattle.bag_walk.proofs.Common.{◌≡◌, ◌++◌, ◌∙◌, ◌+◌, ◌-
 use Rattle.bag_walk.proofs.Common.{length-append, option_copied, nothing_asked, nothing_then, keeps_itself, keeps_on}
 use Rattle.bag_walk.proofs.Common.{rest_of, shown_by, to_give}
 use Rattle.bag_tree.proofs.Writing.{Appends-nil}
-use Rattle.bag_walk.proofs.Filling.{again_on, once, opens_on}
+use Rattle.bag_sources.proofs.Filling.{again_on, once, opens_on}
 use Rattle.bag_walk.proofs.RunLines.{last_given}
 use Rattle.bag_walk.proofs.SegmentLines.{behind_now, ends_at_end, ends_full, ends_unread, ends_unwritten, last_is, left_at}
 use Rattle.bag_walk.proofs.SegmentLines.{left_at_end, left_is, none_opened, one_line_more, opens_nothing, seen_now}

@@ -1,5 +1,5 @@
 use Rattle.bag_tree.specs.Tree.{Keeps}
-use Rattle.bag_walk.specs.Steps.{state}
+use Rattle.bag_sources.specs.Steps.{state}
 use Rattle.example_calls.proofs.passing.write_faults.Given as goal
 
 abbrev pub invariant-loop : goal.invariant-loop

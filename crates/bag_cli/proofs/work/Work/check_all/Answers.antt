@@ -1,6 +1,6 @@
 use Rattle.bag_cli.proofs.Common.{[], ◌∷◌, refl, Ok, Err, Read}
 use Rattle.bag_cli.proofs.Tars.{form_of_read}
-use Rattle.bag_cli.proofs.Turns.{added}
+use Rattle.bag_program.proofs.Turns.{added}
 use Rattle.bag_cli.proofs.work.Work.check_all.Goals as goal
 
 pub returns-in-Ok : goal.returns-in-Ok

@@ -1,6 +1,6 @@
 use Rattle.bag_cli.proofs.Common.{◌∷◌, [], inl, inr, refl, err_from_is_err_and, option_copied, Entered, Left, NotGiven}
 use Rattle.bag_cli.proofs.Checks.{check_by_status, next_check, visited_check}
-use Rattle.bag_cli.proofs.Turns.{added}
+use Rattle.bag_program.proofs.Turns.{added}
 use Rattle.bag_cli.proofs.work.Work.check_folder.Goals as goal
 
 pub returns-in_err-tree : goal.returns-in_err-tree

@@ -1,6 +1,6 @@
 use Rattle.bag_cli.proofs.Common.{[], ◌∷◌, refl, option_copied, Entered, Left}
 use Rattle.bag_cli.proofs.Checks.{check_by_status, next_check, visited_check}
-use Rattle.bag_cli.proofs.Turns.{added}
+use Rattle.bag_program.proofs.Turns.{added}
 use Rattle.bag_cli.proofs.work.Work.check_opened.Goals as goal
 
 pub returns : goal.returns

@@ -1,7 +1,7 @@
 use Rattle.bag_cli.proofs.Common.{◌∷◌, [], inl, refl, err_from_is_err_and, option_copied, NotGiven, Opened}
 use Rattle.bag_tar.specs.TarTree.{state_of}
 use Rattle.bag_cli.proofs.Tars.{no_tree_of_same, told_last, told_whole, tree_checked, tree_of_same}
-use Rattle.bag_cli.proofs.Turns.{added}
+use Rattle.bag_program.proofs.Turns.{added}
 use Rattle.bag_cli.proofs.work.Work.check_tar.Goals as goal
 
 pub returns-in_err-archive : goal.returns-in_err-archive

@@ -1,5 +1,5 @@
 use Rattle.bag_cli.proofs.Common.{◌∷◌, [], inl, inr, refl, err_from_is_err_and, Asked, Closed}
-use Rattle.bag_cli.proofs.Turns.{added}
+use Rattle.bag_program.proofs.Turns.{added}
 use Rattle.bag_cli.proofs.work.Work.join_reports.Goals as goal
 
 pub returns-in_err-reports : goal.returns-in_err-reports

@@ -3,7 +3,7 @@ use Rattle.bag_facts.proofs.ItsFolder.{ordered_with, honest_with}
 use Rattle.bag_facts.proofs.Known.{known_given, known_honest, known_seen}
 use Rattle.bag_facts.proofs.Opens.{opened_wanted, opens_none, opens_wanted, opens_all_first, opens_later}
 use Rattle.bag_facts.proofs.Opens.{opens_all_later}
-use Rattle.bag_facts.proofs.PassedOn.{passed_on, on_error}
+use Rattle.bag_faults.proofs.PassedOn.{passed_on, on_error}
 use Rattle.bag_facts.proofs.Reading.{facts_stop, listing_stop}
 use Rattle.bag_facts.proofs.Refusing.{facts_stop_of_memory}
 use Rattle.bag_facts.proofs.facts.Facts.read.Goals as goal

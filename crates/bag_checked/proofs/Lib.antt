@@ -1,0 +1,10 @@
+pub mod CheckedBag
+pub mod Common
+pub mod Comparing
+pub mod FirstFaults
+pub mod FirstOpened
+pub mod GivenDigests
+pub mod InTurn
+pub mod Stopping
+pub mod StopsOfBag
+pub mod Summing

@@ -1,0 +1,7 @@
+pub mod Checked
+pub mod Compared
+pub mod FirstFaults
+pub mod InTurn
+pub mod NewManifests
+pub mod Stops
+pub mod Summed

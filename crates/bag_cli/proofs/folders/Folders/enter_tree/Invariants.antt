@@ -1,5 +1,0 @@
-use Rattle.bag_cli.proofs.Common.{Entered}
-use Rattle.bag_cli.proofs.folders.Folders.enter_tree.Given as goal
-
-abbrev pub ghost-note_of : goal.ghost-note_of
-ghost-note_of g a = Entered a._value.now.now

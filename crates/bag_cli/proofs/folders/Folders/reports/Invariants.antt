@@ -1,5 +1,0 @@
-use Rattle.bag_cli.proofs.Common.{Asked}
-use Rattle.bag_cli.proofs.folders.Folders.reports.Given as goal
-
-abbrev pub ghost-note_of : goal.ghost-note_of
-ghost-note_of g a = Asked a._value.now.now

@@ -1,5 +1,0 @@
-use Rattle.bag_cli.proofs.Common.{NotGiven}
-use Rattle.bag_cli.proofs.folders.note_not_given.Given as goal
-
-abbrev pub ghost-note_of : goal.ghost-note_of
-ghost-note_of g a = NotGiven a._value.now.now

@@ -1,5 +1,0 @@
-use Rattle.bag_cli.proofs.Common.{Opened}
-use Rattle.bag_cli.proofs.folders.note_opened.Given as goal
-
-abbrev pub ghost-note_of : goal.ghost-note_of
-ghost-note_of g a = Opened a._value.now.now

@@ -1,4 +1,0 @@
-use Rattle.bag_cli.proofs.visits.Visits.note_of.Given as goal
-
-abbrev pub ghost-note_of : goal.ghost-note_of
-ghost-note_of g a = g.event

@@ -1,5 +1,0 @@
-use Rattle.bag_conformance.proofs.ElementFaults.{no_elements}
-use Rattle.bag_conformance.proofs.elements.elements_of.Goals as goal
-
-pub returns-in-None : goal.returns-in-None
-returns-in-None c = λ bag of deep. no_elements bag (c.in-None.ensures bag of deep)

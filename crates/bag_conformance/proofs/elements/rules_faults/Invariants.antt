@@ -1,6 +1,0 @@
-use Rattle.bag_conformance.proofs.Common.{◌≡◌, take}
-use Rattle.bag_conformance.specs.ElementFaults as reported
-use Rattle.bag_conformance.proofs.elements.rules_faults.Given as goal
-
-abbrev pub invariant-loop-rule : goal.invariant-loop-rule
-invariant-loop-rule l = l.faults.items ≡ reported.rules_faults (reported.lent l.sorted) (take l.rule-index l.rules)

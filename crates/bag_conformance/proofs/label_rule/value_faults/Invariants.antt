@@ -1,6 +1,0 @@
-use Rattle.bag_conformance.proofs.Common.{◌≡◌, take}
-use Rattle.bag_conformance.specs.ElementFaults as reported
-use Rattle.bag_conformance.proofs.label_rule.value_faults.Given as goal
-
-abbrev pub invariant-loop-element : goal.invariant-loop-element
-invariant-loop-element l = l.faults.items ≡ reported.value_faults l.rule (reported.lent (take l.element-index l.found))

@@ -1,9 +1,0 @@
-use Rattle.bag_conformance.proofs.Common.{arith}
-use Rattle.bag_conformance.proofs.ListRules.{excludes_none, excludes_some}
-use Rattle.bag_conformance.proofs.profile_rules.excludes.Goals as goal
-
-pub returns-in-Some : goal.returns-in-Some
-returns-in-Some c = grind (arith, excludes_some)
-
-pub returns-in-None : goal.returns-in-None
-returns-in-None c = excludes_none c.args.profile.now c.args.rule c.in-None.ensures.names c.args.name.now

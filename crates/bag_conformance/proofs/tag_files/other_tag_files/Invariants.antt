@@ -1,9 +1,0 @@
-use Rattle.bag_conformance.proofs.Common.{take, TagFileNotAllowed, AreAll, IsOtherTagFile}
-use Rattle.bag_conformance.proofs.FaultSets.{FaultsOf}
-use Rattle.bag_conformance.proofs.FilesThere.{fault_of, HoldsOf}
-use Rattle.bag_conformance.proofs.tag_files.other_tag_files.Given as goal
-
-abbrev pub invariant-loop-entry : goal.invariant-loop-entry
-invariant-loop-entry l =
-    AreAll (FaultsOf (fault_of TagFileNotAllowed (IsOtherTagFile l.profile))
-    (HoldsOf TagFileNotAllowed (IsOtherTagFile l.profile)) (take l.entry-index l.files)) l.faults.items

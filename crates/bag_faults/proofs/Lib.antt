@@ -1,0 +1,14 @@
+pub mod Algs
+pub mod Ascending
+pub mod Bytes
+pub mod Codes
+pub mod Common
+pub mod Cut
+pub mod Escapes
+pub mod FieldPieces
+pub mod Lines
+pub mod Ordered
+pub mod Parts
+pub mod PassedOn
+pub mod Pieces
+pub mod Spaces

@@ -1,0 +1,10 @@
+pub mod EarlierReports
+pub mod FaultAt
+pub mod FaultLine
+pub mod FaultOrder
+pub mod Laws
+pub mod LineFields
+pub mod LineOf
+pub mod Options
+pub mod Part
+pub mod Stage

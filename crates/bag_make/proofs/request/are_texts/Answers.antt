@@ -1,5 +1,0 @@
-use Rattle.bag_make.proofs.Common.{is_utf8-from_IsUtf8}
-use Rattle.bag_make.proofs.request.are_texts.Goals as goal
-
-pub returns : goal.returns
-returns c = (is_utf8-from_IsUtf8 _ c.utf8.label, is_utf8-from_IsUtf8 _ c.utf8.value)

@@ -1,0 +1,4 @@
+pub mod Common
+pub mod Deeds
+pub mod Runs
+pub mod Turns

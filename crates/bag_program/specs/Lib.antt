@@ -1,0 +1,13 @@
+pub mod Deeds
+pub mod FolderDeeds
+pub mod Folders
+pub mod Halt
+pub mod InTurn
+pub mod ProgramRun
+pub mod Saying
+pub mod StoredEvent
+pub mod SystemFile
+pub mod SystemReports
+pub mod SystemTar
+pub mod Visits
+pub mod Words

@@ -1,0 +1,50 @@
+//! What a program of folders is made of: the disks that it reaches, the visits to folders that it
+//! notes, its words, what it does for one name after another, and its exit status.
+//!
+//! ```
+//! let (folders, mut visits) = Folders::of(&rt);
+//! let words = asked_words(alloc, &rt)?;
+//! let done = in_turn(names, &mut turn, &mut visits, &mut out, &mut err);
+//! let status = told_status(done, program, &mut err);
+//! ```
+//!
+//! `Disks` gives the disks that a program looks at, its tar files and reports, and the bytes of
+//! files elsewhere, as profiles; it is implemented for every runtime of the system, of which nothing
+//! is promised.
+//!
+//! Each folder whose tree is given, and as what it is left, is noted. A file's bytes are the whole
+//! file, up to a bound. The status over several names is the greatest of all.
+#![tactic(auto)]
+
+mod disks;
+mod file_trouble;
+mod folder_deed;
+mod folders;
+mod halt;
+mod happening;
+mod one_by_one;
+mod read_fault;
+pub mod said;
+mod saying;
+mod system_file;
+mod system_reports;
+mod system_tar;
+mod text;
+mod trouble;
+mod visits;
+mod words;
+
+pub use disks::Disks;
+pub use file_trouble::{FileTrouble, say_file_trouble};
+pub use folder_deed::{FolderDeed, InFolders};
+pub use folders::Folders;
+pub use halt::{Halt, told_status};
+pub use one_by_one::{Turn, in_turn};
+pub use read_fault::ReadFault;
+pub use saying::{say_ended, say_on};
+pub use system_reports::SystemReports;
+pub use system_tar::SystemTar;
+pub use text::write_text;
+pub use trouble::{put_trouble, say_trouble};
+pub use visits::Visits;
+pub use words::{Words, asked_words, texts_of};

@@ -1,0 +1,4 @@
+//! What programs say of files, each text once.
+
+/// The profile's file can't be read.
+pub const PROFILE_UNREAD: &str = "profile unread";

@@ -1,7 +1,0 @@
-use Rattle.bag_renew.proofs.FirstFaults.{first_in_stage}
-use Rattle.bag_renew.proofs.stages.check_stage.Goals as goal
-
-pub returns-in-Some-clause-fault : goal.returns-in-Some-clause-fault
-returns-in-Some-clause-fault c =
-    first_in_stage c.args.facts.now c.args.stage c.in-Ok.faults.items c.in-Some.ensures.0 c.in-Some.fault
-    c.in-Ok.ensures.faults c.in-Some.ensures.1

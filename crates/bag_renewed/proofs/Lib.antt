@@ -1,0 +1,4 @@
+pub mod AlgsMade
+pub mod Common
+pub mod Placing
+pub mod Targets

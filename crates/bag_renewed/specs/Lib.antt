@@ -1,0 +1,6 @@
+pub mod Asked
+pub mod Elements
+pub mod Placed
+pub mod Renewed
+pub mod Request
+pub mod Target

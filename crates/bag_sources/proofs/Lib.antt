@@ -1,0 +1,14 @@
+pub mod Chosen
+pub mod ChosenWithin
+pub mod Common
+pub mod Filling
+pub mod Merging
+pub mod Parts
+pub mod Passed
+pub mod Places
+pub mod Positions
+pub mod Refusing
+pub mod Stages
+pub mod StartPart
+pub mod Summing
+pub mod Within

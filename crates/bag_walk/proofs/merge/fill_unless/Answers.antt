@@ -1,6 +1,0 @@
-use Rattle.bag_walk.proofs.Common.{arith}
-use Rattle.bag_walk.proofs.Merging.{quiet_fill}
-use Rattle.bag_walk.proofs.merge.fill_unless.Goals as goal
-
-pub returns-clause-quiet : goal.returns-clause-quiet
-returns-clause-quiet g c = grind (arith, quiet_fill)

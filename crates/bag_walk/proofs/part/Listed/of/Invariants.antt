@@ -1,8 +1,0 @@
-use Rattle.bag_walk.proofs.Common.{◌≡◌, ◌-◌, ◌*◌, ◌≤◌, take}
-use Rattle.std.specs.Prelude.{◌^◌}
-use Rattle.bag_walk.specs.Parts.{listed_of}
-use Rattle.bag_walk.proofs.part.Listed.of.Given as goal
-
-abbrev pub invariant-loop-file : goal.invariant-loop-file
-invariant-loop-file l = (l.bytes ≡ (listed_of (take l.file-index l.files)).bytes)
-    × (l.bytes ≤ l.file-index * (2 ^ 64 - 1))

@@ -1,9 +1,0 @@
-use Rattle.std.proofs.Common.{◌≡◌, length}
-use Rattle.bag_tree.specs.Cut as cut
-use Rattle.test_disk.proofs.durable.is_synced.Given as goal
-
-abbrev pub invariant-loop-event : goal.invariant-loop-event
-invariant-loop-event l = cut.is_synced l.folder l.rest ≡ cut.is_synced l.folder l.fn.later
-
-abbrev pub decreases-loop-event : goal.decreases-loop-event
-decreases-loop-event l = length l.rest
