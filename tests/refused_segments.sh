@@ -1,12 +1,12 @@
 #!/usr/bin/env bash
-# Runs a program of a few lines, which calls `run` and `run_segments` over a real folder, again and again, each time with another growth
+# Runs a program that calls `run` and `run_segments` over a real folder, again and again, each time with another growth
 # refused: the first, the second, and so on, until none is left to refuse. What is written must be the report's first lines, as many as
 # the outcome says, and the outcome one that is possible with one limit lost. If a refusal can change the outcome, at least one must.
 # With a limit more than the report needs all of it is written, whichever growth was refused. It needs a C compiler.
 #
 # usage: tests/refused_segments.sh [PROGRAM]
 #
-# PROGRAM is crates/test_segments/out/test_segments by default, which `rt ci` leaves there.
+# PROGRAM is crates/test_cases/out/test_cases by default, which `rt ci` leaves there: with the word `segments` it calls them.
 set -euo pipefail
 source "$(dirname "$0")/common.sh"
 source "$(dirname "$0")/growths.sh"
@@ -14,15 +14,15 @@ needs cc
 enter segments
 build_refuser
 
-take_program test_segments "${1:-}"
+take_program test_cases "${1:-}"
 
 all_own=0 own=0
 
 # Whether an answer has the report's first lines, as many as its outcome says, and an outcome that is wanted. A run's closing line
-# stands after them. (The program ends with 9 where there was no memory for what it does around the calls.)
+# stands after them. (The program ends with 1 where there was no memory for what it does around the calls.)
 is_right() {
     local outcome=${errors%$'\n'} front
-    if [[ $status == 9 && ! $output ]]; then
+    if [[ $status == 1 && ! $output ]]; then
         own=$((own + 1))
         return
     fi
@@ -41,10 +41,10 @@ is_right() {
 in_turn() {
     limits=$1 wanted=$2 others=0
     mapfile report <report
-    refusing_none "$program" "$limits"
+    refusing_none "$program" segments "$limits"
     is_right && ((own == 0)) || give_up "$limits: $output$errors"
     wanted=${*:2}
-    refusing_each : is_right "$program" "$limits"
+    refusing_each : is_right "$program" segments "$limits"
     (($# == 2 || others > 0)) || give_up "$limits: no refusal gives another outcome"
     all_own=$((all_own + own)) own=0
 }

@@ -1,16 +1,20 @@
 -- How the answers of the parts make the answer of the whole.
 use Rattle.bag_arguments.proofs.Common.{arith, ◌≡◌, ◌≢◌, ◌⊎◌, ◌∙◌, inl, inr, ap, subst, sym, codes, Bool, List, []}
 use Rattle.bag_arguments.proofs.Common.{Option, Some, None, Result, Err, is_some}
-use Rattle.bag_arguments.proofs.Common.{option_map, if◌then◌else◌, HasKind, Row, Text, kind_of, OutOfMemory}
+use Rattle.bag_arguments.proofs.Common.{Ok, ◌∷◌, option_map, if◌then◌else◌, Kinds, Row, Text, refl, true, fault_of}
+use Rattle.bag_arguments.proofs.Common.{matches_of, takes, command, clap_on_literals}
 use Rattle.bag_arguments.proofs.Common.{has_after_several, has_join_with_other, has_two_depths, out_of_place}
-use Rattle.bag_arguments.proofs.Common.{refusals, matches_of_words}
-use Rattle.clap.specs.declared.error.Error.{Error}
-use Rattle.bag_arguments.proofs.OneKind.{refusals_one}
+use Rattle.bag_arguments.proofs.Common.{clap_takes, refusals, matches_of_words}
+use Rattle.clap.specs.declared.parser.matches.ArgMatches.{ArgMatches}
 use Rattle.bag_arguments.specs.Given.{depth, value}
+use Rattle.bag_arguments.specs.GivenRows.{rows_in}
+use Rattle.bag_arguments.specs.Taken.{IsPlain, IsTaken}
+use Rattle.bag_arguments.specs.declared.plan.Action.TheVariants.{Help}
+use Rattle.bag_arguments.specs.declared.taking.Declined.TheVariants as declined
 use Rattle.bag_faults.specs.declared.fault.Fault.{Fault}
 use Rattle.bag_faults.specs.declared.options.Depth.{Depth}
-use Rattle.bag_arguments.specs.Plan.{Declines, IsCursor, IsNotRefused, IsPlanned, Plans, misuse, part_misuse}
-use Rattle.bag_arguments.specs.Plan.{part_misuse_at}
+use Rattle.bag_arguments.specs.Plan.{Answers, IsCursor, IsNotRefused, IsPlanned, Plans, misuse, part_misuse}
+use Rattle.bag_arguments.specs.Plan.{part_misuse_at, plan_without_words}
 use Rattle.bag_arguments.specs.declared.check_option.CheckOption.{CheckOption}
 use Rattle.bag_arguments.specs.declared.plan.Plan.{Plan}
 use Rattle.bag_arguments.specs.declared.usage.Usage.{Usage}
@@ -66,16 +70,58 @@ module _ (rows : List Row) (usage : Usage) (after : Option Fault) (no_other : mi
   pub part_answered : Plans rows (Err usage)
   part_answered = as_wrong (wrong_part (depth rows) (value rows (codes "part")) usage wrong)
 
--- the words are taken
-pub taken_answered : (words : List Text) (rows : List Row) (result : Result Plan Usage) → words ≢ []
-    → refusals words ≡ [] → rows ≡ matches_of_words words → Plans rows result → IsPlanned words result
-taken_answered words rows result some none is plans = grind arith
+-- the command's words are refused for one reason at most
+pub plain : IsPlain command
+unfolding command clap_on_literals
+plain = record { simple = refl; free = refl; alone = refl; leaf = refl }
 
--- clap gives no matches
-pub declined_answered : (words : List Text) (error : Error) (result : Result Plan Usage) → words ≢ []
-    → HasKind (refusals words) error → Declines (kind_of error) result
-    → (kind_of error ≡ OutOfMemory → result ≡ Err Memory) → IsPlanned words result
-declined_answered words error result some has declines memory = grind (arith, refusals_one)
+-- the words are taken
+pub taken_answered : (words : List Text) → words ≢ [] → (m : ArgMatches) (result : Result Plan Usage)
+    → IsTaken (fault_of command words) (matches_of command words) (Ok m) → Plans (rows_in m) result
+    → IsPlanned words result
+unfolding refusals matches_of_words
+taken_answered [] some m result taken plans = absurd (some refl)
+taken_answered (word ∷ rest) some m result taken plans =
+    rw taken.0 (subst (λ rows. Plans rows result) taken.1 plans)
+
+-- or they aren't
+help_by : (kinds : Kinds) (rows : List Row) (text : Text) → IsTaken kinds rows (Err (declined.Help text))
+    → Answers kinds rows (Ok (plan_without_words (Help text)))
+help_by [] rows text taken = absurd taken
+help_by (kind ∷ more) rows text taken = (taken, text, refl)
+
+refused_by : (kinds : Kinds) (rows : List Row) (text : Text) → IsTaken kinds rows (Err (declined.Refused text))
+    → Answers kinds rows (Err (Refused text))
+refused_by [] rows text taken = absurd taken
+refused_by (kind ∷ more) rows text taken = taken
+
+memory_by : (kinds : Kinds) (rows : List Row) → Answers kinds rows (Err Memory)
+memory_by [] rows = tt
+memory_by (kind ∷ more) rows = tt
+
+pub help_answered : (words : List Text) → words ≢ [] → (text : Text)
+    → IsTaken (fault_of command words) (matches_of command words) (Err (declined.Help text))
+    → IsPlanned words (Ok (plan_without_words (Help text)))
+unfolding refusals matches_of_words
+help_answered [] some text taken = absurd (some refl)
+help_answered (word ∷ rest) some text taken = help_by _ _ text taken
+
+pub refused_answered : (words : List Text) → words ≢ [] → (text : Text)
+    → IsTaken (fault_of command words) (matches_of command words) (Err (declined.Refused text))
+    → IsPlanned words (Err (Refused text))
+unfolding refusals matches_of_words
+refused_answered [] some text taken = absurd (some refl)
+refused_answered (word ∷ rest) some text taken = refused_by _ _ text taken
+
+pub memory_answered : (words : List Text) → words ≢ [] → IsPlanned words (Err Memory)
+memory_answered [] some = absurd (some refl)
+memory_answered (word ∷ rest) some = memory_by _ _
+
+-- clap refuses no words that it takes, but for memory
+pub not_refused : (words : List Text) (text : Text) → (takes command words ≡ true → declined.Refused text ≡ declined.Memory)
+    → clap_takes words ≡ true → ⊥
+unfolding clap_takes
+not_refused words text memory taken = let e = memory taken in cc
 
 -- where something is given, no word is one that the program doesn't take
 pub plans_not_refused : (rows : List Row) (result : Result Plan Usage) → Plans rows result → IsNotRefused result

@@ -1,12 +1,14 @@
 -- A limit that clap takes is a number of 1 or more.
 use Rattle.bag_arguments.proofs.Common.{◌≡◌, ◌∙◌, ◌==◌, ◌||◌, ◌<◌, ℕ, Bool, true, false, not, List, [], ◌∷◌, Option}
-use Rattle.bag_arguments.proofs.Common.{Some, None, Result, refl, sym, ap, subst, arith, inl, inr, length, codes}
+use Rattle.bag_arguments.proofs.Common.{Some, None, Result, Ok, Err, refl, sym, ap, subst, arith, inl, inr, length, codes}
 use Rattle.bag_arguments.proofs.Common.{bytes_eq, option_map, unwrap_or, slice_get, Bor, All, list_all, slice_index_or}
 use Rattle.bag_arguments.proofs.Common.{ParsesUnsigned, All-get_or, bytes_eq-Decides, App, IsParsedFrom, Rule, Text}
 use Rattle.bag_arguments.proofs.Common.{app_of, args_of, first_value, found_of, groups_of, matched_of, rows_of}
 use Rattle.bag_arguments.proofs.Common.{EntryPasses, PassesArg, parser_of_value, Arg, Command, ValueParser}
 use Rattle.bag_arguments.proofs.Common.{first_value-rows, HasLimit, IsLimit, IsLimitText, command, clap_on_literals}
-use Rattle.std.specs.Result.{result_ok}
+use Rattle.std.specs.Prelude.{MatchResult}
+use Rattle.std.specs.Result.{IfOk, result_ok}
+use Rattle.bag_arguments.specs.GivenRows.{rows_in}
 use Rattle.std.proofs.lemmas.Bool.{cases_lt, eqb-true}
 use Rattle.clap.specs.Built.{SameRules}
 use Rattle.clap.specs.Values.{Accepts}
@@ -90,7 +92,7 @@ entry_value old m p is x found text first =
     first_passes (PassesArg p.built (codes "max-faults")) x.vals.items text all first
 
 -- the limit that a parse gives
-pub limit_passes : (old : Command) (m : ArgMatches) → IsParsedFrom old m → app_of old ≡ command
+limit_passes : (old : Command) (m : ArgMatches) → IsParsedFrom old m → app_of old ≡ command
     → HasLimit (rows_of (found_of m))
 limit_passes old m p is text limit =
     go (matched_of (found_of m) (codes "max-faults")) refl (first_value-rows (found_of m) (codes "max-faults") ∙ limit)
@@ -105,3 +107,8 @@ pub limit_read : {E : Type 0} (o : Option Text) (text : Text) (r : Result ℕ E)
     → IsLimitText text
     → ParsesUnsigned 64 10 text r → limit ≡ result_ok r → IsLimit o limit
 limit_read o text r limit is taken h l = grind arith
+
+pub limit_of : {E : Type 0} (made : Result Command E) (m : ArgMatches) → IfOk made (λ old. app_of old ≡ command)
+    → MatchResult made (λ old. IsParsedFrom old m) (λ e. ⊥) → HasLimit (rows_in m)
+limit_of (Ok old) m is p = limit_passes old m p is
+limit_of (Err e) m is p = absurd p

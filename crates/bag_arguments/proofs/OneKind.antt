@@ -1,7 +1,7 @@
 -- A command without subcommands gives one kind of error at most.
 use Rattle.bag_arguments.proofs.Common.{arith, ◌≡◌, min, ℕ, zero, suc, Bool, true, List, [], ◌∷◌, Option, Some, None}
-use Rattle.bag_arguments.proofs.Common.{refl, is_some, if◌then◌else◌, nat_lt, ⊤, slice_get, Shape, argument_words}
-use Rattle.bag_arguments.proofs.Common.{App, built, fault_of, ValueParser, command, clap_on_literals, refusals}
+use Rattle.bag_arguments.proofs.Common.{is_some, if◌then◌else◌, nat_lt, ⊤, slice_get, Shape, argument_words}
+use Rattle.bag_arguments.proofs.Common.{App, built, fault_of, ValueParser}
 use Rattle.std.specs.Option.{option_map_or}
 use Rattle.std.specs.Str.{bytes_eq, chars}
 use Rattle.clap.specs.Lexer.{long_of}
@@ -115,12 +115,3 @@ built_one top subs words none leaf = grind (arith, maybe_one, or_one, if_one, wa
 pub fault_one : (app : App) (words : List Text) → (built app).subs ≡ [] → (built app).top.is_leaf ≡ true
     → HasOne (fault_of app words)
 fault_one app words none leaf = built_one (built app).top (built app).subs (argument_words app words) none leaf
-
-is_leaf_alone : ((built command).subs ≡ []) × ((built command).top.is_leaf ≡ true)
-unfolding command clap_on_literals
-is_leaf_alone = (refl, refl)
-
--- the words are refused for one reason at most
-pub refusals_one : (words : List Text) → HasOne (refusals words)
-unfolding refusals
-refusals_one words = fault_one command words is_leaf_alone.0 is_leaf_alone.1

@@ -1,21 +1,19 @@
 //! The plan of the words.
-ghost use Rattle.std.specs.Prelude.{◌≡◌, IfErr, IfOk, MatchResult, Some, None, codes, true};
-ghost use Rattle.clap.specs.Words.{FailsBy, kind_of};
+ghost use Rattle.std.specs.Prelude.{◌≡◌, MatchResult, Some, None, codes, true};
 ghost use Rattle.bag_arguments.specs.Given.{part_given, value as value_of};
 ghost use Rattle.bag_arguments.specs.GivenRows.{HasLimit, rows_in};
 ghost use Rattle.bag_arguments.specs.Plan as spec;
 ghost use Rattle.bag_arguments.specs.Plan.{IsNotRefused};
-ghost use Rattle.bag_arguments.specs.Words.{clap_takes, matches_of_words, refusals, texts_of_words};
+ghost use Rattle.bag_arguments.specs.Words.{clap_takes, texts_of_words};
 
 use crate::command::command;
-use crate::declining::{Declined, answer_of};
 use crate::label::LABELS;
 use crate::matched::{is_given, value};
+use crate::taking::{Declined, taken};
 use crate::{Action, CheckOption, Plan, Usage, given};
 use bag_faults::{CursorFault, Depth, Fault, Options, Part};
 use bag_text::{AlgSet, Items};
-use clap::error::ErrorKind;
-use clap::{ArgMatches, Error};
+use clap::ArgMatches;
 use std::alloc::Global;
 
 /// The plan of the words, without the program's name.
@@ -26,33 +24,11 @@ pub fn plan_of(alloc: Global, words: &[&str]) -> Result<Plan, Usage>
     if words.is_empty() {
         return Ok(plan_without_words(alloc, Action::Sample));
     }
-    match parse(alloc, words) {
+    match taken(alloc, command(alloc), words) {
         Ok(matches) => plan_of_matches(alloc, &matches),
-        Err(error) => decline(alloc, error),
-    }
-}
-
-/// What clap makes of the words.
-fn parse<'a>(alloc: Global, words: &'a [&'a str]) -> Result<ArgMatches<'a>, Error>
-    ensures matches { IfOk result (λ m.
-        rows_in m ≡ matches_of_words (texts_of_words words.entry.now)) }
-    ensures refusals { FailsBy (refusals (texts_of_words words.entry.now)) result }
-    ensures limit { IfOk result (λ m. HasLimit (rows_in m)) }
-    ensures taken { IfErr result (λ e.
-        clap_takes (texts_of_words words.entry.now) ≡ true → kind_of e ≡ ErrorKind.OutOfMemory) }
-{
-    command(alloc)?.try_get_matches_from(words)
-}
-
-/// The answer where clap gives no matches: its help, or its refusal.
-fn decline(alloc: Global, error: Error) -> Result<Plan, Usage>
-    ensures declines { spec.Declines (kind_of error) result }
-    ensures memory { kind_of error ≡ ErrorKind.OutOfMemory → result ≡ Err Usage.Memory }
-{
-    match answer_of(alloc, error) {
-        Declined::Help(text) => Ok(plan_without_words(alloc, Action::Help(text))),
-        Declined::Refused(text) => Err(Usage::Refused(text)),
-        Declined::Memory => Err(Usage::Memory),
+        Err(Declined::Help(text)) => Ok(plan_without_words(alloc, Action::Help(text))),
+        Err(Declined::Refused(text)) => Err(Usage::Refused(text)),
+        Err(Declined::Memory) => Err(Usage::Memory),
     }
 }
 

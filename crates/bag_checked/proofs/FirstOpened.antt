@@ -32,14 +32,16 @@ use Rattle.bag_stages.specs.SumFaults.{differing_code, faults_of_bytes}
 use Rattle.bag_stages.specs.Expected.{Expected}
 use Rattle.bag_tree.proofs.Calm.{memory_then}
 use Rattle.bag_tree.specs.FileReads.{IsEntryOf, OpensAtMost}
-use Rattle.bag_tree.specs.Tree.{IsRefusedAt, TreeState}
+use Rattle.bag_tree.specs.Tree.{IsRefusedAt, NothingFailed, TreeState}
 use Rattle.bag_tree.specs.declared.listing.FileEntry.{FileEntry}
-use Rattle.bag_checked.proofs.Summing.{ChecksFirst, next, only_path, opened_more}
+use Rattle.bag_checked.proofs.Stopping.{stops_for_memory}
+use Rattle.bag_checked.proofs.Summing.{ChecksFirst, faulty_file, faulty_for_memory, next, only_path, opened_more}
 use Rattle.bag_checked.specs.Checked.{IsUnchecked}
 use Rattle.bag_checked.specs.InTurn.{IsOfSeventh, OpensFirstToRead}
+use Rattle.bag_checked.specs.OneReading.{AreLeftUnchecked, IsLeftUnchecked}
 use Rattle.bag_checked.specs.Stops.{IsRefusedAmong, StopsChecking}
 use Rattle.bag_checked.specs.FirstFaults.{IsFirst}
-use Rattle.bag_checked.specs.Summed.{IsDifferenceIn, IsFaultyFile, IsNoMemory, IsRight, is_to_read, to_read}
+use Rattle.bag_checked.specs.Summed.{IsDifferenceIn, IsFaultyFile, IsGivenFor, IsNoMemory, IsRight, is_to_read, to_read}
 use Rattle.bag_tree.specs.Listing.{entry_of_file}
 use Rattle.bag_checked.specs.declared.checked.Unchecked.{Unchecked}
 use Rattle.bag_checked.specs.declared.checked.Unchecked.TheVariants.{Faulty, Stopped}
@@ -144,7 +146,7 @@ module _ (facts : Facts) (files : List FileEntry) (i : ℕ) (entry : FileEntry) 
       (All-nil (IsEntryOf mid.bag))
 
   -- a stop at it is one of the whole
-  pub stops_at : (e : Unchecked) → StopsChecking (entry ∷ []) mid new e
+  stops_at : (e : Unchecked) → StopsChecking (entry ∷ []) mid new e
       → StopsChecking (to_read with_payload files) old new e
   stops_at (Faulty fault) h = tt
   stops_at (Stopped stop) h = record {
@@ -209,10 +211,18 @@ module _ (facts : Facts) (files : List FileEntry) (i : ℕ) (entry : FileEntry) 
           (subst (λ (xs : List (List ℕ)). Contains xs f.path) its_place is.1));
     }
 
-  pub faulty_at : (e : Unchecked) → IsFaultyFile facts (entry ∷ []) mid e
+  faulty_at : (e : Unchecked) → IsFaultyFile facts (entry ∷ []) mid e
       → IsFaultyFile facts (to_read with_payload files) old e
   faulty_at (Stopped stop) h = tt
   faulty_at (Faulty fault) h = λ honest of deep up. first_of_files fault h honest of deep up
+
+  pub left_at : (e : Unchecked) → AreLeftUnchecked facts (entry ∷ []) mid new e
+      → AreLeftUnchecked facts (to_read with_payload files) old new e
+  left_at e h = record {
+    faulty = faulty_at e h.faulty;
+    seventh = h.seventh;
+    stopped = stops_at e h.stopped;
+  }
 
 -- ---- a digest that differs is a fault of the seventh stage
 
@@ -225,15 +235,33 @@ seventh_of path content [] fault rest e = cc
 seventh_of path content (one ∷ expected) fault rest e =
     grind (arith, differing_stage (kind_of path), seventh_of path content expected fault rest)
 
-pub seventh_of_bytes : (old new : TreeState) (entry : FileEntry) (expected : List Expected) (e : Unchecked)
+seventh_of_bytes : (old new : TreeState) (entry : FileEntry) (expected : List Expected) (e : Unchecked)
     → IsUnchecked old new entry expected e → IsOfSeventh e
 seventh_of_bytes old new entry expected (Stopped stop) h = tt
 seventh_of_bytes old new entry expected (Faulty fault) (content, rest, read, same) =
     seventh_of entry.path content expected fault rest same
 
-pub seventh_for_memory : (e : Unchecked) → IsNoMemory e → IsOfSeventh e
+seventh_for_memory : (e : Unchecked) → IsNoMemory e → IsOfSeventh e
 seventh_for_memory (Stopped stop) h = tt
 seventh_for_memory (Faulty fault) h = absurd h
 
--- for the checking of files, and of one of them
-pub ruleset opening = (opens_none, seventh_of_bytes, seventh_for_memory)
+-- ---- a file, or some of them, that weren't checked to their end
+
+-- one file
+pub left_of_one : (facts : Facts) (entry : FileEntry) (expected : List Expected) (old new : TreeState) (e : Unchecked)
+    → IsGivenFor facts entry.path expected → IsLeftUnchecked entry expected old new e
+    → AreLeftUnchecked facts (entry ∷ []) old new e
+left_of_one facts entry expected old new e given h = record {
+  faulty = faulty_file facts old new entry expected e given h.differs;
+  seventh = seventh_of_bytes old new entry expected e h.differs;
+  stopped = h.stopped;
+}
+
+-- memory ran out
+pub left_out_of_memory : (facts : Facts) (files : List FileEntry) (old new : TreeState) (e : Unchecked)
+    → IsNoMemory e → NothingFailed old new → AreLeftUnchecked facts files old new e
+left_out_of_memory facts files old new e memory calm = record {
+  faulty = faulty_for_memory facts old new files e memory;
+  seventh = seventh_for_memory e memory;
+  stopped = stops_for_memory files old new e memory calm;
+}

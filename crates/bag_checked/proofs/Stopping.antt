@@ -1,9 +1,9 @@
 -- Checking files stopped at one of them, or when out of memory.
-use Rattle.bag_checked.proofs.Common.{◌≡◌, ◌≢◌, ◌∷◌, inl, inr, ℕ, List, [], Option, All, ap, append-nil, sym, subst}
+use Rattle.bag_checked.proofs.Common.{◌≡◌, ◌≢◌, ◌∷◌, inl, inr, ℕ, List, [], Option, All, ap, append-nil, refl, sym, subst}
 use Rattle.bag_checked.proofs.Common.{◌∙◌, All-contains, contains_first}
 use Rattle.bag_facts.proofs.Refusing.{came_from, refused_file, told_memory}
 use Rattle.bag_facts.specs.Stops.{MayRefuseFacts}
-use Rattle.bag_tree.specs.Stop.{IsRefusalOf}
+use Rattle.bag_tree.specs.Stop.{IsOutOfMemory, IsRefusalOf}
 use Rattle.bag_tree.proofs.Calm.{nothing_asked}
 use Rattle.bag_tree.specs.FileReads.{IsEntryOf}
 use Rattle.bag_tree.specs.Tree.{CameFromFile, IsRefusedAt, MayReportMemory, NothingFailed, TreeState}
@@ -15,6 +15,7 @@ use Rattle.bag_tree.specs.declared.tree_fault.TreeFault.{TreeFault}
 use Rattle.bag_tree.specs.declared.tree_fault.TreeFault.TheVariants.{Changed, Memory}
 use Rattle.bag_stages.specs.Expected.{Expected}
 use Rattle.bag_checked.specs.Checked.{DiffersFirst}
+use Rattle.bag_checked.specs.OneReading.{IsLeftUnchecked}
 use Rattle.bag_checked.specs.Stops.{StopsAtFile, StopsChecking}
 use Rattle.bag_checked.specs.Summed.{IsNoMemory}
 use Rattle.bag_checked.specs.declared.checked.Unchecked.{Unchecked}
@@ -82,5 +83,11 @@ pub stop_of_refusal : (entry : FileEntry) (old new : TreeState) (cause : TreeFau
 stop_of_refusal entry old new cause stop refused answered opened is =
     stop_of_whole entry old new cause stop refused (told_memory old new cause answered) (λ _. opened) is
 
--- for the checking of one file
-pub ruleset stopping = (stop_of_memory, stop_of_refusal, stop_of_whole, stop_of_difference, nothing_asked)
+-- before it is opened
+pub left_for_memory : (entry : FileEntry) (expected : List Expected) (state : TreeState) (stop : Stop)
+    → IsOutOfMemory stop → IsLeftUnchecked entry expected state state (Stopped stop)
+left_for_memory entry expected state stop memory = record {
+  opens = inl refl;
+  differs = tt;
+  stopped = stop_of_memory (entry ∷ []) state state stop memory.0 memory.1 (nothing_asked state);
+}

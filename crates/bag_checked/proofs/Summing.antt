@@ -17,6 +17,7 @@ use Rattle.bag_stages.specs.Expected.{Expected}
 use Rattle.bag_stages.specs.MetadataStage.{bag_info_txt}
 use Rattle.bag_stages.specs.SumFaults.{IsFaultOfFile, faults_of_bytes}
 use Rattle.bag_checked.specs.Checked.{IsKeptOf, IsUnchecked}
+use Rattle.bag_checked.specs.OneReading.{AreReadOnce}
 use Rattle.bag_checked.specs.declared.checked.Unchecked.{Unchecked}
 use Rattle.bag_checked.specs.declared.checked.Unchecked.TheVariants.{Faulty, Stopped}
 use Rattle.bag_tags.specs.Summed.{File}
@@ -25,7 +26,6 @@ use Rattle.bag_checked.specs.Summed.{IsGivenFor, IsInfoAmong, IsNoMemory, IsRigh
 use Rattle.bag_tree.specs.Listing.{entry_of_file}
 use Rattle.bag_tags.specs.declared.summed.SummedFile.{SummedFile}
 use Rattle.bag_checked.proofs.FirstFaults.{first_listed}
-use Rattle.bag_checked.proofs.Stopping.{stops_for_memory}
 
 summed_more : (algs : List Alg) (files : List File) (summed : List SummedFile) (e : File) (one : SummedFile)
     → AreSummedBy algs files summed → HasSumsBy algs e one
@@ -151,17 +151,16 @@ module _ (facts : Facts) (files : List FileEntry) (i : ℕ) (entry : FileEntry) 
 
   -- one more was
   pub checks_one_more : (after : List SummedFile) (one : SummedFile) (kept : Option (List ℕ))
-      → after ≡ summed ++ one ∷ [] → Keeps mid new → NothingFailed mid new
-      → new.openings ≡ mid.openings ++ entry.path ∷ [] → new.listed ≡ mid.listed
+      → after ≡ summed ++ one ∷ [] → Keeps mid new → AreReadOnce (entry ∷ []) mid new
       → IsCheckedFile mid new facts entry algs one kept
       → ChecksFirst facts files (i + 1) with_payload algs old new after (unwrap_or kept info)
-  checks_one_more after one kept e k no_failure once still s =
+  checks_one_more after one kept e k once s =
       subst (λ sums. ChecksFirst facts files (i + 1) with_payload algs old new sums (unwrap_or kept info)) (sym e)
       (record {
         keeps = keeps_on old mid new before.keeps k;
-        no_failure = nothing_then old mid new before.no_failure no_failure;
-        opened = opened_more once;
-        listed = still ∙ before.listed;
+        no_failure = nothing_then old mid new before.no_failure once.no_failure;
+        opened = opened_more once.opened;
+        listed = once.listed ∙ before.listed;
         checked = added one kept s;
         gave = s.gave ∙ ap (λ so_far. so_far ++ (entry.path, s.content) ∷ []) before.gave
             ∙ append_assoc old.gave before.checked.files ((entry.path, s.content) ∷ []);
@@ -198,24 +197,15 @@ module _ (facts : Facts) (state new : TreeState) where
 module _ (facts : Facts) (files : List FileEntry) (count : ℕ) (with_payload : Bool) (algs : List Alg)
     (old new : TreeState) (summed : List SummedFile) (info : List ℕ)
     (le : length files ≤ count) (all : ChecksFirst facts files count with_payload algs old new summed info) where
-  pub opens_all : new.openings ≡ old.openings ++ paths_of (to_read with_payload files)
-  opens_all = all.opened ∙ ap (λ xs. old.openings ++ paths_of (to_read with_payload xs)) (take_all count files le)
+  pub read_all : AreReadOnce (to_read with_payload files) old new
+  read_all = record {
+    no_failure = all.no_failure;
+    opened = all.opened ∙ ap (λ xs. old.openings ++ paths_of (to_read with_payload xs)) (take_all count files le);
+    listed = all.listed;
+  }
 
   pub checks_all : AreGivenAndChecked old new facts (to_read with_payload files) algs summed info
   checks_all = record {
     are = of_entries old facts _ _ algs summed info (ap (to_read with_payload) (take_all count files le)) all.checked;
     gave = all.gave;
   }
-
--- for the checking of files, and of one of them
-pub ruleset summing = (
-  stops_for_memory,
-  nothing_then,
-  checks_none,
-  checks_one_more,
-  opens_all,
-  checks_all,
-  faulty_for_memory,
-)
-
-pub ruleset summing_one = (stops_for_memory, nothing_asked, faulty_file, faulty_for_memory)

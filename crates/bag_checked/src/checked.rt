@@ -1,15 +1,13 @@
 //! Reading a file once, to compare the digests that it has and to compute those that it is to have.
-ghost use Rattle.std.specs.Prelude.{◌≡◌, ◌<◌, ◌∷◌, ◌++◌, [], ℕ, Contains, List, length};
-ghost use Rattle.std.specs.Prelude.{IfOk, IfErr, MatchOption, OnErr, OnOk};
+ghost use Rattle.std.specs.Prelude.{◌≡◌, ◌<◌, ◌∷◌, [], ℕ, Contains, List, length};
+ghost use Rattle.std.specs.Prelude.{IfOk, IfErr, MatchOption, OnOk};
 ghost use Rattle.bag_faults.specs.declared.fault.Fault.{Fault as Found};
-ghost use Rattle.bag_tree.specs.Tree.{Keeps, NothingFailed};
-ghost use Rattle.bag_tree.specs.FileReads.{OpensAtMost};
+ghost use Rattle.bag_tree.specs.Tree.{Keeps};
 ghost use Rattle.bag_text.specs.declared.alg.Alg.{Alg as Member};
 ghost use Rattle.bag_stages.specs.Expected.{Expected};
 ghost use Rattle.bag_stages.specs.SumFaults.{AreSumsBy, faults_of_bytes};
 ghost use Rattle.bag_checked.specs.Checked.{DiffersFirst, IsChecked, IsCheckedAndKept, IsCheckedAs};
-ghost use Rattle.bag_checked.specs.Checked.{IsUnchecked};
-ghost use Rattle.bag_checked.specs.Stops.{StopsChecking};
+ghost use Rattle.bag_checked.specs.OneReading.{AreReadOnce, IsLeftUnchecked};
 
 use bag_faults::Fault;
 use bag_stages::{Packed, faults_by};
@@ -36,7 +34,6 @@ pub enum Unchecked {
 /// The file is opened once and read once. Over any tree the digests that are given are compared
 /// with those of the very bytes of which the new ones are computed, so that damage that comes after
 /// a check is never given a digest.
-#[tactic(auto, using(crate::proofs::Stopping::stopping))]
 pub fn check_and_sum<T: Tree>(
     alloc: Global,
     tree: &mut T,
@@ -47,18 +44,12 @@ pub fn check_and_sum<T: Tree>(
 ) -> Result<Sums, Unchecked>
     requires { 0 < length buffer.old }
     ensures keeps { Keeps (T.state tree.old) (T.state tree.new) }
-    ensures no_failure { OnOk result (NothingFailed (T.state tree.old) (T.state tree.new)) }
-    ensures opened { OnOk result
-        ((T.state tree.new).openings ≡ (T.state tree.old).openings ++ file.now.path ∷ []) }
-    ensures listed { OnOk result ((T.state tree.new).listed ≡ (T.state tree.old).listed) }
-    ensures opens { OnErr result
-        (OpensAtMost (T.state tree.old) (T.state tree.new) file.now.path) }
+    ensures read { OnOk result
+        (AreReadOnce (file.now ∷ []) (T.state tree.old) (T.state tree.new)) }
     ensures checked { IfOk result
         (IsChecked (T.state tree.old) (T.state tree.new) file.now expected.now algs) }
-    ensures unchecked { IfErr result
-        (IsUnchecked (T.state tree.old) (T.state tree.new) file.now expected.now) }
-    ensures stopped { IfErr result
-        (StopsChecking (file.now ∷ []) (T.state tree.old) (T.state tree.new)) }
+    ensures unchecked { IfErr result (IsLeftUnchecked
+        file.now expected.now (T.state tree.old) (T.state tree.new)) }
 {
     // Copied before the file is read, so that its refusal isn't reported as out of memory.
     let Ok(path) = file.path.copy(alloc) else {
@@ -84,19 +75,13 @@ pub(crate) fn check_or_keep<T: Tree>(
 ) -> Result<(Sums, Option<Items<u8>>), Unchecked>
     requires { 0 < length buffer.old }
     ensures keeps { Keeps (T.state tree.old) (T.state tree.new) }
-    ensures no_failure { OnOk result (NothingFailed (T.state tree.old) (T.state tree.new)) }
-    ensures opened { OnOk result
-        ((T.state tree.new).openings ≡ (T.state tree.old).openings ++ file.now.path ∷ []) }
-    ensures listed { OnOk result ((T.state tree.new).listed ≡ (T.state tree.old).listed) }
-    ensures opens { OnErr result
-        (OpensAtMost (T.state tree.old) (T.state tree.new) file.now.path) }
+    ensures read { OnOk result
+        (AreReadOnce (file.now ∷ []) (T.state tree.old) (T.state tree.new)) }
     ensures checked { IfOk result (λ checked.
         IsCheckedAndKept (T.state tree.old) (T.state tree.new) file.now expected.now algs
         checked.0 checked.1) }
-    ensures unchecked { IfErr result
-        (IsUnchecked (T.state tree.old) (T.state tree.new) file.now expected.now) }
-    ensures stopped { IfErr result
-        (StopsChecking (file.now ∷ []) (T.state tree.old) (T.state tree.new)) }
+    ensures unchecked { IfErr result (IsLeftUnchecked
+        file.now expected.now (T.state tree.old) (T.state tree.new)) }
 {
     if file.path.as_str() == INFO {
         match check_and_keep(alloc, tree, file, expected, algs) {
@@ -113,7 +98,6 @@ pub(crate) fn check_or_keep<T: Tree>(
 
 /// The digests of a listed file, as `check_and_sum` gives them, with the bytes of which they were
 /// compared and computed, all in memory.
-#[tactic(auto, using(crate::proofs::Stopping::stopping))]
 fn check_and_keep<T: Tree>(
     alloc: Global,
     tree: &mut T,
@@ -122,19 +106,13 @@ fn check_and_keep<T: Tree>(
     algs: AlgSet,
 ) -> Result<(Sums, Vec<u8>), Unchecked>
     ensures keeps { Keeps (T.state tree.old) (T.state tree.new) }
-    ensures no_failure { OnOk result (NothingFailed (T.state tree.old) (T.state tree.new)) }
-    ensures opened { OnOk result
-        ((T.state tree.new).openings ≡ (T.state tree.old).openings ++ file.now.path ∷ []) }
-    ensures listed { OnOk result ((T.state tree.new).listed ≡ (T.state tree.old).listed) }
-    ensures opens { OnErr result
-        (OpensAtMost (T.state tree.old) (T.state tree.new) file.now.path) }
+    ensures read { OnOk result
+        (AreReadOnce (file.now ∷ []) (T.state tree.old) (T.state tree.new)) }
     ensures checked { IfOk result (λ kept.
         IsCheckedAs (T.state tree.old) (T.state tree.new) file.now expected.now algs
         kept.1.items kept.0) }
-    ensures unchecked { IfErr result
-        (IsUnchecked (T.state tree.old) (T.state tree.new) file.now expected.now) }
-    ensures stopped { IfErr result
-        (StopsChecking (file.now ∷ []) (T.state tree.old) (T.state tree.new)) }
+    ensures unchecked { IfErr result (IsLeftUnchecked
+        file.now expected.now (T.state tree.old) (T.state tree.new)) }
 {
     // Copied before the file is read, so that its refusal isn't reported as out of memory.
     let Ok(path) = file.path.copy(alloc) else {

@@ -1,11 +1,10 @@
 //! The files of a bag, each checked and summed in one reading.
-ghost use Rattle.std.specs.Prelude.{◌≡◌, ◌<◌, ◌++◌, ◌∷◌, [], length, IfOk, IfErr, OnErr, OnOk};
+ghost use Rattle.std.specs.Prelude.{◌≡◌, ◌<◌, ◌∷◌, [], length, IfOk, IfErr, OnErr, OnOk};
 ghost use Rattle.bag_tree.specs.FileReads.{OpensAtMost};
-ghost use Rattle.bag_tree.specs.Tree.{Keeps, NothingFailed};
-ghost use Rattle.bag_facts.specs.Wanted.{paths_of};
-ghost use Rattle.bag_checked.specs.InTurn.{IsOfSeventh, OpensFirstToRead};
-ghost use Rattle.bag_checked.specs.Summed.{AreGivenAndChecked, IsCheckedFile, IsFaultyFile};
-ghost use Rattle.bag_checked.specs.Stops.{StopsChecking};
+ghost use Rattle.bag_tree.specs.Tree.{Keeps};
+ghost use Rattle.bag_checked.specs.InTurn.{OpensFirstToRead};
+ghost use Rattle.bag_checked.specs.OneReading.{AreLeftUnchecked, AreReadOnce};
+ghost use Rattle.bag_checked.specs.Summed.{AreGivenAndChecked, IsCheckedFile};
 ghost use Rattle.bag_checked.specs.Summed.{IsGivenFor, IsNoMemory, is_to_read, to_read};
 
 use crate::Unchecked;
@@ -39,7 +38,6 @@ pub(crate) fn no_memory(alloc: Global) -> Unchecked
 /// The digests of listed files in their order, where each file has those that manifests give for
 /// it: of all of them, or of all but those of the payload. Each is opened once, and read through one
 /// buffer: what is compared and what is computed are digests of the same bytes.
-#[tactic(auto, using(crate::proofs::Summing::summing_one, crate::proofs::FirstOpened::opening))]
 pub fn check_files<T: Tree>(
     alloc: Global,
     tree: &mut T,
@@ -48,21 +46,15 @@ pub fn check_files<T: Tree>(
     with_payload: bool,
 ) -> Result<CheckedFiles, Unchecked>
     ensures keeps { Keeps (T.state tree.old) (T.state tree.new) }
-    ensures no_failure { OnOk result (NothingFailed (T.state tree.old) (T.state tree.new)) }
-    ensures opened { OnOk result ((T.state tree.new).openings
-        ≡ (T.state tree.old).openings
-        ++ paths_of (to_read with_payload facts.now.listing.files)) }
-    ensures listed { OnOk result ((T.state tree.new).listed ≡ (T.state tree.old).listed) }
+    ensures read { OnOk result (AreReadOnce
+        (to_read with_payload facts.now.listing.files) (T.state tree.old) (T.state tree.new)) }
     ensures opens { OpensFirstToRead
         with_payload facts.now.listing.files (T.state tree.old) (T.state tree.new) }
     ensures checked { IfOk result (λ checked.
         AreGivenAndChecked (T.state tree.old) (T.state tree.new) facts.now
         (to_read with_payload facts.now.listing.files) algs checked.summed.items checked.info) }
-    ensures faulty { IfErr result (IsFaultyFile facts.now
-        (to_read with_payload facts.now.listing.files) (T.state tree.old)) }
-    ensures seventh { IfErr result IsOfSeventh }
-    ensures stopped { IfErr result (StopsChecking (to_read with_payload facts.now.listing.files)
-        (T.state tree.old) (T.state tree.new)) }
+    ensures unchecked { IfErr result (AreLeftUnchecked facts.now
+        (to_read with_payload facts.now.listing.files) (T.state tree.old) (T.state tree.new)) }
 {
     let Ok(mut buffer) = Vec::from_elem(alloc, 0, BUFFER_BYTES) else {
         return Err(no_memory(alloc));
@@ -79,7 +71,6 @@ pub fn check_files<T: Tree>(
 }
 
 /// The digests of listed files that are read, one file after another.
-#[tactic(auto, using(crate::proofs::Summing::summing, crate::proofs::FirstOpened::seventh_for_memory))]
 fn check_each<T: Tree>(
     alloc: Global,
     tree: &mut T,
@@ -91,21 +82,15 @@ fn check_each<T: Tree>(
 ) -> Result<CheckedFiles, Unchecked>
     requires { 0 < length buffer.old }
     ensures keeps { Keeps (T.state tree.old) (T.state tree.new) }
-    ensures no_failure { OnOk result (NothingFailed (T.state tree.old) (T.state tree.new)) }
-    ensures opened { OnOk result
-        ((T.state tree.new).openings
-        ≡ (T.state tree.old).openings ++ paths_of (to_read with_payload files.now)) }
-    ensures listed { OnOk result ((T.state tree.new).listed ≡ (T.state tree.old).listed) }
+    ensures read { OnOk result (AreReadOnce
+        (to_read with_payload files.now) (T.state tree.old) (T.state tree.new)) }
     ensures opens { OpensFirstToRead
         with_payload files.now (T.state tree.old) (T.state tree.new) }
     ensures checked { IfOk result (λ checked.
         AreGivenAndChecked (T.state tree.old) (T.state tree.new) facts.now
         (to_read with_payload files.now) algs checked.summed.items checked.info) }
-    ensures faulty { IfErr result
-        (IsFaultyFile facts.now (to_read with_payload files.now) (T.state tree.old)) }
-    ensures seventh { IfErr result IsOfSeventh }
-    ensures stopped { IfErr result (StopsChecking (to_read with_payload files.now)
-        (T.state tree.old) (T.state tree.new)) }
+    ensures unchecked { IfErr result (AreLeftUnchecked facts.now
+        (to_read with_payload files.now) (T.state tree.old) (T.state tree.new)) }
 {
     let mut places = Places::new();
     let mut summed = Vec::new(alloc);
@@ -135,7 +120,6 @@ fn is_read(entry: &FileEntry, with_payload: bool) -> bool
 
 /// The digests of one listed file, where it has those that manifests give for it; and its bytes,
 /// where it is `bag-info.txt`.
-#[tactic(auto, using(crate::proofs::Summing::summing_one, crate::proofs::FirstOpened::opening))]
 fn check_file<T: Tree>(
     alloc: Global,
     tree: &mut T,
@@ -147,20 +131,15 @@ fn check_file<T: Tree>(
 ) -> Result<(SummedFile, Option<Items<u8>>), Unchecked>
     requires { 0 < length buffer.old }
     ensures keeps { Keeps (T.state tree.old) (T.state tree.new) }
-    ensures no_failure { OnOk result (NothingFailed (T.state tree.old) (T.state tree.new)) }
-    ensures opened { OnOk result
-        ((T.state tree.new).openings ≡ (T.state tree.old).openings ++ entry.now.path ∷ []) }
-    ensures listed { OnOk result ((T.state tree.new).listed ≡ (T.state tree.old).listed) }
+    ensures read { OnOk result
+        (AreReadOnce (entry.now ∷ []) (T.state tree.old) (T.state tree.new)) }
     ensures opens { OnErr result
         (OpensAtMost (T.state tree.old) (T.state tree.new) entry.now.path) }
     ensures checked { IfOk result (λ checked.
         IsCheckedFile (T.state tree.old) (T.state tree.new) facts.now entry.now algs
         checked.0 checked.1) }
-    ensures faulty { IfErr result
-        (IsFaultyFile facts.now (entry.now ∷ []) (T.state tree.old)) }
-    ensures seventh { IfErr result IsOfSeventh }
-    ensures stopped { IfErr result
-        (StopsChecking (entry.now ∷ []) (T.state tree.old) (T.state tree.new)) }
+    ensures unchecked { IfErr result (AreLeftUnchecked
+        facts.now (entry.now ∷ []) (T.state tree.old) (T.state tree.new)) }
 {
     let Ok(path) = entry.path.copy(alloc) else {
         return Err(no_memory(alloc));

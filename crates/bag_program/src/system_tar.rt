@@ -4,6 +4,7 @@ ghost use Rattle.bag_program.specs.SystemTar.{refused_times, system_tar_state};
 ghost use Rattle.bag_archive.specs.SystemArchive.{no_bytes};
 
 use crate::file_trouble::{FileTrouble, expect_file, packing_of};
+use bag_archive::BLOCK;
 use bag_tar::{Archive, AskedPlaces, SystemArchive, Unread};
 use bag_tree::Heard;
 use std::alloc::{AllocError, Global};
@@ -63,8 +64,12 @@ impl<R: Files> SystemTar<R> {
             }
             return Err(Unread);
         };
-        // A folder may be called as a packed file begins: where more can be read, it is none.
-        self.trouble = if at == 0 { packing_of(buffer) } else { None };
+        if at == 0 {
+            self.trouble = packing_of(buffer);
+        } else if at >= BLOCK as u64 {
+            // The first block was a header: a folder may be called as a packed file begins.
+            self.trouble = None;
+        }
         Ok(count)
     }
 }

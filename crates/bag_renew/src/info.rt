@@ -19,8 +19,9 @@ use crate::{RenewFault, Renewal};
 use bag_facts::Facts;
 use bag_read::read_info;
 use bag_renewed::{Target, renewed_elements};
+use bag_stages::PayloadSize;
 use bag_tags::{Element, are_texts, is_bad_long_element, oxum_value, write_long_info};
-use bag_text::{Items, Rules, Text, is_payload};
+use bag_text::{Items, Rules, Text};
 use bag_tree::FileEntry;
 use std::alloc::{AllocError, Global};
 
@@ -162,18 +163,10 @@ fn labels_and_values(alloc: Global, elements: &[Element]) -> Result<Vec<(Text, T
     Ok(made)
 }
 
-/// The value of `Payload-Oxum`: how many bytes the payload has, a dot, and how many files. Sizes that
-/// each fit 64 bits need not fit them together.
+/// The value of `Payload-Oxum`: how many bytes the payload has, a dot, and how many files.
 fn size_text(alloc: Global, files: &[FileEntry]) -> Result<Text, AllocError>
     ensures { IfOk result (λ text. text ≡ oxum_text (listed_oxum files.now)) }
 {
-    let mut octets: u128 = 0;
-    let mut streams: u64 = 0;
-    for entry in files {
-        if is_payload(entry.path.as_str()) {
-            octets += u128::from(entry.size);
-            streams += 1;
-        }
-    }
-    oxum_value(alloc, octets, streams)
+    let size = PayloadSize::of(files);
+    oxum_value(alloc, size.octets, size.streams)
 }

@@ -1,11 +1,15 @@
 -- How the answers of the parts make the answer of the whole.
 use Rattle.bag_renew_cli.proofs.Common.{arith, ◌≡◌, ◌≢◌, inl, inr, refl, not, Bool, List, []}
 use Rattle.bag_renew_cli.proofs.Common.{Option, Some, None, Result, Err, is_some, option_or, if◌then◌else◌}
-use Rattle.bag_renew_cli.proofs.Common.{HasKind, Row, Text, kind_of, OutOfMemory, command, clap_on_literals}
-use Rattle.bag_renew_cli.proofs.Common.{built, fault_one, HasOne, true, refusals, matches_of_words}
-use Rattle.clap.specs.declared.error.Error.{Error}
+use Rattle.bag_renew_cli.proofs.Common.{◌∷◌, Ok, Row, Text, command, clap_on_literals, clap_takes, fault_of, matches_of}
+use Rattle.bag_renew_cli.proofs.Common.{rows_in, subst, takes, true, refusals, matches_of_words}
+use Rattle.clap.specs.Words.{Kinds}
+use Rattle.clap.specs.declared.parser.matches.ArgMatches.{ArgMatches}
+use Rattle.bag_arguments.specs.Taken.{IsPlain, IsTaken}
+use Rattle.bag_arguments.specs.declared.taking.Declined.TheVariants as declined
 use Rattle.bag_renew_cli.specs.Given.{has_others, has_several, printed, prints}
-use Rattle.bag_renew_cli.specs.Plan.{Declines, IsNotRefused, IsPlanned, Plans, misuse, print_misuse}
+use Rattle.bag_renew_cli.specs.declared.plan.RenewAction.TheVariants.{Help}
+use Rattle.bag_renew_cli.specs.Plan.{Answers, IsNotRefused, IsPlanned, Plans, misuse, plan_without_words, print_misuse}
 use Rattle.bag_renew_cli.specs.Plan.{elements_misuse, lists_misuse, element_misuse, list_misuse}
 use Rattle.bag_renew_cli.specs.declared.plan.RenewPlan.{RenewPlan}
 use Rattle.bag_renew_cli.specs.declared.request_option.ElementOption.{ElementOption}
@@ -16,14 +20,10 @@ use Rattle.bag_renew_cli.specs.declared.usage.RenewUsage.{RenewUsage}
 use Rattle.bag_renew_cli.specs.declared.usage.RenewUsage.TheVariants.{Refused, Memory, PrintWithOthers, PrintSeveral}
 use Rattle.bag_renew_cli.specs.declared.usage.RenewUsage.TheVariants.{NotAnAlgorithm}
 
-is_leaf_alone : ((built command).subs ≡ []) × ((built command).top.is_leaf ≡ true)
+-- the command's words are refused for one reason at most
+pub plain : IsPlain command
 unfolding command clap_on_literals
-is_leaf_alone = (refl, refl)
-
--- the words are refused for one reason at most
-pub refusals_one : (words : List Text) → HasOne (refusals words)
-unfolding refusals
-refusals_one words = fault_one command words is_leaf_alone.0 is_leaf_alone.1
+plain = record { simple = refl; free = refl; alone = refl; leaf = refl }
 
 either_is : (a b : Option RenewUsage) (usage : RenewUsage) → a ≢ Some usage → b ≢ Some usage
     → option_or a b ≢ Some usage
@@ -59,12 +59,44 @@ plans_not_refused rows (Err (Refused text)) (inr e) = absurd (misuse_other text 
 plans_not_refused rows result plans = tt
 
 -- the words are taken
-pub taken_answered : (words : List Text) (rows : List Row) (result : Result RenewPlan RenewUsage)
-    → refusals words ≡ [] → rows ≡ matches_of_words words → Plans rows result → IsPlanned words result
-taken_answered words rows result none is plans = grind arith
+pub taken_answered : (words : List Text) (m : ArgMatches) (result : Result RenewPlan RenewUsage)
+    → IsTaken (fault_of command words) (matches_of command words) (Ok m) → Plans (rows_in m) result
+    → IsPlanned words result
+unfolding refusals matches_of_words
+taken_answered words m result taken plans = rw taken.0 (subst (λ rows. Plans rows result) taken.1 plans)
 
--- clap gives no matches
-pub declined_answered : (words : List Text) (error : Error) (result : Result RenewPlan RenewUsage)
-    → HasKind (refusals words) error → Declines (kind_of error) result
-    → (kind_of error ≡ OutOfMemory → result ≡ Err Memory) → IsPlanned words result
-declined_answered words error result has declines memory = grind (arith, refusals_one)
+-- or they aren't
+help_by : (kinds : Kinds) (rows : List Row) (text : Text) → IsTaken kinds rows (Err (declined.Help text))
+    → Answers kinds rows (Ok (plan_without_words (Help text)))
+help_by [] rows text taken = absurd taken
+help_by (kind ∷ more) rows text taken = (taken, text, refl)
+
+refused_by : (kinds : Kinds) (rows : List Row) (text : Text) → IsTaken kinds rows (Err (declined.Refused text))
+    → Answers kinds rows (Err (Refused text))
+refused_by [] rows text taken = absurd taken
+refused_by (kind ∷ more) rows text taken = taken
+
+memory_by : (kinds : Kinds) (rows : List Row) → Answers kinds rows (Err Memory)
+memory_by [] rows = tt
+memory_by (kind ∷ more) rows = tt
+
+module _ (words : List Text) where
+  pub help_answered : (text : Text) → IsTaken (fault_of command words) (matches_of command words) (Err (declined.Help text))
+      → IsPlanned words (Ok (plan_without_words (Help text)))
+  unfolding refusals matches_of_words
+  help_answered text taken = help_by _ _ text taken
+
+  pub refused_answered : (text : Text)
+      → IsTaken (fault_of command words) (matches_of command words) (Err (declined.Refused text))
+      → IsPlanned words (Err (Refused text))
+  unfolding refusals matches_of_words
+  refused_answered text taken = refused_by _ _ text taken
+
+  pub memory_answered : IsPlanned words (Err Memory)
+  memory_answered = memory_by _ _
+
+  -- clap refuses no words that it takes, but for memory
+  pub not_refused : (text : Text) → (takes command words ≡ true → declined.Refused text ≡ declined.Memory)
+      → clap_takes words ≡ true → ⊥
+  unfolding clap_takes
+  not_refused text memory taken = let e = memory taken in cc

@@ -28,7 +28,6 @@ pub use Rattle.clap.specs.Words.{App, FailsBy, HasKind, Row, Text, app_of}
 pub use Rattle.clap.specs.Words.{fault_of, found_of, is_simple, is_simple_and_free, kind_of, matches_of, rows_of, takes}
 pub use Rattle.clap.specs.declared.error.kind.ErrorKind.TheVariants.{OutOfMemory}
 pub use Rattle.bag_arguments.proofs.Adding.{added}
-pub use Rattle.bag_arguments.proofs.OneKind.{HasOne, fault_one}
 pub use Rattle.bag_arguments.proofs.Reading.{named_one_by_one, values_of, with_if}
 pub use Rattle.bag_arguments.specs.Arguments.{with_rules, without_program_name}
 pub use Rattle.bag_arguments.specs.GivenRows.{rows_in}

@@ -1,20 +1,18 @@
 //! The plan of a renewal's words.
-ghost use Rattle.std.specs.Prelude.{◌≡◌, IfErr, IfOk, MatchResult, Some, None, true};
-ghost use Rattle.clap.specs.Words.{FailsBy, kind_of};
+ghost use Rattle.std.specs.Prelude.{◌≡◌, MatchResult, Some, None, true};
 ghost use Rattle.bag_arguments.specs.GivenRows.{rows_in};
 ghost use Rattle.bag_arguments.specs.Words.{texts_of_words};
 ghost use Rattle.bag_renew_cli.specs.Given as asked;
 ghost use Rattle.bag_renew_cli.specs.Plan as spec;
-ghost use Rattle.bag_renew_cli.specs.Words.{clap_takes, matches_of_words, refusals};
+ghost use Rattle.bag_renew_cli.specs.Words.{clap_takes};
 
 use crate::command::command;
 use crate::{BagAction, ElementOption, ListOption, RenewAction, RenewPlan, RenewUsage, given};
-use bag_arguments::declining::{Declined, answer_of};
 use bag_arguments::matched::{is_given, value, values};
+use bag_arguments::taking::{Declined, taken};
 use bag_renew::{ElementChanges, Renewal};
 use bag_text::{Alg, AlgSet, Items};
-use clap::error::ErrorKind;
-use clap::{ArgMatches, Error};
+use clap::ArgMatches;
 use std::alloc::Global;
 
 /// The plan of a renewal's words, without the program's name.
@@ -22,32 +20,11 @@ pub fn renewal_of(alloc: Global, words: &[&str]) -> Result<RenewPlan, RenewUsage
     ensures planned { spec.IsPlanned (texts_of_words words.now) result }
     ensures taken { clap_takes (texts_of_words words.now) ≡ true → spec.IsNotRefused result }
 {
-    match parse(alloc, words) {
+    match taken(alloc, command(alloc), words) {
         Ok(matches) => plan_of_matches(alloc, &matches),
-        Err(error) => decline(alloc, error),
-    }
-}
-
-/// What clap makes of the words.
-fn parse<'a>(alloc: Global, words: &'a [&'a str]) -> Result<ArgMatches<'a>, Error>
-    ensures matches { IfOk result (λ m.
-        rows_in m ≡ matches_of_words (texts_of_words words.entry.now)) }
-    ensures refusals { FailsBy (refusals (texts_of_words words.entry.now)) result }
-    ensures taken { IfErr result (λ e.
-        clap_takes (texts_of_words words.entry.now) ≡ true → kind_of e ≡ ErrorKind.OutOfMemory) }
-{
-    command(alloc)?.try_get_matches_from(words)
-}
-
-/// The answer where clap gives no matches: its help, or its refusal.
-fn decline(alloc: Global, error: Error) -> Result<RenewPlan, RenewUsage>
-    ensures declines { spec.Declines (kind_of error) result }
-    ensures memory { kind_of error ≡ ErrorKind.OutOfMemory → result ≡ Err RenewUsage.Memory }
-{
-    match answer_of(alloc, error) {
-        Declined::Help(text) => Ok(plan_without_words(alloc, RenewAction::Help(text))),
-        Declined::Refused(text) => Err(RenewUsage::Refused(text)),
-        Declined::Memory => Err(RenewUsage::Memory),
+        Err(Declined::Help(text)) => Ok(plan_without_words(alloc, RenewAction::Help(text))),
+        Err(Declined::Refused(text)) => Err(RenewUsage::Refused(text)),
+        Err(Declined::Memory) => Err(RenewUsage::Memory),
     }
 }
 

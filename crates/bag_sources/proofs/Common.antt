@@ -95,5 +95,5 @@ pub use Rattle.bag_sources.specs.Steps.{Gives, IsAhead, IsNextOf, LendsNext, May
 pub use Rattle.bag_sources.specs.Steps.{shown_by, to_give, went}
 pub use Rattle.bag_sources.specs.ToSum.{faults_at, faults_in, faults_of_files, paths_to_sum}
 pub use Rattle.bag_sources.specs.Union.{first_of_union, rest_alone, rest_equal, rest_greater, rest_less, rest_other}
-pub use Rattle.bag_sources.specs.Validity.{AreFilesOf, IsOfBag}
+pub use Rattle.bag_sources.specs.Validity.{AreFilesOf, FindsFaults, GoesThrough, IsOfBag, StopsAtFile}
 pub use Rattle.bag_sources.specs.declared.to_sum.ToSum.{ToSum}

@@ -1,6 +1,6 @@
 -- Going through files whose digests are compared.
 use Rattle.bag_sources.proofs.Common.{IsSome, ◌≡◌, ◌++◌, ◌∷◌, ◌⊎◌, inl, inr, ℕ, Bool, List, [], Option, None, Some, IsTrue}
-use Rattle.bag_sources.proofs.Common.{Contains, ap, sym, ◌∙◌, subst, append_assoc, arith, cond, flat_map}
+use Rattle.bag_sources.proofs.Common.{Contains, ap, refl, sym, ◌∙◌, subst, append_assoc, arith, cond, flat_map}
 use Rattle.bag_sources.proofs.Common.{nat_list_cmp_total, Less, append_cancel_left, map-append, stage, text_cmp}
 use Rattle.bag_sources.proofs.Common.{contains_back, contains_behind, contains_cases, contains_either, contains_first}
 use Rattle.bag_sources.proofs.Common.{contains_front, contains_nothing, member_has, Bag, file, NothingFailed, TreeState}
@@ -10,6 +10,7 @@ use Rattle.bag_sources.proofs.Common.{kept, keeps_on, differing, differing_code,
 use Rattle.bag_sources.proofs.Common.{IsBeforeFile, IsReached, NoFaultBeforeStop, OpensNoFileEarly, first_of, rest_of}
 use Rattle.bag_sources.proofs.Common.{MayStopAnyway, MayStopFilling, Sees, faults_at, faults_in, faults_of_files}
 use Rattle.bag_sources.proofs.Common.{paths_to_sum, AreFilesOf, IsOfBag, Expected, ToSum, front_is, All-before_last}
+use Rattle.bag_sources.proofs.Common.{FindsFaults, GoesThrough, OpensAgain, StopsAtFile}
 use Rattle.bag_sources.proofs.Common.{All-contains, front_ascends, length, length-append, length-map, Contains-push_cases}
 use Rattle.std.specs.List.Sorted.{IsStrictlySortedBy}
 use Rattle.bag_read.specs.declared.kind.Kind.{Kind}
@@ -69,7 +70,7 @@ module _ (y : List ℕ) (ys xs : List (List ℕ)) (x : List ℕ) (s : IsStrictly
 paths_joined : (xs ys : List ToSum) → paths_to_sum (xs ++ ys) ≡ paths_to_sum xs ++ paths_to_sum ys
 paths_joined xs ys = map-append (λ (t : ToSum). t.file.path) xs ys
 
-pub files_behind : (bag : Bag) (all passed pending : List ToSum) → all ≡ passed ++ pending → AreFilesOf bag all
+files_behind : (bag : Bag) (all passed pending : List ToSum) → all ≡ passed ++ pending → AreFilesOf bag all
     → AreFilesOf bag pending
 files_behind bag all passed pending cut h =
     let whole : AreFilesOf bag (passed ++ pending) = subst (AreFilesOf bag) cut h in record {
@@ -151,7 +152,7 @@ module _ {all pending : List ToSum} {after : Option Fault} {one : ToSum} {old mi
       → faults ≡ above after (faults_in bag one)
   faults_are faults are bag sees = grind (arith, not_none)
 
-  pub found_here : (faults : List Fault) → (IsTrue mid.honest → faults ≡ above after (faults_in mid.bag one))
+  found_here : (faults : List Fault) → (IsTrue mid.honest → faults ≡ above after (faults_in mid.bag one))
       → (bag : Bag) → Sees old (paths_to_sum all) bag
       → faults ++ faults_of_files bag after (rest_of pending) ≡ faults_of_files bag after all
   found_here faults are bag sees = grind (arith, faults_are faults are bag sees, ap (faults_of_files bag after) front)
@@ -171,7 +172,7 @@ module _ {all pending : List ToSum} {after : Option Fault} {one : ToSum} {old mi
         ap (λ l. l ++ faults_of_files bag after (rest_of pending)) (sym none) ∙ found_here faults are bag sees;
   }
 
-  pub reached_here : (new : TreeState) (stop : Stop)
+  reached_here : (new : TreeState) (stop : Stop)
       → IsOutOfMemory stop ⊎ ((stop.path ≡ one.file.path) × IsRefusedAt mid.openings one.file.path new)
       → IsOutOfMemory stop ⊎ IsReached (paths_to_sum all) old new stop.path
   reached_here new stop (inl memory) = inl memory
@@ -183,7 +184,7 @@ module _ {all pending : List ToSum} {after : Option Fault} {one : ToSum} {old mi
     subst (λ opened. IsRefusedAt opened one.file.path new) gone.opened refused,
   ))
 
-  pub waits_here : (new : TreeState) (stop : Stop)
+  waits_here : (new : TreeState) (stop : Stop)
       → IsOutOfMemory stop ⊎ ((stop.path ≡ one.file.path) × IsRefusedAt mid.openings one.file.path new)
       → (bag : Bag) → Sees old (paths_to_sum all) bag → AreFilesOf bag all
       → NoFaultBeforeStop (faults_of_files bag after all) stop.path
@@ -200,7 +201,7 @@ module _ {all pending : List ToSum} {after : Option Fault} {one : ToSum} {old mi
       → Contains opened path → Contains (paths_to_sum gone.passed ++ one.file.path ∷ []) path
   opened_is new at_most opened e path c = grind (arith, append_cancel_left, contains_front, append_assoc)
 
-  pub behind_here : (new : TreeState) → OpensAtMost mid new one.file.path → (bag : Bag)
+  behind_here : (new : TreeState) → OpensAtMost mid new one.file.path → (bag : Bag)
       → Sees old (paths_to_sum all) bag → AreFilesOf bag all
       → OpensNoFileEarly (faults_of_files bag after all) old new
   behind_here new at_most bag sees files opened e f path c d =
@@ -208,7 +209,7 @@ module _ {all pending : List ToSum} {after : Option Fault} {one : ToSum} {old mi
       path c
       (opened_is new at_most opened e path d)
 
-  pub files_here : (bag : Bag) → AreFilesOf bag all → AreFilesOf bag (rest_of pending)
+  files_here : (bag : Bag) → AreFilesOf bag all → AreFilesOf bag (rest_of pending)
   files_here bag files = files_behind bag all (gone.passed ++ one ∷ []) (rest_of pending) cut_more files
 
   entry_here : (IsTrue old.honest → AreFilesOf old.bag all) → IsTrue mid.honest → IsEntryOf mid.bag one.file
@@ -217,7 +218,7 @@ module _ {all pending : List ToSum} {after : Option Fault} {one : ToSum} {old mi
       ((files_behind old.bag all gone.passed pending gone.cut (files (sym gone.keeps.honest ∙ honest))).entries one
       (subst (λ l. Contains l one) (sym front) (contains_first one (rest_of pending))))
 
-  pub stop_here : {new : TreeState} (stop : Stop)
+  stop_here : {new : TreeState} (stop : Stop)
       → ((rest : List (List ℕ)) → (IsTrue mid.honest → IsEntryOf mid.bag one.file)
       → MayStopFilling (one.file.path ∷ rest) mid new stop)
       → (IsTrue old.honest → AreFilesOf old.bag all) → MayStopFilling (paths_to_sum pending) old new stop
@@ -226,18 +227,103 @@ module _ {all pending : List ToSum} {after : Option Fault} {one : ToSum} {old mi
       (subst (λ l. MayStopFilling l mid new stop) (sym (ap paths_to_sum front))
       (h (paths_to_sum (rest_of pending)) (entry_here files)))
 
-  pub anyway_here : {new : TreeState} (stop : Stop)
+  anyway_here : {new : TreeState} (stop : Stop)
       → ((rest : List (List ℕ)) → MayStopAnyway (one.file.path ∷ rest) mid new stop)
       → MayStopAnyway (paths_to_sum pending) old new stop
   anyway_here {new} stop h =
       anyway_later gone.keeps gone.no_failure
       (subst (λ l. MayStopAnyway l mid new stop) (sym (ap paths_to_sum front)) (h (paths_to_sum (rest_of pending))))
 
+  pub goes_up_to : (new : TreeState) → Keeps mid new → OpensAtMost mid new one.file.path
+      → GoesThrough after all pending old new
+  goes_up_to new k at_most = record {
+    keeps = keeps_on old mid new gone.keeps k;
+    files = λ bag. files_behind bag all gone.passed pending gone.cut;
+    none_early = behind_here new at_most;
+  }
+
+  pub goes_past : (new : TreeState) → Keeps mid new → OpensAtMost mid new one.file.path
+      → GoesThrough after all (rest_of pending) old new
+  goes_past new k at_most = record {
+    keeps = keeps_on old mid new gone.keeps k;
+    files = files_here;
+    none_early = behind_here new at_most;
+  }
+
+  -- it had faults
+  pub finds_here : {new : TreeState} (faults : List Fault) → (faults ≡ [] → ⊥) → NothingFailed mid new
+      → new.openings ≡ mid.openings ++ one.file.path ∷ []
+      → (IsTrue mid.honest → faults ≡ above after (faults_in mid.bag one))
+      → FindsFaults after all (rest_of pending) old new faults
+  finds_here {new} faults some no_failure e are = record {
+    no_failure = nothing_then old mid new gone.no_failure no_failure;
+    opens = record {
+      opened = paths_to_sum (gone.passed ++ one ∷ []);
+      openings = grind (arith, append_assoc, paths_joined);
+      left = ap paths_to_sum cut_more ∙ paths_joined (gone.passed ++ one ∷ []) (rest_of pending);
+    };
+    ended = λ none. absurd (some none);
+    found = found_here faults are;
+  }
+
+  opens_again : (new : TreeState) → OpensAtMost mid new one.file.path
+      → OpensAgain (paths_to_sum all) (paths_to_sum pending) old new
+  opens_again new at_most = record {
+    passed = paths_to_sum gone.passed;
+    left = ap paths_to_sum gone.cut ∙ paths_joined gone.passed pending;
+    openings = elim at_most [
+      | inl none ↦ inl (none ∙ gone.opened)
+      | inr it ↦ inr (
+        one.file.path,
+        paths_to_sum (rest_of pending),
+        ap paths_to_sum front,
+        it ∙ ap (λ l. l ++ one.file.path ∷ []) gone.opened
+            ∙ append_assoc old.openings (paths_to_sum gone.passed) (one.file.path ∷ []),
+      )
+    ];
+  }
+
+  -- it was refused
+  pub stops_here : (new : TreeState) (stop : Stop) → OpensAtMost mid new one.file.path
+      → IsOutOfMemory stop ⊎ ((stop.path ≡ one.file.path) × IsRefusedAt mid.openings one.file.path new)
+      → ((rest : List (List ℕ)) → (IsTrue mid.honest → IsEntryOf mid.bag one.file)
+      → MayStopFilling (one.file.path ∷ rest) mid new stop)
+      → ((rest : List (List ℕ)) → MayStopAnyway (one.file.path ∷ rest) mid new stop)
+      → StopsAtFile after all pending old new stop
+  stops_here new stop at_most refused may_stop anyway = record {
+    again = opens_again new at_most;
+    reached = reached_here new stop refused;
+    waits = waits_here new stop refused;
+    same = gone.same;
+    may_stop = stop_here stop may_stop;
+    may_stop_anyway = anyway_here stop anyway;
+  }
+
 -- at the end
-pub behind_all : {all pending : List ToSum} {after : Option Fault} {old new : TreeState} → pending ≡ []
-    → GoneThrough all pending after old new
-    → (bag : Bag) → Sees old (paths_to_sum all) bag → OpensNoFileEarly (faults_of_files bag after all) old new
-behind_all none gone bag sees opened e f path c d = grind (arith, contains_nothing)
+module _ {all pending : List ToSum} {after : Option Fault} {old new : TreeState} (none : pending ≡ [])
+    (gone : GoneThrough all pending after old new) where
+  behind_all : (bag : Bag) → Sees old (paths_to_sum all) bag
+      → OpensNoFileEarly (faults_of_files bag after all) old new
+  behind_all bag sees opened e f path c d = grind (arith, contains_nothing)
+
+  pub goes_to_the_end : GoesThrough after all pending old new
+  goes_to_the_end = record {
+    keeps = gone.keeps;
+    files = λ bag. files_behind bag all gone.passed pending gone.cut;
+    none_early = λ bag sees files. behind_all bag sees;
+  }
+
+  pub finds_none : FindsFaults after all pending old new []
+  finds_none = record {
+    no_failure = gone.no_failure;
+    opens = record {
+      opened = paths_to_sum gone.passed;
+      openings = gone.opened;
+      left = ap paths_to_sum gone.cut ∙ paths_joined gone.passed pending;
+    };
+    ended = λ _. none;
+    found = gone.same;
+  }
 
 -- what a source of validity has, when it was filled or refused
 module _ (bag : Bag) (after : Option Fault) (pending new : List ToSum) (found : List Fault)
@@ -255,3 +341,9 @@ module _ (bag : Bag) (after : Option Fault) (pending new : List ToSum) (found : 
 
 pub rest_front : (fs gs : List Fault) → IsSome (first_of fs) → rest_of fs ++ gs ≡ rest_of (fs ++ gs)
 rest_front fs gs some = grind arith
+
+-- the first of the faults that were found is the first of all, since none are found only at the end
+pub first_filled : (bag : Bag) (after : Option Fault) (left : List ToSum) (faults : List Fault)
+    → (faults ≡ [] → left ≡ []) → first_of faults ≡ first_of (faults ++ faults_of_files bag after left)
+first_filled bag after left [] ended = rw (ended refl) refl
+first_filled bag after left (f ∷ faults) ended = refl

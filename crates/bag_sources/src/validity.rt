@@ -1,20 +1,15 @@
 //! Stage 7: the digests of files, one file at a time.
-ghost use Rattle.std.specs.Prelude.{◌≡◌, ◌≢◌, ⊤, ◌++◌, [], length, vec_len};
-ghost use Rattle.std.specs.Prelude.{IfOk, IfErr, OnOk, OnErr};
+ghost use Rattle.std.specs.Prelude.{◌≡◌, ◌≢◌, ⊤, ◌++◌, [], length, vec_len, IfOk, IfErr};
 ghost use Rattle.std.specs.Option.{option_copied};
-ghost use Rattle.bag_tree.specs.Bag.{Bag};
-ghost use Rattle.bag_tree.specs.Tree.{Keeps, NothingFailed};
 ghost use Rattle.bag_faults.specs.declared.options.Depth.TheVariants as depth_of;
 ghost use Rattle.bag_stages.specs.ValidityStage.{IsOfValidity};
 ghost use Rattle.bag_sources.specs.Completeness.{AreAbove};
 ghost use Rattle.bag_sources.specs.FactsOf.{ForBagAtFull, ForBagOf};
-ghost use Rattle.bag_sources.specs.SourceOpenings.{NoFaultBeforeStop, Opens, OpensAgain};
-ghost use Rattle.bag_sources.specs.SourceOpenings.{OpensNoFileEarly, StopsAtNext};
-ghost use Rattle.bag_sources.specs.Filling.{first_of, MayStopAnyway, MayStopFilling};
+ghost use Rattle.bag_sources.specs.Filling.{first_of};
 ghost use Rattle.bag_sources.specs.ToSum.{faults_of_files, paths_to_sum};
 ghost use Rattle.bag_sources.specs.StartPart.{AreSummedWithin, IsWithin};
-ghost use Rattle.bag_sources.specs.Validity.{AreFilesOf, AreOfHonest, AreSummedAhead, IsOfBag};
-ghost use Rattle.bag_sources.specs.Validity.{ForBagSeen, ForFilesSeen};
+ghost use Rattle.bag_sources.specs.Validity.{AreSummedAhead, IsOfBag};
+ghost use Rattle.bag_sources.specs.Validity.{FindsFaults, GoesThrough, StopsAtFile};
 ghost use Rattle.bag_sources.specs.Shown.{first_shown};
 
 use crate::files::files_to_sum;
@@ -142,32 +137,12 @@ fn next_faults<T: Tree>(
     buffer: &mut [u8],
 ) -> Result<Vec<Fault>, Stop>
     requires { length buffer.old ≡ 65536 }
-    ensures keeps { Keeps (T.state tree.old) (T.state tree.new) }
-    ensures no_failure { OnOk result (NothingFailed (T.state tree.old) (T.state tree.new)) }
-    ensures opens { OnOk result (Opens (paths_to_sum pending.old) (paths_to_sum pending.new)
-        (T.state tree.old) (T.state tree.new)) }
-    ensures again { OnErr result (OpensAgain (paths_to_sum pending.old) (paths_to_sum pending.new)
-        (T.state tree.old) (T.state tree.new)) }
-    ensures reached { IfErr result (
-        StopsAtNext (paths_to_sum pending.old) (T.state tree.old) (T.state tree.new)) }
-    ensures waits { IfErr result (λ stop. ForFilesSeen (T.state tree.old) pending.old (λ bag.
-        NoFaultBeforeStop (faults_of_files bag (option_copied after.entry) pending.old)
-        stop.path)) }
-    ensures ended { IfOk result (λ faults. faults.items ≡ [] → pending.new ≡ []) }
-    ensures none_early { ForFilesSeen (T.state tree.old) pending.old (λ bag.
-        OpensNoFileEarly (faults_of_files bag (option_copied after.entry) pending.old)
-        (T.state tree.old) (T.state tree.new)) }
-    ensures found { IfOk result (λ faults. ForBagSeen (T.state tree.old) pending.old (λ bag.
-        faults.items ++ faults_of_files bag (option_copied after.entry) pending.new
-        ≡ faults_of_files bag (option_copied after.entry) pending.old)) }
-    ensures same { OnErr result (ForBagSeen (T.state tree.old) pending.old (λ bag.
-        faults_of_files bag (option_copied after.entry) pending.new
-        ≡ faults_of_files bag (option_copied after.entry) pending.old)) }
-    ensures files { (bag : Bag) → AreFilesOf bag pending.old → AreFilesOf bag pending.new }
-    ensures stop { IfErr result (λ stop. AreOfHonest (T.state tree.old) pending.old →
-        MayStopFilling (paths_to_sum pending.new) (T.state tree.old) (T.state tree.new) stop) }
-    ensures anyway { IfErr result (
-        MayStopAnyway (paths_to_sum pending.new) (T.state tree.old) (T.state tree.new)) }
+    ensures goes { GoesThrough (option_copied after.entry) pending.old pending.new
+        (T.state tree.old) (T.state tree.new) }
+    ensures finds { IfOk result (λ faults. FindsFaults (option_copied after.entry)
+        pending.old pending.new (T.state tree.old) (T.state tree.new) faults.items) }
+    ensures stops { IfErr result (StopsAtFile (option_copied after.entry)
+        pending.old pending.new (T.state tree.old) (T.state tree.new)) }
 {
     while let Some(file) = pending.first() {
         let faults = match faults_of_file(alloc, tree, file, after, buffer) {

@@ -18,6 +18,7 @@ pub mod HasLists
 pub mod InFile
 pub mod LeastNames
 pub mod LeftOut
+pub mod ListedSize
 pub mod ManifestFaults
 pub mod ManifestsList
 pub mod MetadataFaults
@@ -29,7 +30,6 @@ pub mod PartsList
 pub mod PathFaults
 pub mod PayloadNamed
 pub mod PayloadNames
-pub mod PayloadSize
 pub mod ReadManifest
 pub mod Sorted
 pub mod Sought

@@ -51,5 +51,6 @@ pub use metadata::metadata_faults;
 pub use names::in_order;
 pub use packed::{Packed, Unpacking};
 pub use parts::parts_faults;
+pub use payload_size::PayloadSize;
 pub use places::Places;
 pub use sum_faults::faults_by;

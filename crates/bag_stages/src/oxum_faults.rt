@@ -3,7 +3,7 @@ ghost use Rattle.std.specs.Prelude.{◌≡◌, ◌∷◌, [], IfOk, map, positio
 ghost use Rattle.bag_stages.specs.OxumFaults as reported;
 ghost use Rattle.bag_stages.specs.PayloadSize.{listed_oxum};
 
-use crate::payload_size::{PayloadSize, payload_size};
+use crate::payload_size::PayloadSize;
 use bag_faults::Fault;
 use bag_read::{Element, oxum_of};
 use bag_text::{Code, Text, same_label};
@@ -64,7 +64,7 @@ fn first_faults(
     let Some(size) = oxum_of(element.value.as_str()) else {
         return Ok(vec![in alloc; value_fault(alloc, Code::OxumMalformed, path, element)?]?);
     };
-    let found = payload_size(files);
+    let found = PayloadSize::of(files);
     if u128::from(size.octets) == found.octets && size.streams == found.streams {
         return Ok(Vec::new(alloc));
     }

@@ -9,7 +9,7 @@ use std::marker::Model;
 /// How many bytes a payload has, and how many files. The sum of sizes that each fit 64 bits need
 /// not fit them.
 #[derive(Drop)]
-pub(crate) struct PayloadSize {
+pub struct PayloadSize {
     /// Bytes of all payload files.
     pub octets: u128,
     /// Payload files.
@@ -24,17 +24,19 @@ impl Model for PayloadSize {
     ghost view = { λ size. record { octets = size.octets; streams = size.streams } };
 }
 
-/// The size of the payload among listed files (RFC 8493, 2.2.2), in one pass.
-pub(crate) fn payload_size(files: &[FileEntry]) -> PayloadSize
-    ensures { result ≡ listed_oxum files.now }
-{
-    let mut octets: u128 = 0;
-    let mut streams: u64 = 0;
-    for entry in files {
-        if is_payload(entry.path.as_str()) {
-            octets += u128::from(entry.size);
-            streams += 1;
+impl PayloadSize {
+    /// The size of the payload among listed files (RFC 8493, 2.2.2), in one pass.
+    pub fn of(files: &[FileEntry]) -> PayloadSize
+        ensures { result ≡ listed_oxum files.now }
+    {
+        let mut octets: u128 = 0;
+        let mut streams: u64 = 0;
+        for entry in files {
+            if is_payload(entry.path.as_str()) {
+                octets += u128::from(entry.size);
+                streams += 1;
+            }
         }
+        PayloadSize { octets, streams }
     }
-    PayloadSize { octets, streams }
 }

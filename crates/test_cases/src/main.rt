@@ -1,5 +1,6 @@
 //! The worked rows: each argument is a file of cases, in the form that docs/CASES.md says. What
-//! differs is printed, or that nothing does; how much was compared, on the error output.
+//! differs is printed, or that nothing does; how much was compared, on the error output. With the
+//! words `segments LIMITS` it checks a folder instead.
 #![tactic(auto)]
 
 mod answers;
@@ -11,6 +12,7 @@ mod on_disk;
 mod packing;
 mod renewals;
 mod running;
+mod segments;
 mod session;
 mod shelf;
 mod stages;
@@ -35,9 +37,21 @@ fn print(rt: &HostRuntime, answer: &Answer) -> io::Result<()> {
     rt.stderr().write_all(&answer.told.held)
 }
 
+/// The limits of segments, where the words ask for them.
+fn segments_of(words: &[String]) -> Option<&str> {
+    match words.first() {
+        Some(word) if word.as_str() == "segments" => Some(words.get(1)?.as_str()),
+        _ => None,
+    }
+}
+
 fn main(rt: HostRuntime) -> io::Result<ExitCode> {
-    let files: Vec<String> = env::args(&rt)?.skip(1).collect(rt.alloc())?;
-    let answer = run_files(&rt, &files);
+    let words: Vec<String> = env::args(&rt)?.skip(1).collect(rt.alloc())?;
+    if let Some(limits) = segments_of(&words) {
+        segments::check(&rt, limits)?;
+        return Ok(ExitCode::SUCCESS);
+    }
+    let answer = run_files(&rt, &words);
     print(&rt, &answer)?;
     Ok(ExitCode::from(answer.status))
 }

@@ -1,8 +1,21 @@
-use Rattle.bag_checked.proofs.Common.{subst}
+use Rattle.bag_checked.proofs.Common.{inr, subst}
 use Rattle.bag_tree.specs.Stop.{IsRefusalOf}
-use Rattle.bag_checked.proofs.Comparing.{all_checked, all_unchecked}
-use Rattle.bag_checked.proofs.Stopping.{stop_of_refusal}
+use Rattle.bag_checked.proofs.Comparing.{all_checked, all_unchecked, read_anyway}
+use Rattle.bag_checked.proofs.Stopping.{left_for_memory, stop_of_refusal}
 use Rattle.bag_checked.proofs.checked.check_and_sum.Goals as goal
+
+pub returns-in_default-clause-unchecked : goal.returns-in_default-clause-unchecked
+returns-in_default-clause-unchecked g c =
+    left_for_memory c.args.file.now c.args.expected.now (g.T.Tree.state c.args.tree.now) c.out_of_memory.result
+    c.out_of_memory.ensures
+
+pub returns-clause-read : goal.returns-clause-read
+returns-clause-read g c =
+    read_anyway c.compare.result (record {
+      no_failure = c.in-Ok-digest_file.ensures.no_failure;
+      opened = c.in-Ok-digest_file.ensures.opened;
+      listed = c.digest_file.ensures.listed;
+    })
 
 pub returns-clause-checked : goal.returns-clause-checked
 returns-clause-checked g c =
@@ -17,11 +30,16 @@ returns-clause-unchecked g c =
     let read = c.in-Ok-digest_file.ensures.sums in
     all_unchecked (g.T.Tree.state c.args.tree.now) (g.T.Tree.state c.digest_file.new.tree) c.args.file.now
     c.args.expected.now c.args.algs c.with_given-asked.result read.content c.in-Ok-digest_file.sums
-    (record { gave = read.gave; size = read.size; honest = read.honest }) read.sums_of c.with_given-asked.ensures.given c.with_given-asked.ensures.kept c.compare.result
+    (record { gave = read.gave; size = read.size; honest = read.honest }) read.sums_of c.with_given-asked.ensures.given c.with_given-asked.ensures.kept
+    (inr c.in-Ok-digest_file.ensures.opened) c.in-Ok-digest_file.ensures.no_failure c.compare.result
     c.compare.ensures.differs
 
-pub returns-in-Err-clause-stopped : goal.returns-in-Err-clause-stopped
-returns-in-Err-clause-stopped g c =
-    stop_of_refusal c.args.file.now (g.T.Tree.state c.args.tree.now) (g.T.Tree.state c.digest_file.new.tree)
-    c.in-Err.cause c.of_file.result c.in-Err.ensures.refused c.in-Err.ensures.answered c.in-Err.ensures.refused_at
-    (subst (λ path. IsRefusalOf c.in-Err.cause path c.of_file.result) c.in-Ok.ensures c.of_file.ensures)
+pub returns-in-Err-clause-unchecked : goal.returns-in-Err-clause-unchecked
+returns-in-Err-clause-unchecked g c = record {
+  opens = c.digest_file.ensures.opens;
+  differs = tt;
+  stopped =
+      stop_of_refusal c.args.file.now (g.T.Tree.state c.args.tree.now) (g.T.Tree.state c.digest_file.new.tree)
+      c.in-Err.cause c.of_file.result c.in-Err.ensures.refused c.in-Err.ensures.answered c.in-Err.ensures.refused_at
+      (subst (λ path. IsRefusalOf c.in-Err.cause path c.of_file.result) c.in-Ok.ensures c.of_file.ensures);
+}

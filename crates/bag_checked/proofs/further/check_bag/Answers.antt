@@ -14,7 +14,7 @@ returns-clause-stopped g c =
     stop_of_check c.in-Ok.facts (g.T.Tree.state c.args.tree.now) (g.T.Tree.state c.read.new.tree)
     (g.T.Tree.state c.check_files.new.tree) c.in-Ok.ensures.seen c.in-Ok.ensures.facts c.read.ensures.keeps
     c.in-Ok.ensures.no_failure c.in-Ok.ensures.opened c.in-Err-check_files.unchecked
-    c.in-Err-check_files.ensures.stopped
+    c.in-Err-check_files.ensures.unchecked.stopped
 
 pub returns-in-Err-clause-opens : goal.returns-in-Err-clause-opens
 returns-in-Err-clause-opens g c =
@@ -50,6 +50,6 @@ returns-in-Ok-check_files-clause-checked g c =
       info,
       has_checked c.in-Ok.facts c.args.algs (g.T.Tree.state c.args.tree.now) (g.T.Tree.state c.read.new.tree)
           (g.T.Tree.state c.check_files.new.tree) ok.options ok.facts c.read.ensures.keeps c.in_default.ensures.none
-          true summed info ok.gave ok.opened then.opened then.listed then.checked,
+          true summed info ok.gave ok.opened then.read.opened then.read.listed then.checked,
       c.rules.ensures,
     )

@@ -1,8 +1,8 @@
 use Rattle.bag_checked.proofs.Common.{subst}
-use Rattle.std.specs.Prelude.{IfErr, IfOk}
+use Rattle.std.specs.Prelude.{IfErr, IfOk, OnOk}
 use Rattle.bag_checked.specs.InTurn.{OpensFirstToRead}
-use Rattle.bag_checked.specs.Stops.{StopsChecking}
-use Rattle.bag_checked.specs.Summed.{AreGivenAndChecked, IsFaultyFile, to_read}
+use Rattle.bag_checked.specs.OneReading.{AreLeftUnchecked, AreReadOnce}
+use Rattle.bag_checked.specs.Summed.{AreGivenAndChecked, to_read}
 use Rattle.bag_checked.proofs.summed.check_files.Goals as goal
 
 pub returns-clause-checked : goal.returns-clause-checked
@@ -13,17 +13,17 @@ returns-clause-checked g c =
     checked.summed.items checked.info))
     c.files.ensures c.check_each.ensures.checked
 
-pub returns-clause-faulty : goal.returns-clause-faulty
-returns-clause-faulty g c =
-    subst (λ files. IfErr c.check_each.result (IsFaultyFile c.args.facts.now (to_read c.args.with_payload files)
-    (g.T.Tree.state c.args.tree.now)))
-    c.files.ensures c.check_each.ensures.faulty
-
-pub returns-clause-stopped : goal.returns-clause-stopped
-returns-clause-stopped g c =
-    subst (λ files. IfErr c.check_each.result (StopsChecking (to_read c.args.with_payload files)
+pub returns-clause-read : goal.returns-clause-read
+returns-clause-read g c =
+    subst (λ files. OnOk c.check_each.result (AreReadOnce (to_read c.args.with_payload files)
     (g.T.Tree.state c.args.tree.now) (g.T.Tree.state c.check_each.new.tree)))
-    c.files.ensures c.check_each.ensures.stopped
+    c.files.ensures c.check_each.ensures.read
+
+pub returns-clause-unchecked : goal.returns-clause-unchecked
+returns-clause-unchecked g c =
+    subst (λ files. IfErr c.check_each.result (AreLeftUnchecked c.args.facts.now (to_read c.args.with_payload files)
+    (g.T.Tree.state c.args.tree.now) (g.T.Tree.state c.check_each.new.tree)))
+    c.files.ensures c.check_each.ensures.unchecked
 
 pub returns-clause-opens : goal.returns-clause-opens
 returns-clause-opens g c =

@@ -1,6 +1,6 @@
 use Rattle.bag_renew.proofs.Common.{◌≡◌, ap, ◌∙◌}
 use Rattle.std.proofs.lemmas.Result.{IfOk-weaker}
-use Rattle.bag_stages.proofs.PayloadSize.{listed_size}
+use Rattle.bag_stages.proofs.ListedSize.{listed_size}
 use Rattle.bag_read.specs.Oxum.{oxum_text}
 use Rattle.bag_stages.specs.Payload.{oxum}
 use Rattle.bag_stages.specs.PayloadSize.{listed_oxum}

@@ -39,8 +39,8 @@ returns-in-Err-check_files-clause-refused g c =
     (nothing_then old mid now ok.no_failure c.in-Ok-check_facts.ensures.no_failure)
     (all_still c.in-Ok.facts.listing.files old mid now ok.opened still.openings) c.in-Ok-check_facts.target
     c.in-Ok-check_facts.ensures.target (own_way old mid c.read.ensures.keeps c.in-Ok-check_facts.ensures.way)
-    c.in-Err-check_files.unchecked c.refusal.result c.in-Err-check_files.ensures.stopped
-    c.in-Err-check_files.ensures.faulty c.refusal.ensures
+    c.in-Err-check_files.unchecked c.refusal.result c.in-Err-check_files.ensures.unchecked.stopped
+    c.in-Err-check_files.ensures.unchecked.faulty c.refusal.ensures
 
 pub returns-in-Ok-check_files-clause-read : goal.returns-in-Ok-check_files-clause-read
 returns-in-Ok-check_files-clause-read g c =
@@ -62,11 +62,11 @@ returns-in-Ok-check_files-clause-read g c =
     c.in-Ok-check_facts.ensures.target.none c.in-Ok-check_facts.target.reads_payload c.in-Ok-check_files.checked.summed.items
     c.in-Ok-check_files.checked.info
     (given.0, given.1, given.2, gives_still given.0 files old mid now given.3 still.listed still.gave)
-    (all_still files old mid now ok.opened still.openings) c.in-Ok-check_files.ensures.opened
-    c.in-Ok-check_files.ensures.listed c.in-Ok-check_files.ensures.checked)
+    (all_still files old mid now ok.opened still.openings) c.in-Ok-check_files.ensures.read.opened
+    c.in-Ok-check_files.ensures.read.listed c.in-Ok-check_files.ensures.checked)
     (g.met.T.Tree.is_bag c.args.tree.now)
     (keeps_on old now new keeps c.check_files.ensures.keeps)
-    (nothing_then old now new calm c.in-Ok-check_files.ensures.no_failure)
+    (nothing_then old now new calm c.in-Ok-check_files.ensures.read.no_failure)
 
 pub returns-in-Err-clause-opens : goal.returns-in-Err-clause-opens
 returns-in-Err-clause-opens g c =
@@ -106,7 +106,7 @@ returns-in-Err-check_files-clause-opens g c =
 pub returns-in-Err-check_files-clause-opens_before : goal.returns-in-Err-check_files-clause-opens_before
 returns-in-Err-check_files-clause-opens_before g c =
     before_by_check (g.T.Tree.state c.args.tree.now) (g.T.Tree.state c.check_files.new.tree)
-    c.in-Err-check_files.unchecked c.refusal.result c.in-Err-check_files.ensures.seventh c.refusal.ensures
+    c.in-Err-check_files.unchecked c.refusal.result c.in-Err-check_files.ensures.unchecked.seventh c.refusal.ensures
 
 pub returns-in-Ok-check_files-clause-opens : goal.returns-in-Ok-check_files-clause-opens
 returns-in-Ok-check_files-clause-opens g c =

@@ -1,12 +1,31 @@
-use Rattle.bag_renew_cli.proofs.Common.{arith, rows_in}
-use Rattle.bag_renew_cli.proofs.Answering.{declined_answered, plans_not_refused, taken_answered}
+use Rattle.bag_renew_cli.proofs.Common.{command, rows_in}
+use Rattle.bag_renew_cli.proofs.Answering.{help_answered, memory_answered, not_refused, plain, plans_not_refused}
+use Rattle.bag_renew_cli.proofs.Answering.{refused_answered, taken_answered}
 use Rattle.bag_renew_cli.proofs.planning.renewal_of.Goals as goal
 
 pub returns-in-Ok : goal.returns-in-Ok
 returns-in-Ok c = record {
-  planned = taken_answered _ _ _ (grind arith) c.in-Ok.ensures.matches c.plan_of_matches.ensures;
+  planned =
+      taken_answered _ c.in-Ok.matches c.plan_of_matches.result
+      (c.in-Ok.ensures.taken command c.command.ensures plain) c.plan_of_matches.ensures;
   taken = λ _. plans_not_refused (rows_in c.in-Ok.matches) c.plan_of_matches.result c.plan_of_matches.ensures;
 }
 
-pub returns-in-Err : goal.returns-in-Err
-returns-in-Err c = grind (arith, declined_answered)
+pub returns-in-Err-Help-clause-planned : goal.returns-in-Err-Help-clause-planned
+returns-in-Err-Help-clause-planned c =
+    rw c.plan_without_words.ensures
+    (help_answered _ c.in-Err-Help.text
+    (rw c.in-Err-Help.field-0-is at (c.in-Err-Help.ensures.taken command c.command.ensures plain)))
+
+pub returns-in-Err-Refused-clause-planned : goal.returns-in-Err-Refused-clause-planned
+returns-in-Err-Refused-clause-planned c =
+    refused_answered _ c.in-Err-Refused.text
+    (rw c.in-Err-Refused.field-0-is at (c.in-Err-Refused.ensures.taken command c.command.ensures plain))
+
+pub returns-in-Err-Refused-clause-taken : goal.returns-in-Err-Refused-clause-taken
+returns-in-Err-Refused-clause-taken c =
+    not_refused _ c.in-Err-Refused.text
+    (rw c.in-Err-Refused.field-0-is at (c.in-Err-Refused.ensures.memory command c.command.ensures))
+
+pub returns-in-Err-Memory-clause-planned : goal.returns-in-Err-Memory-clause-planned
+returns-in-Err-Memory-clause-planned c = memory_answered _

@@ -2,7 +2,7 @@ use Rattle.bag_stages.proofs.Common.{◌≡◌, ◌∷◌, [], no_oxum, ◌∙�
 use Rattle.bag_stages.proofs.Common.{listed_oxum, rules_in}
 use Rattle.bag_stages.proofs.InFile.{not_there, read_bytes}
 use Rattle.bag_stages.proofs.MetadataFaults.{missing_listed}
-use Rattle.bag_stages.proofs.PayloadSize.{listed_size}
+use Rattle.bag_stages.proofs.ListedSize.{listed_size}
 use Rattle.bag_stages.proofs.metadata.metadata_faults.Goals as goal
 
 pub returns-in-Some : goal.returns-in-Some

@@ -1,28 +1,27 @@
-//! Checks the folder `d`, in segments where a word says with which limits, and says on the error
-//! output how that ended. `tests/refused_segments.sh` refuses each of its growths.
-#![tactic(auto)]
-
+//! A check of the folder `d`, in segments where their limits are given. `tests/refused_segments.sh`
+//! refuses each of its growths.
 use bag_report::{Depth, Options};
 use bag_store::{FileTree, WriterOut};
 use bag_text::Text;
 use bag_walk::{Outcome, Request, run, run_segments};
-use std::process::ExitCode;
-use std::{env, io};
+use std::io;
 
 const WHOLE: Options = Options {
     depth: Depth::Full,
     clashes: false,
 };
 
-fn checked(rt: &HostRuntime) -> io::Result<Outcome> {
+/// Checks the folder, and says on the error output how that ended.
+pub(crate) fn check(rt: &HostRuntime, limits: &str) -> io::Result<()> {
+    let outcome = checked(rt, limits)?;
+    eprintln!(rt; "{} {}", word_of(&outcome), outcome.count())
+}
+
+fn checked(rt: &HostRuntime, limits: &str) -> io::Result<Outcome> {
     let alloc = rt.alloc();
-    let how = match env::args(rt)?.nth(1) {
-        Some(word) => word,
-        None => String::new(alloc),
-    };
     let tree = FileTree::at(rt.clone()?, alloc, "d")?;
     let mut out = WriterOut::new(io::writer(rt));
-    let (_tree, outcome) = match how.as_str() {
+    let (_tree, outcome) = match limits {
         "1,1" => run_segments(alloc, tree, None, WHOLE, &[1, 1], &mut out),
         "1,1,1,1" => run_segments(alloc, tree, None, WHOLE, &[1, 1, 1, 1], &mut out),
         "2,0,1,9" => run_segments(alloc, tree, None, WHOLE, &[2, 0, 1, 9], &mut out),
@@ -50,15 +49,5 @@ fn word_of(outcome: &Outcome) -> &str {
         Outcome::Rest(_) => "rest",
         Outcome::Unread(_, stop) => stop.cause.word(),
         Outcome::Unwritten(_) => "unwritten",
-    }
-}
-
-fn main(rt: HostRuntime) -> io::Result<ExitCode> {
-    match checked(&rt) {
-        Ok(outcome) => {
-            eprintln!(rt; "{} {}", word_of(&outcome), outcome.count())?;
-            Ok(ExitCode::SUCCESS)
-        }
-        Err(_) => Ok(ExitCode::from(9)),
     }
 }

@@ -1,7 +1,5 @@
-use Rattle.bag_renew.proofs.Common.{◌≡◌, ◌≤◌, take}
-use Rattle.std.proofs.Common.{◌-◌, ◌*◌, ◌^◌}
-use Rattle.bag_stages.specs.PayloadSize.{listed_oxum}
-use Rattle.bag_renew.proofs.info.size_text.Given as goal
+use Rattle.bag_stages.proofs.Common.{◌≡◌, ◌-◌, ◌*◌, ◌^◌, ◌≤◌, take, listed_oxum}
+use Rattle.bag_stages.proofs.payload_size.PayloadSize.of.Given as goal
 
 abbrev pub invariant-loop-entry : goal.invariant-loop-entry
 invariant-loop-entry l =
