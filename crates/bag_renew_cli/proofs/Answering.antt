@@ -77,7 +77,7 @@ refused_by [] rows text taken = absurd taken
 refused_by (kind ∷ more) rows text taken = taken
 
 memory_by : (kinds : Kinds) (rows : List Row) → Answers kinds rows (Err Memory)
-memory_by [] rows = tt
+memory_by [] rows = inl refl
 memory_by (kind ∷ more) rows = tt
 
 module _ (words : List Text) where
