@@ -1,6 +1,6 @@
 -- A greater cursor has passed more files.
 use Rattle.bag_sources.proofs.Common.{◌≡◌, ◌≢◌, ◌<◌, ◌≤◌, ◌∙◌, ◌==◌, ◌&&◌, inl, ℕ, true}
-use Rattle.bag_sources.proofs.Common.{not, List, Some, nat_lt, refl, sym, ap}
+use Rattle.bag_sources.proofs.Common.{List, Some, nat_lt, refl, sym, ap}
 use Rattle.bag_sources.proofs.Common.{arith, nat_list_cmp_total, ordering_reverse, Ordering, Less, Greater, eq-eqb}
 use Rattle.bag_sources.proofs.Common.{eqb-true, lt-ltb, ltb-true, or_left, or_right}
 use Rattle.bag_sources.proofs.Common.{stage, text_cmp}

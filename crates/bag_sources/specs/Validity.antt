@@ -51,7 +51,7 @@ pub record IsOfBag (bag : Bag) (after : Option Fault) (pending : List ToSum)
 
 -- Files are gone through from the first on, by a cursor, until these are left.
 module _ (after : Option Fault) (before left : List ToSum) (old new : TreeState) where
-  -- Whatever the end, the tree is the same, those that are left are files of the bag as all were,
+  -- Whatever the end, the tree keeps its bag, those that are left are files of the bag as all were,
   -- and no file was opened before which a fault stands.
   pub record GoesThrough : Type 0 where
     pub keeps : Keeps old new

@@ -1,5 +1,4 @@
-use Rattle.bag_checked.proofs.FirstOpened.{left_of_one, left_out_of_memory}
-use Rattle.bag_tree.proofs.Calm.{nothing_asked}
+use Rattle.bag_checked.proofs.FirstOpened.{left_of_one}
 use Rattle.bag_checked.proofs.summed.check_file.Goals as goal
 
 pub returns-in-Err-clause-unchecked : goal.returns-in-Err-clause-unchecked
