@@ -6,11 +6,12 @@ use Rattle.bag_arguments.proofs.Common.{matches_of, takes, command, clap_on_lite
 use Rattle.bag_arguments.proofs.Common.{has_after_several, has_join_with_other, has_two_depths, out_of_place}
 use Rattle.bag_arguments.proofs.Common.{clap_takes, refusals, matches_of_words}
 use Rattle.clap.specs.declared.parser.matches.ArgMatches.{ArgMatches}
-use Rattle.bag_arguments.specs.Given.{depth, value}
-use Rattle.bag_arguments.specs.GivenRows.{rows_in}
-use Rattle.bag_arguments.specs.Taken.{IsPlain, IsTaken}
+use Rattle.bag_arguments.specs.Given.{depth}
+use Rattle.bag_words.specs.Rows.{value}
+use Rattle.bag_words.specs.Rows.{rows_in}
+use Rattle.bag_words.specs.Taken.{IsPlain, IsTaken}
 use Rattle.bag_arguments.specs.declared.plan.Action.TheVariants.{Help}
-use Rattle.bag_arguments.specs.declared.taking.Declined.TheVariants as declined
+use Rattle.bag_words.specs.declared.taking.Declined.TheVariants as declined
 use Rattle.bag_faults.specs.declared.fault.Fault.{Fault}
 use Rattle.bag_faults.specs.declared.options.Depth.{Depth}
 use Rattle.bag_arguments.specs.Plan.{Answers, IsCursor, IsNotRefused, IsPlanned, Plans, misuse, part_misuse}

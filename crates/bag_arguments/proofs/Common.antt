@@ -25,12 +25,15 @@ pub use Rattle.clap.specs.declared.builder.arg.Arg.{Arg}
 pub use Rattle.clap.specs.declared.builder.command.Command.{Command}
 pub use Rattle.clap.specs.declared.builder.value_parser.ValueParser.{ValueParser}
 pub use Rattle.clap.specs.declared.error.kind.ErrorKind.TheVariants.{ArgumentConflict, OutOfMemory}
-pub use Rattle.bag_arguments.specs.Arguments.{alg_arguments, check_arguments, flag_rule, label_arguments}
+pub use Rattle.bag_arguments.specs.Arguments.{alg_arguments, check_arguments, label_arguments}
+pub use Rattle.bag_words.specs.Rules.{flag_rule}
 pub use Rattle.bag_arguments.specs.Arguments.{main_arguments}
-pub use Rattle.bag_arguments.specs.Arguments.{option_rule, with_rules, without_program_name, word_arguments}
+pub use Rattle.bag_words.specs.Rules.{option_rule, with_rules, without_program_name}
+pub use Rattle.bag_arguments.specs.Arguments.{word_arguments}
 pub use Rattle.bag_arguments.specs.Given.{IsLimit, element, has_after_several, has_join_with_other, has_two_depths}
 pub use Rattle.bag_arguments.specs.GivenRows.{HasLimit, IsLimitText}
-pub use Rattle.bag_arguments.specs.Given.{is_given, named_algs, or_default, out_of_place, values}
+pub use Rattle.bag_words.specs.Rows.{is_given, values}
+pub use Rattle.bag_arguments.specs.Given.{named_algs, or_default, out_of_place}
 pub use Rattle.std.specs.Option.{option_to_list}
 pub use Rattle.bag_arguments.specs.Labels.{label_option}
 pub use Rattle.bag_arguments.specs.declared.label.Label.{Label}

@@ -8,7 +8,7 @@ use Rattle.bag_arguments.proofs.Common.{EntryPasses, PassesArg, parser_of_value,
 use Rattle.bag_arguments.proofs.Common.{first_value-rows, HasLimit, IsLimit, IsLimitText, command, clap_on_literals}
 use Rattle.std.specs.Prelude.{MatchResult}
 use Rattle.std.specs.Result.{IfOk, result_ok}
-use Rattle.bag_arguments.specs.GivenRows.{rows_in}
+use Rattle.bag_words.specs.Rows.{rows_in}
 use Rattle.std.proofs.lemmas.Bool.{cases_lt, eqb-true}
 use Rattle.clap.specs.Built.{SameRules}
 use Rattle.clap.specs.Values.{Accepts}

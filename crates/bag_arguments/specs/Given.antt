@@ -1,12 +1,13 @@
 -- What is given on the command line, by the matches of the words.
 use Rattle.std.specs.Prelude.{ℕ, ◌≡◌, ◌≤◌, Bool, false, true, ◌&&◌, ◌||◌, List, [], ◌∷◌}
 use Rattle.std.specs.Prelude.{Option, Some, None}
-use Rattle.std.specs.Prelude.{option_map, is_some, unwrap_or, if◌then◌else◌, bytes_eq, codes}
+use Rattle.std.specs.Prelude.{option_map, is_some, if◌then◌else◌, codes}
 use Rattle.std.specs.Prelude.{◌==◌, suc, filter, filter_map, find, length, nat_lt}
 use Rattle.std.specs.List.{after_first, before_first, list_any}
 use Rattle.std.specs.Str.{byte}
 use Rattle.std.specs.Str.Parse.{digits_value, without_leading_plus}
-use Rattle.clap.specs.Words.{Row, Text, all_of, first_of, one_of}
+use Rattle.clap.specs.Words.{Row, Text}
+use Rattle.bag_words.specs.Rows.{is_given, value, values}
 use Rattle.bag_text.specs.Text.{trim}
 use Rattle.bag_text.specs.Alg.{algs, name}
 use Rattle.bag_text.specs.declared.alg.Alg.{Alg}
@@ -22,18 +23,6 @@ use Rattle.bag_arguments.specs.declared.plan.Action.TheVariants.{Check, CheckTar
 use Rattle.bag_arguments.specs.declared.plan.InfoItem.{InfoItem}
 use Rattle.bag_arguments.specs.declared.check_option.CheckOption.{CheckOption}
 use Rattle.bag_arguments.specs.declared.check_option.CheckOption.TheVariants as check
-
--- whether an option without a value is given
-abbrev pub is_given : List Row → Text → Bool
-is_given rows id = bytes_eq (unwrap_or (one_of id rows) []) (codes "true")
-
--- the value of an option
-abbrev pub value : List Row → Text → Option Text
-value rows id = first_of id rows
-
--- all values of an argument
-abbrev pub values : List Row → Text → List Text
-values rows id = unwrap_or (all_of id rows) []
 
 abbrev pub validates : List Row → Bool
 validates rows = is_given rows (codes "validate")

@@ -1,10 +1,10 @@
--- The rows of a group of words, and what is checked of them.
+-- What is checked of what is given.
 use Rattle.std.specs.Prelude.{◌≡◌, ◌<◌, ◌≤◌, ◌^◌, List, ◌++◌, Some, codes}
 use Rattle.std.specs.Str.Parse.{IsNumeral, digits_value, without_leading_plus}
-use Rattle.clap.specs.Words.{Row, Text, found_of, rows_of}
-use Rattle.clap.specs.declared.parser.matches.ArgMatches.{ArgMatches}
+use Rattle.clap.specs.Words.{Row, Text}
 use Rattle.bag_arguments.specs.declared.check_option.CheckOption.{CheckOption}
-use Rattle.bag_arguments.specs.Given.{value, check_id}
+use Rattle.bag_words.specs.Rows.{value}
+use Rattle.bag_arguments.specs.Given.{check_id}
 
 -- a number from 1 to the greatest of 64 bits, in decimal
 abbrev pub IsLimitText : Text → Type 0
@@ -20,7 +20,3 @@ HasLimit rows = (text : Text) → value rows (codes "max-faults") ≡ Some text 
 -- as it is written
 abbrev pub check_name : CheckOption → Text
 check_name option = codes "--" ++ check_id option
-
--- what the matches hold: each argument that is given, with its values
-abbrev pub rows_in : ArgMatches → List Row
-rows_in found = rows_of (found_of found)

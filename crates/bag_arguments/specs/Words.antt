@@ -1,12 +1,7 @@
 -- What clap makes of the words.
-use Rattle.std.specs.Prelude.{Bool, List, map}
-use Rattle.std.specs.Borrow.{Bor}
+use Rattle.std.specs.Prelude.{Bool, List}
 use Rattle.clap.specs.Words.{Kinds, Row, Text, fault_of, matches_of, takes}
 use Rattle.bag_arguments.specs.Arguments.{command}
-
--- the texts of the words
-abbrev pub texts_of_words : List (Bor Text) → List Text
-texts_of_words words = map (λ word. word.now) words
 
 -- why the words are refused, or that help is asked for; empty where they are taken
 unfoldable pub refusals : List Text → Kinds

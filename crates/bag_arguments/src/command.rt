@@ -2,15 +2,16 @@
 ghost use Rattle.std.specs.Prelude.{◌≡◌, IfOk, false, map};
 ghost use Rattle.clap.specs.Words.{app_of, rule_of};
 ghost use Rattle.bag_text.specs.Alg.{name as name_of};
+ghost use Rattle.bag_words.specs.Rules.{flag_rule, option_rule, with_rules};
 ghost use Rattle.bag_arguments.specs.Arguments as spec;
 ghost use Rattle.bag_arguments.specs.Given.{check_id};
 ghost use Rattle.bag_arguments.specs.Labels.{label_option};
 
-use crate::argument::{flag, operands, option};
 use crate::help::{ABOUT, AFTER};
 use crate::label::LABELS;
 use crate::{CheckOption, Label};
 use bag_text::Alg;
+use bag_words::argument::{flag, operands, option};
 use clap::{Arg, Command, value_parser};
 use std::alloc::{AllocError, Global};
 
@@ -39,7 +40,7 @@ pub(crate) fn command<'a>(alloc: Global) -> Result<Command<'a>, AllocError>
 /// What is done, how much is said, and to which directories.
 fn with_main_arguments<'a>(alloc: Global, command: Command<'a>) -> Result<Command<'a>, AllocError>
     ensures { IfOk result (λ c.
-        app_of c ≡ spec.with_rules (app_of command.entry) spec.main_arguments) }
+        app_of c ≡ with_rules (app_of command.entry) spec.main_arguments) }
 {
     command
         .arg(flag(alloc, "validate", "Check bags, and make none"))?
@@ -59,7 +60,7 @@ fn with_main_arguments<'a>(alloc: Global, command: Command<'a>) -> Result<Comman
 /// The options that need `--validate`, but for those that say what the words are.
 fn with_check_arguments<'a>(alloc: Global, command: Command<'a>) -> Result<Command<'a>, AllocError>
     ensures { IfOk result (λ c.
-        app_of c ≡ spec.with_rules (app_of command.entry) spec.check_arguments) }
+        app_of c ≡ with_rules (app_of command.entry) spec.check_arguments) }
 {
     command
         .arg(check_flag(
@@ -101,7 +102,7 @@ fn with_check_arguments<'a>(alloc: Global, command: Command<'a>) -> Result<Comma
 /// it the report is.
 fn with_word_arguments<'a>(alloc: Global, command: Command<'a>) -> Result<Command<'a>, AllocError>
     ensures { IfOk result (λ c.
-        app_of c ≡ spec.with_rules (app_of command.entry) spec.word_arguments) }
+        app_of c ≡ with_rules (app_of command.entry) spec.word_arguments) }
 {
     command
         .arg(check_value(
@@ -124,7 +125,7 @@ fn with_word_arguments<'a>(alloc: Global, command: Command<'a>) -> Result<Comman
 
 /// An option without a value that needs `--validate`.
 fn check_flag<'a>(alloc: Global, asked: CheckOption, help: &'a str) -> Arg<'a>
-    ensures rule { rule_of result ≡ spec.flag_rule (check_id asked) }
+    ensures rule { rule_of result ≡ flag_rule (check_id asked) }
     ensures global { result.global ≡ false }
 {
     let name: &'a str = asked.id();
@@ -133,7 +134,7 @@ fn check_flag<'a>(alloc: Global, asked: CheckOption, help: &'a str) -> Arg<'a>
 
 /// One with a value.
 fn check_value<'a>(alloc: Global, asked: CheckOption, value_name: &'a str, help: &'a str) -> Arg<'a>
-    ensures rule { rule_of result ≡ spec.option_rule (check_id asked) }
+    ensures rule { rule_of result ≡ option_rule (check_id asked) }
     ensures global { result.global ≡ false }
 {
     let name: &'a str = asked.id();
@@ -151,7 +152,7 @@ fn check_number<'a>(alloc: Global, asked: CheckOption, help: &'a str) -> Arg<'a>
 /// The options that choose algorithms.
 fn with_alg_arguments<'a>(alloc: Global, command: Command<'a>) -> Result<Command<'a>, AllocError>
     ensures { IfOk result (λ c.
-        app_of c ≡ spec.with_rules (app_of command.entry) spec.alg_arguments) }
+        app_of c ≡ with_rules (app_of command.entry) spec.alg_arguments) }
 {
     let mut extended = command;
     for alg in Alg::ALL {
@@ -162,7 +163,7 @@ fn with_alg_arguments<'a>(alloc: Global, command: Command<'a>) -> Result<Command
 
 /// The option of an algorithm.
 fn alg_argument<'a>(alloc: Global, alg: Alg) -> Arg<'a>
-    ensures rule { rule_of result ≡ spec.flag_rule (name_of alg) }
+    ensures rule { rule_of result ≡ flag_rule (name_of alg) }
     ensures global { result.global ≡ false }
 {
     let name: &'a str = alg.name();
@@ -176,8 +177,8 @@ fn with_label_arguments<'a>(
     command: Command<'a>,
     labels: &[Label],
 ) -> Result<Command<'a>, AllocError>
-    ensures { IfOk result (λ c. app_of c ≡ spec.with_rules (app_of command.entry)
-        (map (λ label. spec.option_rule (label_option label)) labels.now)) }
+    ensures { IfOk result (λ c. app_of c ≡ with_rules (app_of command.entry)
+        (map (λ label. option_rule (label_option label)) labels.now)) }
 {
     let mut extended = command;
     for label in labels {
@@ -188,7 +189,7 @@ fn with_label_arguments<'a>(
 
 /// The option of a label.
 fn label_argument<'a>(alloc: Global, label: Label) -> Arg<'a>
-    ensures rule { rule_of result ≡ spec.option_rule (label_option label) }
+    ensures rule { rule_of result ≡ option_rule (label_option label) }
     ensures global { result.global ≡ false }
 {
     let name: &'a str = label.option();

@@ -3,16 +3,17 @@ ghost use Rattle.std.specs.Prelude.{◌≡◌, ◌++◌, map, filter_map, find, 
 ghost use Rattle.std.specs.Prelude.{IfOk, OnOk, Some, None, if◌then◌else◌};
 ghost use Rattle.std.specs.Option.{option_to_list};
 ghost use Rattle.bag_arguments.specs.Given as spec;
-ghost use Rattle.bag_arguments.specs.GivenRows as rows;
+ghost use Rattle.bag_arguments.specs.GivenRows.{HasLimit};
 ghost use Rattle.bag_text.specs.Alg.{name};
 ghost use Rattle.bag_text.specs.AlgList.{with_member};
+ghost use Rattle.bag_words.specs.Rows as rows;
 
 use crate::check_option::CHECK_OPTIONS;
-use crate::matched::{is_given, value, value_count, values};
 use crate::{Action, CheckOption, InfoItem, Label};
 use bag_faults::{Depth, Part};
 use bag_read::number_of;
 use bag_text::{Alg, AlgSet, Items, Text, trim};
+use bag_words::matched::{is_given, value, value_count, values};
 use clap::ArgMatches;
 use std::alloc::{AllocError, Global};
 
@@ -22,7 +23,7 @@ pub(crate) fn text_value(
     matches: &ArgMatches<'_>,
     id: &str,
 ) -> Result<Option<Text>, AllocError>
-    ensures { IfOk result (λ text. text ≡ spec.value (rows.rows_in matches.now) id.now) }
+    ensures { IfOk result (λ text. text ≡ rows.value (rows.rows_in matches.now) id.now) }
 {
     match value(matches, id) {
         None => Ok(None),
@@ -136,8 +137,8 @@ pub(crate) fn action(matches: &ArgMatches<'_>) -> Action
 
 /// The limit, 1 or more.
 pub(crate) fn limit(matches: &ArgMatches<'_>) -> Option<u64>
-    requires { rows.HasLimit (rows.rows_in matches.now) }
-    ensures { spec.IsLimit (spec.value (rows.rows_in matches.now) (codes "max-faults")) result }
+    requires { HasLimit (rows.rows_in matches.now) }
+    ensures { spec.IsLimit (rows.value (rows.rows_in matches.now) (codes "max-faults")) result }
 {
     value(matches, CheckOption::MaxFaults.id())?
         .parse::<u64>()
@@ -160,7 +161,7 @@ pub(crate) fn part_of(text: &str) -> Option<Part>
 /// The set with an algorithm more where its option is given.
 fn with_named(set: AlgSet, matches: &ArgMatches<'_>, alg: Alg) -> AlgSet
     ensures { result ≡
-        (if spec.is_given (rows.rows_in matches.now) (name alg) then with_member set alg else set) }
+        (if rows.is_given (rows.rows_in matches.now) (name alg) then with_member set alg else set) }
 {
     if is_given(matches, alg.name()) {
         set.with(alg)

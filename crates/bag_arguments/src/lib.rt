@@ -8,20 +8,17 @@
 //! ```
 //!
 //! `plan_of` gives exactly the plan, the help, or the first thing that is wrong with the words, but
-//! for memory. `argument`, `matched` and `taking` are for other programs' command lines too.
+//! for memory.
 #![tactic(auto)]
 
-pub mod argument;
 mod check_option;
 mod command;
 mod given;
 mod help;
 mod label;
-pub mod matched;
 mod plan;
 mod planning;
 pub mod said;
-pub mod taking;
 mod usage;
 
 pub use check_option::CheckOption;

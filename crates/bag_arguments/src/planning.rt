@@ -1,18 +1,19 @@
 //! The plan of the words.
 ghost use Rattle.std.specs.Prelude.{◌≡◌, MatchResult, Some, None, codes, true};
-ghost use Rattle.bag_arguments.specs.Given.{part_given, value as value_of};
-ghost use Rattle.bag_arguments.specs.GivenRows.{HasLimit, rows_in};
+ghost use Rattle.bag_arguments.specs.Given.{part_given};
+ghost use Rattle.bag_arguments.specs.GivenRows.{HasLimit};
 ghost use Rattle.bag_arguments.specs.Plan as spec;
 ghost use Rattle.bag_arguments.specs.Plan.{IsNotRefused};
-ghost use Rattle.bag_arguments.specs.Words.{clap_takes, texts_of_words};
+ghost use Rattle.bag_arguments.specs.Words.{clap_takes};
+ghost use Rattle.bag_words.specs.Rows.{rows_in, texts_of_words, value as value_of};
 
 use crate::command::command;
 use crate::label::LABELS;
-use crate::matched::{is_given, value};
-use crate::taking::{Declined, taken};
 use crate::{Action, CheckOption, Plan, Usage, given};
 use bag_faults::{CursorFault, Depth, Fault, Options, Part};
 use bag_text::{AlgSet, Items};
+use bag_words::matched::{is_given, value};
+use bag_words::taking::{Declined, taken};
 use clap::ArgMatches;
 use std::alloc::Global;
 

@@ -10,7 +10,7 @@ use Rattle.bag_text.proofs.ListOf.{each_from_members}
 use Rattle.bag_text.specs.Order.{IsListOf}
 use Rattle.bag_read.proofs.ManifestEntries.{entry_named, entry_of_path_once}
 use Rattle.bag_read.proofs.PickedOut.{is_picked, picked}
-use Rattle.bag_read.specs.declared.manifest.ManifestEntry.{ManifestEntry}
+use Rattle.bag_entries.specs.declared.entry.ManifestEntry.{ManifestEntry}
 use Rattle.std.specs.Option.{option_map}
 use Rattle.bag_facts.proofs.Mapped.{kept}
 use Rattle.bag_facts.specs.Facts.{rules_in}

@@ -3,7 +3,7 @@
 use Rattle.std.specs.Prelude.{◌≡◌, ◌++◌, All, Bool, List, Some, map}
 use Rattle.std.specs.Option.{option_map}
 use Rattle.bag_text.specs.declared.alg.Alg.{Alg}
-use Rattle.bag_read.specs.declared.manifest.ManifestEntry.{ManifestEntry}
+use Rattle.bag_entries.specs.declared.entry.ManifestEntry.{ManifestEntry}
 use Rattle.bag_facts.specs.Given.{AreTagFiles}
 use Rattle.bag_report.specs.Valid.{full}
 use Rattle.bag_stages.specs.Given.{kind_of}

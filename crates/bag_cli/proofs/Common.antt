@@ -13,8 +13,8 @@ pub use Rattle.std.specs.declared.result.Result.TheVariants.{Err, Ok}
 pub use Rattle.bag_arguments.specs.declared.plan.Plan.{Plan}
 pub use Rattle.bag_disk.specs.Disk.{DiskState}
 pub use Rattle.bag_faults.specs.FaultLine.{field}
-pub use Rattle.bag_join.specs.Reports.{ReportsState}
-pub use Rattle.bag_join.specs.declared.refusal.Refusal.{Refusal}
+pub use Rattle.bag_reports.specs.Reports.{ReportsState}
+pub use Rattle.bag_reports.specs.declared.refusal.Refusal.{Refusal}
 pub use Rattle.bag_make.specs.declared.fault.MakeFault.{MakeFault}
 pub use Rattle.bag_store.specs.FileTree.{tree_state}
 pub use Rattle.bag_tags.specs.Element.{NewElement}

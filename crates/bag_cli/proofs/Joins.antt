@@ -3,7 +3,7 @@ use Rattle.bag_cli.proofs.Common.{◌≡◌, ◌≢◌, ℕ, Result, Ok, Err, Is
 use Rattle.bag_cli.proofs.Common.{join_status, status}
 use Rattle.bag_join.specs.Findings.{AreWhole, Findings, IsReportOf}
 use Rattle.bag_join.specs.Join.{IsJoined}
-use Rattle.bag_join.specs.Reports.{all_given}
+use Rattle.bag_reports.specs.Reports.{all_given}
 
 module _ (old new : ReportsState) (before after : OutState) (n : ℕ) where
   -- whole reports

@@ -3,10 +3,10 @@ use Rattle.std.specs.Prelude.{ℕ, ◌≡◌, ◌≢◌, ◌⊎◌, List, [], �
 use Rattle.std.specs.Prelude.{Result, Ok, Err, IfErr, IfOk, MatchResult}
 use Rattle.bag_tree.specs.Out.{OutState}
 use Rattle.bag_join.specs.Findings.{AreWhole, Findings, IsReportOf}
-use Rattle.bag_join.specs.Input.{MayRefuse}
 use Rattle.bag_join.specs.Join.{IsJoined, IsLeft, IsSeenFirst}
-use Rattle.bag_join.specs.Reports.{ReportsState, all_given}
-use Rattle.bag_join.specs.declared.refusal.Refusal.{Refusal}
+use Rattle.bag_reports.specs.Input.{MayRefuse}
+use Rattle.bag_reports.specs.Reports.{ReportsState, all_given}
+use Rattle.bag_reports.specs.declared.refusal.Refusal.{Refusal}
 use Rattle.bag_walk.specs.ExitStatus.{status}
 use Rattle.bag_walk.specs.declared.outcome.Outcome.{Outcome}
 use Rattle.bag_program.specs.InTurn.{Deed}

@@ -7,8 +7,9 @@ ghost use Rattle.bag_cli.specs.Joined.{AreJoined, join_status};
 
 use crate::work::Work;
 use bag_arguments::said::PROGRAM;
-use bag_join::{Cause, Refusal, join};
+use bag_join::join;
 use bag_program::{Disks, FileTrouble, Halt, Visits, put_trouble, say_on};
+use bag_reports::{Cause, Refusal};
 use bag_text::{Text, said};
 use bag_tree::{Out, Refused, put_pieces};
 use bag_walk::{Outcome, status};

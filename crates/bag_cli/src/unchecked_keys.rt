@@ -4,8 +4,8 @@ ghost use Rattle.bag_cli.specs.Performed.{lines_before};
 ghost use Rattle.bag_cli.specs.UncheckedKeys as spec;
 
 use bag_faults::put_line;
-use bag_join::said;
 use bag_profile::Profile;
+use bag_reports::said;
 use bag_tree::{Out, Refused, put_pieces};
 
 /// Says which keys of a profile aren't checked, unless it is to be quiet.

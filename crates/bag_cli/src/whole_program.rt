@@ -1,5 +1,5 @@
 //! The whole program.
-ghost use Rattle.bag_arguments.specs.Words.{texts_of_words};
+ghost use Rattle.bag_words.specs.Rows.{texts_of_words};
 ghost use Rattle.bag_program.specs.Folders.{disks_of};
 ghost use Rattle.bag_program.specs.InTurn.{Does};
 ghost use Rattle.bag_cli.specs.Program.{IsProgram, IsWholeProgram};

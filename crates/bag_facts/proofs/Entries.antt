@@ -8,7 +8,7 @@ use Rattle.bag_facts.proofs.Common.{IsManifestFault, IsManifestOf, AreByPath, en
 use Rattle.bag_facts.proofs.Common.{IsManifestNamed, IsReadOf, MatchOption, is_some}
 use Rattle.bag_text.specs.Lines.{lines_of_file}
 use Rattle.bag_read.specs.declared.kind.Kind.{Kind}
-use Rattle.bag_read.specs.declared.manifest.ManifestEntry.{ManifestEntry}
+use Rattle.bag_entries.specs.declared.entry.ManifestEntry.{ManifestEntry}
 use Rattle.bag_read.proofs.ManifestEntries.{entry_of_path_once}
 use Rattle.bag_facts.proofs.ByPath.{sorted_once, found, text_same}
 use Rattle.bag_facts.proofs.Mapped.{mapped_contains}

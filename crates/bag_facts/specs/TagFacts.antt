@@ -17,7 +17,7 @@ use Rattle.bag_read.specs.Manifest.{IsEntry, IsManifestFault}
 use Rattle.bag_read.specs.ManifestName.{tag_path}
 use Rattle.bag_read.specs.declared.declaration.Declaration.{Declaration}
 use Rattle.bag_read.specs.declared.kind.Kind.{Kind}
-use Rattle.bag_read.specs.declared.manifest.ManifestEntry.{ManifestEntry}
+use Rattle.bag_entries.specs.declared.entry.ManifestEntry.{ManifestEntry}
 use Rattle.bag_read.specs.declared.tag_name.TagName.{TagName}
 use Rattle.bag_read.specs.declared.tag_name.TagName.TheVariants as name
 use Rattle.bag_facts.specs.declared.tag_facts.FetchList.{FetchList}

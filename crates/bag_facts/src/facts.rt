@@ -24,9 +24,10 @@ use crate::listed_manifest::has_manifest;
 use crate::pooling::pooled;
 use crate::tag_reader::{TagBytes, read_tag_files};
 use crate::{FetchList, Manifest, Metadata, TagFacts};
+use bag_entries::Pool;
 use bag_faults::{Depth, Options};
 use bag_read::{Declaration, Kind, ManifestEntry, TagName, declared_rules};
-use bag_text::{Alg, AlgSet, Items, Pool, Rules, is_payload};
+use bag_text::{Alg, AlgSet, Items, Rules, is_payload};
 use bag_tree::{FileEntry, Listing, Stop, Tree};
 use std::alloc::{AllocError, Global};
 

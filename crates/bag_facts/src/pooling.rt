@@ -1,7 +1,8 @@
 //! The paths of a listing in one text, of which those that manifests name are parts.
 ghost use Rattle.std.specs.Prelude.{◌≡◌, IfOk, OnOk};
 
-use bag_text::{Items, Pool, Run};
+use bag_entries::{Pool, Run};
+use bag_text::Items;
 use bag_tree::{FileEntry, Listing};
 use std::alloc::{AllocError, Global};
 

@@ -14,11 +14,12 @@ ghost use Rattle.bag_text.specs.Text.{text_cmp};
 ghost use Rattle.bag_text.specs.declared.code.Code.TheVariants.{NotUtf8};
 
 use crate::tag_reader::TagBytes;
+use bag_entries::Pool;
 use bag_read::{
     Declaration, Element, FetchEntry, Kind, LineFault, ManifestEntry, Parsed, TagName,
     read_declaration, read_fetch, read_info, read_manifest_among,
 };
-use bag_text::{Alg, Code, Items, Pool, Rules, Text, sort_by_path};
+use bag_text::{Alg, Code, Items, Rules, Text, sort_by_path};
 use std::alloc::{AllocError, Global};
 
 /// What is known of a tag file that was read.

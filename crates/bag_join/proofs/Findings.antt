@@ -13,20 +13,20 @@ use Rattle.bag_faults.specs.FaultOrder.{fault_cmp}
 use Rattle.bag_faults.specs.LineOf.{IsFault}
 use Rattle.bag_faults.specs.declared.fault.Fault.{Fault}
 use Rattle.bag_walk.specs.Ending.{written}
-use Rattle.bag_join.specs.DoneLine.{IsDoneLineOf}
-use Rattle.bag_join.specs.Faults.{AreAfter, last_of}
+use Rattle.bag_reports.specs.DoneLine.{IsDoneLineOf}
+use Rattle.bag_reports.specs.Faults.{AreAfter, last_of}
+use Rattle.bag_reports.specs.Head.{head_of}
+use Rattle.bag_reports.specs.Input.{MayFail, ended_lines}
+use Rattle.bag_reports.specs.Reports.{ReportsState}
+use Rattle.bag_reports.specs.declared.done_line.DoneLine.{DoneLine}
+use Rattle.bag_reports.specs.declared.refusal.Cause.{Cause}
+use Rattle.bag_reports.specs.declared.refusal.Cause.TheVariants.{Memory}
+use Rattle.bag_reports.proofs.Coming.{after_first, first_after}
+use Rattle.bag_reports.proofs.FileLines.{all_ended, all_lines, lines_count}
+use Rattle.bag_reports.proofs.Other.{AreSmall, done_ended, done_front}
 use Rattle.bag_join.specs.Findings.{AreFindings, Findings, done_at, faults_at, file_at, keys_at}
-use Rattle.bag_join.specs.Head.{head_of}
-use Rattle.bag_join.specs.Input.{MayFail, ended_lines}
 use Rattle.bag_join.specs.Join.{all_faults}
-use Rattle.bag_join.specs.Reports.{ReportsState}
-use Rattle.bag_join.specs.declared.done_line.DoneLine.{DoneLine}
-use Rattle.bag_join.specs.declared.refusal.Cause.{Cause}
-use Rattle.bag_join.specs.declared.refusal.Cause.TheVariants.{Memory}
-use Rattle.bag_join.proofs.Coming.{after_first, first_after}
-use Rattle.bag_join.proofs.FileLines.{all_ended, all_lines, lines_count}
 use Rattle.bag_join.proofs.Joined.{faults_joined, part_numbered}
-use Rattle.bag_join.proofs.Other.{AreSmall, done_ended, done_front}
 
 -- sorted faults stand each after the one before it
 first_is_after : (x : Fault) (xs : List Fault) → AllByRecursion (λ y. fault_cmp x y ≡ Less) xs

@@ -9,14 +9,14 @@ use Rattle.std.specs.Prelude.{Bool, true, false, ◌&&◌, nat_lt, nat_le, if◌
 use Rattle.bag_faults.specs.Part.{Part, part_at}
 use Rattle.bag_faults.specs.declared.fault.Fault.{Fault}
 use Rattle.bag_walk.specs.Ending.{ended, written}
-use Rattle.bag_join.specs.DoneLine.{line_for}
-use Rattle.bag_join.specs.Faults.{WritesFaults}
-use Rattle.bag_join.specs.Head.{AreKeys, head_of}
+use Rattle.bag_reports.specs.DoneLine.{line_for}
+use Rattle.bag_reports.specs.Faults.{WritesFaults}
+use Rattle.bag_reports.specs.Head.{AreKeys, head_of}
+use Rattle.bag_reports.specs.Reports.{Opens, ReadsOn, ReportsState, all_given}
+use Rattle.bag_reports.specs.declared.done_line.Subject.{Subject}
+use Rattle.bag_reports.proofs.Faults.{are_faults, are_sorted, writes_on}
 use Rattle.bag_join.specs.Join.{all_faults, full_closing, part_report, AreFilesFrom, IsFileOf, IsJoined}
 use Rattle.bag_join.specs.Join.{JoinsFirst, JoinsPart}
-use Rattle.bag_join.specs.Reports.{Opens, ReadsOn, ReportsState, all_given}
-use Rattle.bag_join.specs.declared.done_line.Subject.{Subject}
-use Rattle.bag_join.proofs.Faults.{are_faults, are_sorted, writes_on}
 
 pub faults_joined : (parts : List (List Fault)) (faults : List Fault)
     → all_faults (parts ++ faults ∷ []) ≡ all_faults parts ++ faults

@@ -18,14 +18,14 @@ use Rattle.bag_walk.proofs.PartLines.{done_part_is_written, parts_write_report}
 use Rattle.bag_walk.proofs.PartsOfRun.{run_is_its_parts}
 use Rattle.bag_walk.specs.Closing.{closing}
 use Rattle.bag_walk.specs.Ending.{ended, written}
-use Rattle.bag_join.specs.DoneLine.{line_for}
-use Rattle.bag_join.specs.declared.done_line.Subject.{Subject}
+use Rattle.bag_reports.specs.DoneLine.{line_for}
+use Rattle.bag_reports.specs.declared.done_line.Subject.{Subject}
 use Rattle.bag_walk.specs.PartRuns.{first_counts, first_lines}
 use Rattle.bag_sources.specs.Parts.{AreFilesIn, part_of}
 use Rattle.bag_walk.specs.Run.{check_of}
 use Rattle.bag_walk.specs.declared.outcome.Request.{Request}
+use Rattle.bag_reports.specs.Head.{head_of}
 use Rattle.bag_join.specs.Findings.{faults_at, file_at}
-use Rattle.bag_join.specs.Head.{head_of}
 use Rattle.bag_join.specs.Join.{all_faults, full_closing, part_report}
 use Rattle.bag_join.specs.Laws.{Finds, PartsAreWhole, RunWritesJoined, WritesReport, faults_of_parts, findings_of}
 use Rattle.bag_join.proofs.Joined.{part_numbered}

@@ -10,8 +10,8 @@ use Rattle.std.proofs.lemmas.List.FromFn.{get_or-range_with_len, length-range_wi
 use Rattle.std.proofs.lemmas.List.Sorted.{All-permutation, Contains-permutation, IsPermutation-keeps, length_permutation}
 use Rattle.std.proofs.lemmas.Option.{slice_get-get_or, slice_get-map}
 use Rattle.std.proofs.lemmas.Bool.{cases_eq}
+use Rattle.bag_reports.specs.Reports.{ReportsState, SameReports}
 use Rattle.bag_join.specs.Findings.{AreWhole, Findings, file_at}
-use Rattle.bag_join.specs.Reports.{ReportsState, SameReports}
 
 -- an order of the numbers below n, each once
 pub record IsOrder (n : ℕ) (order : List ℕ) : Type 0 where

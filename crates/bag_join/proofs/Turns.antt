@@ -9,20 +9,21 @@ use Rattle.bag_tree.specs.Out.{OutState}
 use Rattle.std.proofs.lemmas.Option.{slice_get-get_or}
 use Rattle.bag_faults.specs.declared.fault.Fault.{Fault}
 use Rattle.bag_walk.specs.Ending.{ended, written}
-use Rattle.bag_join.specs.DoneLine.{line_for}
+use Rattle.bag_reports.specs.DoneLine.{line_for}
 use Rattle.bag_walk.specs.declared.outcome.Outcome.{Outcome}
-use Rattle.bag_join.specs.Faults.{AreAfter, IsOther, WritesFaults}
+use Rattle.bag_reports.specs.Faults.{AreAfter, IsOther, WritesFaults}
+use Rattle.bag_reports.specs.Head.{IsUnchecked, head_of}
+use Rattle.bag_reports.specs.Input.{HoldsAhead}
+use Rattle.bag_reports.specs.Reports.{ReportsState, SameReports}
+use Rattle.bag_reports.proofs.FileLines.{closing_says_none}
+use Rattle.bag_reports.proofs.Faults.{writes_none, writes_on}
+use Rattle.bag_reports.proofs.Other.{done_ended, done_is_other}
 use Rattle.bag_join.specs.Findings.{AreFindings, Findings, IsPlanFor, IsReportOf, IsTurnOf, faults_at, file_at, keys_at}
-use Rattle.bag_join.specs.Head.{IsUnchecked, head_of}
-use Rattle.bag_join.specs.Input.{HoldsAhead}
 use Rattle.bag_join.specs.Join.{all_faults, full_closing}
-use Rattle.bag_join.specs.Reports.{ReportsState, SameReports}
 use Rattle.bag_join.specs.declared.plan.Plan.{Plan}
-use Rattle.bag_join.proofs.FileLines.{closing_says_none}
-use Rattle.bag_join.proofs.Faults.{writes_none, writes_on}
-use Rattle.bag_join.proofs.Findings.{before_part, front_at, part_after, part_few, parts_all, parts_more, file_is, small_at}
+use Rattle.bag_join.proofs.Findings.{before_part, front_at, part_after, part_few, parts_all, parts_more}
+use Rattle.bag_join.proofs.Findings.{file_is, small_at}
 use Rattle.bag_join.proofs.Joined.{part_numbered}
-use Rattle.bag_join.proofs.Other.{done_ended, done_is_other}
 
 -- the line after the faults of a part
 pub front_is_other : (findings : Findings) (k : ℕ) → AreFindings findings → k < length findings.parts

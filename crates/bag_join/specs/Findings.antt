@@ -8,13 +8,13 @@ use Rattle.bag_tree.specs.Out.{OutState}
 use Rattle.bag_faults.specs.FaultOrder.{fault_cmp}
 use Rattle.bag_faults.specs.LineOf.{IsFault}
 use Rattle.bag_faults.specs.declared.fault.Fault.{Fault}
-use Rattle.bag_join.specs.DoneLine.{IsSubject}
-use Rattle.bag_join.specs.Faults.{AreAfter}
-use Rattle.bag_join.specs.Head.{AreKeys, head_of}
+use Rattle.bag_reports.specs.DoneLine.{IsSubject}
+use Rattle.bag_reports.specs.Faults.{AreAfter}
+use Rattle.bag_reports.specs.Head.{AreKeys, head_of}
+use Rattle.bag_reports.specs.Reports.{ReportsState}
+use Rattle.bag_reports.specs.declared.done_line.DoneLine.{DoneLine}
+use Rattle.bag_reports.specs.declared.done_line.Subject.{Subject}
 use Rattle.bag_join.specs.Join.{all_faults, full_report, part_report}
-use Rattle.bag_join.specs.Reports.{ReportsState}
-use Rattle.bag_join.specs.declared.done_line.DoneLine.{DoneLine}
-use Rattle.bag_join.specs.declared.done_line.Subject.{Subject}
 use Rattle.bag_join.specs.declared.plan.Plan.{Plan}
 use Rattle.bag_walk.specs.Ending.{ended}
 use Rattle.bag_walk.specs.declared.outcome.Outcome.{Outcome}

@@ -10,13 +10,13 @@ use Rattle.bag_faults.specs.LineOf.{IsFault}
 use Rattle.bag_faults.specs.Part.{Part}
 use Rattle.bag_faults.specs.declared.fault.Fault.{Fault}
 use Rattle.bag_faults.specs.declared.options.Depth.TheVariants.{Full}
-use Rattle.bag_join.specs.DoneLine.{line_for}
-use Rattle.bag_join.specs.Faults.{AreAfter, WritesFaults}
-use Rattle.bag_join.specs.Head.{AreKeys, head_of}
-use Rattle.bag_join.specs.declared.done_line.Subject.{Subject}
-use Rattle.bag_join.specs.declared.refusal.Cause.{Cause}
-use Rattle.bag_join.specs.declared.refusal.Cause.TheVariants.{Changed, Memory, Output, Unreadable}
-use Rattle.bag_join.specs.Reports.{ReportsState, all_given}
+use Rattle.bag_reports.specs.DoneLine.{line_for}
+use Rattle.bag_reports.specs.Faults.{AreAfter, WritesFaults}
+use Rattle.bag_reports.specs.Head.{AreKeys, head_of}
+use Rattle.bag_reports.specs.declared.done_line.Subject.{Subject}
+use Rattle.bag_reports.specs.declared.refusal.Cause.{Cause}
+use Rattle.bag_reports.specs.declared.refusal.Cause.TheVariants.{Changed, Memory, Output, Unreadable}
+use Rattle.bag_reports.specs.Reports.{ReportsState, all_given}
 use Rattle.bag_walk.specs.Closing.{about, about_count, verdict}
 use Rattle.bag_walk.specs.Ending.{ended, written}
 use Rattle.bag_walk.specs.declared.outcome.Outcome.{Outcome}

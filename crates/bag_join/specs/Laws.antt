@@ -17,11 +17,11 @@ use Rattle.bag_faults.specs.declared.fault.Fault.{Fault}
 use Rattle.bag_faults.specs.declared.options.Depth.TheVariants.{Full}
 use Rattle.bag_profile.specs.Profile.{Profile}
 use Rattle.bag_report.specs.Report.{IsReport}
-use Rattle.bag_join.specs.DoneLine.{IsProfileSum}
+use Rattle.bag_reports.specs.DoneLine.{IsProfileSum}
+use Rattle.bag_reports.specs.Head.{AreKeys, IsKey, head_of}
+use Rattle.bag_reports.specs.Reports.{ReportsState}
 use Rattle.bag_join.specs.Findings.{AreWhole, Findings, IsReportOf}
-use Rattle.bag_join.specs.Head.{AreKeys, IsKey, head_of}
 use Rattle.bag_join.specs.Join.{all_faults, full_closing}
-use Rattle.bag_join.specs.Reports.{ReportsState}
 use Rattle.bag_walk.specs.Closing.{closing}
 use Rattle.bag_walk.specs.Ending.{ReachesEnd, ended}
 use Rattle.bag_walk.specs.PartRuns.{IsRunOfPart}

@@ -1,9 +1,3 @@
-pub mod DoneLine
-pub mod Faults
 pub mod Findings
-pub mod Head
-pub mod Held
-pub mod Input
 pub mod Join
 pub mod Laws
-pub mod Reports

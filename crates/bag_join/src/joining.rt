@@ -3,21 +3,19 @@ ghost use Rattle.std.specs.Prelude.{◌≡◌, ◌↔◌, IfErr, IfOk, IsTrue, M
 ghost use Rattle.std.specs.Io.KnownBytes.{Appends};
 ghost use Rattle.bag_faults.specs.declared.fault.Fault.{Fault as FaultValue};
 ghost use Rattle.bag_walk.specs.Ending.{ended};
-ghost use Rattle.bag_join.specs.Faults.{LeavesLines, WritesFaults};
+ghost use Rattle.bag_reports.specs.Faults.{LeavesLines, WritesFaults};
+ghost use Rattle.bag_reports.specs.Input.{MayRefuse};
+ghost use Rattle.bag_reports.specs.Reports.{ReportsState, all_given};
 ghost use Rattle.bag_join.specs.Findings.{AreFindings, AreWhole, Findings, IsPlanFor, IsReportOf};
-ghost use Rattle.bag_join.specs.Input.{MayRefuse};
 ghost use Rattle.bag_join.specs.Join.{IsJoined, IsLeft, IsSeenFirst, JoinsFirst, all_faults, full_closing};
-ghost use Rattle.bag_join.specs.Reports.{ReportsState, all_given};
 ghost use Rattle.bag_tree.specs.Out.{IsCut, OutState};
 ghost use Rattle.bag_tree.specs.Pieces.{Writes};
 
-use crate::input::Input;
 use crate::nowhere::Nowhere;
 use crate::parts::write_parts;
 use crate::plan::{Plan, plan_of};
-use crate::refusal::{Cause, Refusal};
-use crate::reports::Reports;
 use bag_faults::put_line;
+use bag_reports::{Cause, Input, Refusal, Reports};
 use bag_tree::{Out, Refused};
 use bag_walk::{Outcome, said};
 use itoa::Buffer;

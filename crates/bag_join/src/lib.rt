@@ -10,30 +10,16 @@
 //! order, and writes what one check would have written.
 //!
 //! Lines `unchecked KEY` may stand before a report, as a check with a profile writes them; they are
-//! passed over. Each report is read three times: for its closing line, to see that all of it is whole and in
-//! order, and once more while it is written. What is joined is what was read last: it was whole,
-//! whatever was read before. Memory is needed for one line at a time, and a place for each part.
+//! passed over. Each report is read three times: for its closing line, to see that all of it is
+//! whole and in order, and once more while it is written. What is joined is what was read last: it
+//! was whole, whatever was read before. Memory is needed for one line at a time, and a place for
+//! each part. What is read of one report is in `bag_reports`.
 #![tactic(auto)]
 
-mod done_line;
-mod fault_lines;
-mod head;
-mod held;
-mod input;
 mod joining;
 pub mod laws;
-mod noted;
 mod nowhere;
-mod numbers;
 mod parts;
 mod plan;
-mod refusal;
-mod reports;
-pub mod said;
 
-pub use done_line::{DoneLine, Subject};
-pub use held::{HeldReports, Told};
 pub use joining::join;
-pub use noted::Noted;
-pub use refusal::{Cause, Refusal};
-pub use reports::{Reports, Unreadable};

@@ -2,20 +2,15 @@
 ghost use Rattle.std.specs.Prelude.{◌≡◌, ◌+◌, IfErr, IfOk, IsTrue, MatchResult, None};
 ghost use Rattle.std.specs.Prelude.{OnOk, Option, vec_len, ℕ};
 ghost use Rattle.bag_faults.specs.declared.fault.Fault.{Fault as FaultValue};
-ghost use Rattle.bag_join.specs.Faults.{LeavesLines, WritesFaults};
+ghost use Rattle.bag_reports.specs.Faults.{LeavesLines, WritesFaults};
+ghost use Rattle.bag_reports.specs.Input.{MayRefuse};
+ghost use Rattle.bag_reports.specs.Reports.{SameReports};
 ghost use Rattle.bag_join.specs.Findings.{AreFindings, Findings, IsPlanFor, IsTurnOf, faults_at};
-ghost use Rattle.bag_join.specs.Input.{MayRefuse};
 ghost use Rattle.bag_join.specs.Join.{JoinsFirst, JoinsPart, all_faults};
-ghost use Rattle.bag_join.specs.Reports.{SameReports};
 
-use crate::done_line::is_done_line;
-use crate::fault_lines::write_report;
-use crate::input::Input;
-use crate::numbers::plus;
 use crate::plan::Plan;
-use crate::refusal::{Cause, Refusal};
-use crate::reports::Reports;
 use bag_faults::{Fault, Part};
+use bag_reports::{Cause, Input, Refusal, Reports, is_done_line, plus, write_report};
 use bag_tree::Out;
 use std::alloc::Global;
 

@@ -2,16 +2,13 @@
 ghost use Rattle.std.specs.Prelude.{◌≡◌, ◌↔◌, ◌+◌, ◌<◌, ◌≤◌, ◌^◌, ◌++◌, IfErr, IfOk, IsTrue, List, MatchResult};
 ghost use Rattle.std.specs.Prelude.{OnOk, codes, length, replicate, slice_get, slice_set, vec_len, ℕ};
 ghost use Rattle.std.specs.Option.{option_copied};
-ghost use Rattle.bag_join.specs.DoneLine.{IsDoneLineOf};
+ghost use Rattle.bag_reports.specs.DoneLine.{IsDoneLineOf};
+ghost use Rattle.bag_reports.specs.Input.{AreLines, HasNoEnd, MayFail, ended_lines};
+ghost use Rattle.bag_reports.specs.Reports.{SameReports};
+ghost use Rattle.bag_reports.specs.declared.done_line.DoneLine.{DoneLine as DoneLineValue};
 ghost use Rattle.bag_join.specs.Findings.{AreFindings, AreWhole, Findings, IsPlanFor, done_at, file_at};
-ghost use Rattle.bag_join.specs.Input.{AreLines, HasNoEnd, MayFail, ended_lines};
-ghost use Rattle.bag_join.specs.Reports.{SameReports};
-ghost use Rattle.bag_join.specs.declared.done_line.DoneLine.{DoneLine as DoneLineValue};
 
-use crate::done_line::{DoneLine, Subject};
-use crate::input::{Input, LINE_FEED};
-use crate::refusal::{Cause, Refusal};
-use crate::reports::Reports;
+use bag_reports::{Cause, DoneLine, Input, LINE_FEED, Refusal, Reports, Subject};
 use bag_text::Text;
 use bag_walk::Listed;
 use std::alloc::{AllocError, Global};

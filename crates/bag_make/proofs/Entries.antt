@@ -8,7 +8,7 @@ use Rattle.bag_make.proofs.Common.{named_tag_files, made, IsNewText, contains_ma
 use Rattle.std.specs.Prelude.{All}
 use Rattle.std.specs.List.{slice_get}
 use Rattle.bag_text.specs.Lines.{lines_of_file}
-use Rattle.bag_read.specs.declared.manifest.ManifestEntry.{ManifestEntry}
+use Rattle.bag_entries.specs.declared.entry.ManifestEntry.{ManifestEntry}
 use Rattle.bag_read.proofs.ManifestEntries.{entry_named, named_has_entry}
 use Rattle.bag_make.proofs.FetchIsNotThere.{no_line}
 use Rattle.bag_facts.proofs.Found.{content_of}

@@ -3,7 +3,7 @@ use Rattle.std.specs.Prelude.{ℕ, ◌≡◌, List, [], ◌∷◌, ◌++◌}
 use Rattle.bag_disk.specs.Disk.{DiskState}
 use Rattle.bag_store.specs.FileTree.{tree_state}
 use Rattle.bag_tree.specs.Tree.{TreeState}
-use Rattle.bag_join.specs.Reports.{ReportsState}
+use Rattle.bag_reports.specs.Reports.{ReportsState}
 use Rattle.bag_archive.specs.Archive.{ArchiveState}
 use Rattle.bag_program.specs.Visits.{Event}
 use Rattle.bag_program.specs.declared.folders.Folders.{Folders}

@@ -14,7 +14,7 @@ use Rattle.bag_tree.specs.declared.listing.Listing.{Listing}
 use Rattle.bag_tree.specs.contracts.answer.Answer as answer
 use Rattle.bag_tree.specs.contracts.event.DeviceEvent as device_event
 use Rattle.bag_tree.specs.contracts.listing.Listing as listing
-use Rattle.bag_join.specs.Reports.{ReportsState}
+use Rattle.bag_reports.specs.Reports.{ReportsState}
 use Rattle.bag_archive.specs.Archive.{ArchiveState}
 use Rattle.bag_archive.specs.declared.place.Place.{Place}
 use Rattle.bag_archive.specs.contracts.place.Place as place

@@ -1,6 +1,6 @@
 -- Reports in files of the system's.
 use Rattle.std.specs.Prelude.{ℕ, false, [], vec_len}
-use Rattle.bag_join.specs.Reports.{ReportsState}
+use Rattle.bag_reports.specs.Reports.{ReportsState}
 use Rattle.bag_program.specs.declared.system_reports.SystemReports.{SystemReports}
 
 -- nothing is promised of what they hold; so many there are, and this was read of them

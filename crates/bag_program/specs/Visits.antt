@@ -1,7 +1,7 @@
 -- Which folders and tar files were looked into, as what their trees were left, which couldn't be
 -- given, which files were read beside them, and which reports.
 use Rattle.std.specs.Prelude.{ℕ, List, [], ◌∷◌, Result}
-use Rattle.bag_join.specs.Reports.{ReportsState}
+use Rattle.bag_reports.specs.Reports.{ReportsState}
 use Rattle.bag_archive.specs.Archive.{ArchiveState}
 use Rattle.bag_tree.specs.Tree.{TreeState}
 use Rattle.bag_program.specs.declared.read_fault.ReadFault.{ReadFault}

@@ -3,7 +3,7 @@ ghost use Rattle.std.specs.Prelude.{ℕ, ◌≡◌, ◌≤◌, ⊤, false, List,
 ghost use Rattle.std.specs.Prelude.{Option, Some, IfOk, IsErrOf, length};
 ghost use Rattle.bag_disk.specs.Disk.{DiskState};
 ghost use Rattle.bag_system.specs.SystemDisk.{base_of, system_state};
-ghost use Rattle.bag_join.specs.Reports.{ReportsState};
+ghost use Rattle.bag_reports.specs.Reports.{ReportsState};
 ghost use Rattle.bag_archive.specs.Archive.{ArchiveState};
 ghost use Rattle.bag_program.specs.SystemFile.{MayBeUnread};
 ghost use Rattle.bag_program.specs.SystemReports.{unread_reports};
@@ -14,7 +14,7 @@ use crate::read_fault::ReadFault;
 use crate::system_file::{open_file, read_within};
 use crate::{FileTrouble, SystemReports, SystemTar};
 use bag_disk::ReplaceDisk;
-use bag_join::Reports;
+use bag_reports::Reports;
 use bag_system::{SystemDisk, Trouble};
 use bag_tar::Archive;
 use bag_text::Text;

@@ -3,7 +3,7 @@ ghost use Rattle.std.specs.Prelude.{◌≡◌, ◌≤◌, IfOk, length, vec_len}
 ghost use Rattle.bag_program.specs.SystemReports.{system_reports_state, unread_reports};
 
 use crate::file_trouble::{FileTrouble, expect_file};
-use bag_join::{Reports, Told, Unreadable};
+use bag_reports::{Reports, Told, Unreadable};
 use bag_text::Text;
 use bag_tree::Heard;
 use std::alloc::{AllocError, Global};

@@ -4,7 +4,7 @@ ghost use Rattle.bag_program.specs.Folders.{visits_of, AddsEvent};
 ghost use Rattle.bag_program.specs.Visits.{Event};
 
 use crate::happening::Happening;
-use bag_join::Noted;
+use bag_reports::Noted;
 use std::marker::PhantomData;
 
 /// Which folders were looked into that disks of the type `D` reach, one after another, as what

@@ -3,7 +3,7 @@ ghost use Rattle.std.specs.Prelude.{◌≡◌, IfOk, List, Result, drop, map, st
 ghost use Rattle.std.specs.IoError.{error_kind};
 ghost use Rattle.std.specs.declared.io.ErrorKind.TheVariants.{OutOfMemory};
 ghost use Rattle.std.specs.Vec.Iter.{into_iter_items};
-ghost use Rattle.bag_arguments.specs.Words.{texts_of_words};
+ghost use Rattle.bag_words.specs.Rows.{texts_of_words};
 ghost use Rattle.bag_arguments.specs.declared.usage.Usage.{Usage};
 ghost use Rattle.bag_arguments.specs.declared.usage.Usage.TheVariants.{Memory};
 ghost use Rattle.bag_program.specs.Words.{IsUnread, MayAnswer, MayHaveAsked, answered};

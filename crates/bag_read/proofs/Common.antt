@@ -63,7 +63,6 @@ pub use Rattle.bag_text.specs.declared.code.Code.TheVariants.{ManifestUnsafePath
 pub use Rattle.bag_text.specs.declared.code.Code.TheVariants.{TagmanifestNamesPayload, TagmanifestNamesTagmanifest}
 pub use Rattle.bag_text.specs.declared.code.Code.TheVariants.{VersionUnsupported}
 pub use Rattle.bag_text.specs.declared.rules.Rules.{Rules}
-pub use Rattle.hex.specs.Hex.{encode_lower, lower_digits}
 pub use Rattle.bag_read.specs.Declaration.{DeclarationFault, IsDeclarationFault, IsUnreadLine, encoding_of, is_encoding}
 pub use Rattle.bag_read.specs.Declaration.{is_supported_version, is_version, version_of, when}
 pub use Rattle.bag_read.specs.DeclarationLine.{DeclaresNone, DeclaresOne, EncodingLinesReadAsTheirParts, IsEncodingLine}
@@ -92,15 +91,16 @@ pub use Rattle.bag_read.specs.Laws.{IsOxum, OxumsReadAsTheirParts, WritesNumber}
 pub use Rattle.bag_read.specs.Reason.{Reason, decoded_or}
 pub use Rattle.bag_read.specs.FetchReasons.{IsFirst}
 pub use Rattle.bag_text.specs.FirstFault.{◌>>=◌}
-pub use Rattle.bag_read.specs.Repeats.{PathsAscend, AreDifferent, IsReadOnce, IsRepeatedLine, NamesBelow, RepeatsBelow}
-pub use Rattle.bag_read.specs.Repeats.{FindsRepeats, fingerprint, mark_of}
+pub use Rattle.bag_entries.specs.Repeats.{PathsAscend, AreDifferent, IsRepeatedLine, NamesBelow, RepeatsBelow}
+pub use Rattle.bag_read.specs.ReadOnce.{IsReadOnce}
+pub use Rattle.bag_read.specs.ReadOnce.{FindsRepeats}
+pub use Rattle.bag_entries.specs.Repeats.{fingerprint, mark_of}
 pub use Rattle.bag_read.specs.declared.fetch.FetchEntry.{FetchEntry}
 pub use Rattle.bag_read.specs.declared.info.Element.{Element}
 pub use Rattle.bag_read.specs.declared.kind.Kind.{Kind}
 pub use Rattle.bag_read.specs.declared.kind.Kind.TheVariants.{Payload, Tag}
 pub use Rattle.bag_read.specs.declared.line_fault.LineFault.{LineFault}
-pub use Rattle.bag_read.specs.declared.manifest.ManifestEntry.{ManifestEntry}
+pub use Rattle.bag_entries.specs.declared.entry.ManifestEntry.{ManifestEntry}
 unfoldable pub use Rattle.bag_read.specs.Fetch.{fetch_line}
 unfoldable pub use Rattle.bag_read.specs.Manifest.{manifest_line}
-unfoldable pub use Rattle.hex.specs.Hex.{encode_with}
 unfoldable pub use Rattle.std.specs.List.Sorted.{IsStrictlySortedBy}

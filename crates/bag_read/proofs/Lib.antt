@@ -8,7 +8,6 @@ pub mod FetchLine
 pub mod FetchLineParts
 pub mod FirstMark
 pub mod Fronts
-pub mod HexDigits
 pub mod InfoElements
 pub mod InfoFaults
 pub mod InfoLine
@@ -24,7 +23,7 @@ pub mod ManifestLineParts
 pub mod ManifestName
 pub mod PickedOut
 pub mod Reason
-pub mod RepeatedLines
 pub mod TagPaths
 pub mod Texts
+pub mod ToldRepeats
 pub mod Utf8

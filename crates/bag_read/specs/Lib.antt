@@ -17,6 +17,5 @@ pub mod ManifestName
 pub mod ManifestReasons
 pub mod Oxum
 pub mod ReadEntries
+pub mod ReadOnce
 pub mod Reason
-pub mod Repeats
-pub mod Spelled

@@ -21,7 +21,7 @@ use Rattle.bag_read.specs.declared.kind.Kind.TheVariants.{Payload, Tag}
 use Rattle.bag_read.specs.Reason.{Reason, decoded_or}
 use Rattle.bag_text.specs.FirstFault.{◌>>=◌}
 use Rattle.bag_read.specs.declared.line_fault.LineFault.{LineFault}
-use Rattle.bag_read.specs.declared.manifest.ManifestEntry.{ManifestEntry}
+use Rattle.bag_entries.specs.declared.entry.ManifestEntry.{ManifestEntry}
 
 -- the digest in lower case, where it is hex, has the algorithm's length, and something follows it
 abbrev pub checked_digest : Alg → List ℕ → List ℕ → Result Digest Reason

@@ -8,7 +8,7 @@ use Rattle.bag_text.specs.FirstFault.{◌>>=◌}
 use Rattle.bag_read.specs.declared.fetch.FetchEntry.{FetchEntry}
 use Rattle.bag_text.specs.declared.alg.Alg.{Alg}
 use Rattle.bag_read.specs.declared.kind.Kind.{Kind}
-use Rattle.bag_read.specs.declared.manifest.ManifestEntry.{ManifestEntry}
+use Rattle.bag_entries.specs.declared.entry.ManifestEntry.{ManifestEntry}
 use Rattle.bag_read.specs.Fetch.{url_of, length_of, fetch_line}
 use Rattle.bag_read.specs.Manifest.{manifest_line}
 

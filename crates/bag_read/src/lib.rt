@@ -18,7 +18,6 @@
 mod declaration;
 mod declaration_faults;
 mod declaration_line;
-mod digest;
 mod fetch;
 mod info;
 mod info_line;
@@ -29,16 +28,15 @@ mod line_fault;
 mod manifest;
 mod manifest_name;
 mod oxum;
-mod repeats;
 mod tag_name;
 
+pub use bag_entries::{Digest, ManifestEntry};
 pub use declaration::{Declaration, declared_rules, read_declaration};
-pub use digest::Digest;
 pub use fetch::{FetchEntry, read_fetch};
 pub use info::{Element, read_info};
 pub use kind::Kind;
 pub use line_fault::{LineFault, Parsed};
-pub use manifest::{ManifestEntry, read_manifest, read_manifest_among};
+pub use manifest::{read_manifest, read_manifest_among};
 pub use manifest_name::manifest_alg;
 pub use oxum::{Oxum, number_of, oxum_of};
 pub use tag_name::TagName;

@@ -11,9 +11,9 @@ ghost use Rattle.bag_text.specs.Spelling.{unescaped};
 ghost use Rattle.bag_text.specs.Lines as cut;
 ghost use Rattle.bag_text.specs.Text as spec;
 
+use bag_entries::Pool;
 use bag_text::{
-    Code, Items, PathFault, Pool, Rules, Text, is_blank_line, is_written_as_itself, lines,
-    unescape_path,
+    Code, Items, PathFault, Rules, Text, is_blank_line, is_written_as_itself, lines, unescape_path,
 };
 use std::alloc::{AllocError, Global};
 

@@ -11,37 +11,17 @@ ghost use Rattle.bag_read.specs.Manifest as spec;
 ghost use Rattle.bag_read.specs.ReadEntries as of_line;
 ghost use Rattle.bag_read.specs.Manifest.{IsEntry, IsManifestFault};
 ghost use Rattle.bag_read.specs.Reason.{IsReadOf};
-ghost use Rattle.bag_read.specs.Repeats.{IsReadOnce};
+ghost use Rattle.bag_read.specs.ReadOnce.{IsReadOnce};
 
+use crate::Kind;
 use crate::line_fault::{
     LineForm, Parsed, Why, decode_known, line_count, read_lines, refuse, unread, without_prefix,
 };
 use crate::manifest_name::is_manifest_name;
-use crate::repeats::{are_different, repeated_lines};
-use crate::{Digest, Kind};
-use bag_text::{
-    Alg, Code, HasPath, Pool, Rules, Text, check_path, is_payload, split_at_blanks, text_of,
-};
+use bag_entries::{Digest, ManifestEntry, Pool, are_different, repeated_lines};
+use bag_text::{Alg, Code, Rules, Text, check_path, is_payload, split_at_blanks, text_of};
 use std::alloc::{AllocError, Global};
 use std::collections::BTreeSet;
-
-/// A line of a manifest that reads: the digest, and the path that is named.
-#[derive(Debug, Drop)]
-pub struct ManifestEntry {
-    /// Counted from 1.
-    pub line: u64,
-    pub digest: Digest,
-    /// Decoded, and safe.
-    pub path: Text,
-}
-
-impl HasPath for ManifestEntry {
-    ghost path_of = { λ entry. entry.path };
-
-    fn path(&self) -> &Text {
-        &self.path
-    }
-}
 
 /// Reads the bytes of a manifest of an algorithm (RFC 8493, 2.1.3 and 2.2.1). Each line that isn't
 /// blank is an entry or has one fault; a path that is named again is a fault of the later line, and

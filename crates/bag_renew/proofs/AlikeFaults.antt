@@ -12,7 +12,7 @@ use Rattle.bag_read.specs.Info.{IsElement, split}
 use Rattle.bag_read.specs.Manifest.{IsEntry, IsManifestFault, manifest_line, named}
 use Rattle.bag_read.specs.declared.fetch.FetchEntry.{FetchEntry}
 use Rattle.bag_read.specs.declared.info.Element.{Element}
-use Rattle.bag_read.specs.declared.manifest.ManifestEntry.{ManifestEntry}
+use Rattle.bag_entries.specs.declared.entry.ManifestEntry.{ManifestEntry}
 use Rattle.bag_facts.specs.Facts.{IsByV10, rules_in}
 use Rattle.bag_faults.specs.declared.fault.Fault.{Fault}
 use Rattle.bag_stages.specs.CompletenessStage.{Missing}

@@ -18,7 +18,7 @@ use Rattle.bag_read.proofs.ManifestEntries.{entry_named, named_has_entry}
 use Rattle.bag_read.proofs.ManifestLineParts.{lines_read}
 use Rattle.bag_read.proofs.ManifestName.{is_named, named_test}
 use Rattle.bag_read.specs.ManifestLine.{MayName}
-use Rattle.bag_read.specs.declared.manifest.ManifestEntry.{ManifestEntry}
+use Rattle.bag_entries.specs.declared.entry.ManifestEntry.{ManifestEntry}
 use Rattle.bag_facts.specs.Facts.{IsByV10, rules_in}
 use Rattle.bag_faults.specs.declared.fault.Fault.{Fault}
 use Rattle.bag_report.specs.Report.{Is, asks}
@@ -41,7 +41,7 @@ use Rattle.bag_renew.proofs.AlikeFaults.{AreAlike, declaration_was, differs_was,
 use Rattle.bag_renew.proofs.AlikeFaults.{left_out_was}
 use Rattle.bag_renew.proofs.AlikeFaults.{manifest_was, metadata_was, missing_was, named_was, names_now}
 use Rattle.bag_facts.proofs.Found.{content_of}
-use Rattle.bag_renew.proofs.Staying.{no_begun}
+use Rattle.bag_changes.proofs.Staying.{no_begun}
 use Rattle.bag_renew.proofs.Telling.{text_of_entry}
 
 -- a tag manifest is that of a bag, and so are all files but tag manifests and one that is begun

@@ -10,14 +10,14 @@ use Rattle.std.specs.FinSet as set
 use Rattle.bag_tree.proofs.Within.{IsWithin}
 use Rattle.bag_tree.specs.Steps.{has_within}
 use Rattle.bag_tree.specs.FileChanges.{CanChange, CanChangeAll, IsFree, IsNoFolder}
-use Rattle.bag_renew.specs.Laws.{ChangesCanBeMade}
+use Rattle.bag_changes.specs.Laws.{ChangesCanBeMade}
 use Rattle.bag_renew.proofs.ChangedNames.{back, of_back, of_clearing, of_removes}
 use Rattle.bag_facts.proofs.Found.{held_at}
 use Rattle.bag_renew.proofs.ManyChanges.{not_named_all}
 use Rattle.bag_renew.proofs.OneChange.{AreOfFiles, IsFileName, IsLevel, all_level, at_change, at_changes}
 use Rattle.bag_renew.proofs.OneChange.{itself_level, level_on, name_of, with_change, with_changes}
-use Rattle.bag_renew.proofs.Staying.{IsWritten, no_begun}
-use Rattle.bag_renew.proofs.ReservedNames.{begun_is_reserved, is_reserved}
+use Rattle.bag_changes.proofs.Staying.{IsWritten, no_begun}
+use Rattle.bag_changes.proofs.ReservedNames.{begun_is_reserved, is_reserved}
 
 none_there : (d : Bag) (path : List ℕ) → ((q c : List ℕ) → file d q ≡ Some c → IsWithin path q → ⊥)
     → has_within d path ≡ false

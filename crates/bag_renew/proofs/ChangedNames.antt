@@ -9,8 +9,8 @@ use Rattle.bag_renew.proofs.Common.{named_tag_files, new_algs, new_elements, new
 use Rattle.bag_renew.proofs.Common.{tag_manifests, with_path, writes_info, Renewal}
 use Rattle.bag_tags.specs.OnLines.{text_on_lines}
 use Rattle.bag_renew.proofs.ManyChanges.{all_both}
-use Rattle.bag_renew.proofs.Staying.{IsWritten}
-use Rattle.bag_renew.proofs.ReservedNames.{begun_is_reserved, is_reserved}
+use Rattle.bag_changes.proofs.Staying.{IsWritten}
+use Rattle.bag_changes.proofs.ReservedNames.{begun_is_reserved, is_reserved}
 use Rattle.bag_renew.proofs.OneChange.{AreOfFiles, IsFileName, name_of}
 
 module _ (bag : Bag) (renewal : Renewal) where

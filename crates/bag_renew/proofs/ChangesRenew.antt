@@ -16,17 +16,17 @@ use Rattle.bag_renew.proofs.Common.{stays, tag_manifests, writes_info, Renewal}
 use Rattle.bag_renewed.specs.Renewed.{renewed}
 use Rattle.std.specs.FinMap as fin
 use Rattle.bag_tags.specs.Declaration.{declaration_text}
-use Rattle.bag_renew.proofs.AlgsWhere.{alg_in, passes}
+use Rattle.bag_changes.proofs.AlgsWhere.{alg_in, passes}
 use Rattle.bag_read.proofs.ManifestName.{is_named}
-use Rattle.bag_renew.specs.Contents.{IsNew, IsNewText, Stands}
-use Rattle.bag_renew.proofs.Contents.{both_new, these_files}
+use Rattle.bag_changes.specs.Contents.{IsNew, IsNewText, Stands}
+use Rattle.bag_changes.proofs.Contents.{both_new, these_files}
 use Rattle.bag_renew.proofs.ChangedNames.{back, info_put, info_text, is_dropped, are_of_files, of_changes}
 use Rattle.bag_renew.proofs.InChanges.{put_in_back, put_in_changes, in_back, declaration_in, info_in, manifest_in}
 use Rattle.bag_renew.proofs.InChanges.{tag_manifest_in, drop_in, open_in, clear_in, remove_in_puts}
 use Rattle.bag_renew.proofs.ManyChanges.{came_from, not_named, not_named_all, put_stays}
-use Rattle.bag_renew.proofs.Members.{tag_listed}
-use Rattle.bag_renew.proofs.Staying.{IsWritten, itself, no_begun, no_payload_name, no_payload_tag, so_it_stays}
-use Rattle.bag_renew.proofs.Staying.{stays_so, written_goes}
+use Rattle.bag_changes.proofs.Members.{tag_listed}
+use Rattle.bag_changes.proofs.Staying.{IsWritten, itself, no_begun, no_payload_name, no_payload_tag, so_it_stays}
+use Rattle.bag_changes.proofs.Staying.{stays_so, written_goes}
 use Rattle.bag_facts.proofs.Found.{content_of, same_option}
 use Rattle.bag_renew.proofs.OneChange.{all_level, at_changes, first_are, itself_level, name_of, stays_below}
 use Rattle.bag_renew.proofs.OneChange.{with_change, with_changes}

@@ -5,9 +5,7 @@ pub use Rattle.std.proofs.Common.{not, refl, subst, suc, sym, take, true, zero, 
 pub use Rattle.std.proofs.Common.{◌≡◌, ◌≢◌, ◌≤◌, ◌⊎◌}
 pub use Rattle.std.proofs.lemmas.Bool.{and_from, and_parts, false_from_ne_true, false≢true, not_from_true, or_cases}
 pub use Rattle.std.proofs.lemmas.Bool.{or_from, or_left, or_parts, or_right}
-pub use Rattle.std.proofs.lemmas.List.{map-append}
-pub use Rattle.std.proofs.lemmas.List.Elements.{All-append, All-cons, All-contains, All-from_recursion, All-map}
-pub use Rattle.std.proofs.lemmas.List.Elements.{All-nil}
+pub use Rattle.std.proofs.lemmas.List.Elements.{All-contains, All-from_recursion}
 pub use Rattle.std.proofs.lemmas.List.Sums.{fold-append}
 pub use Rattle.std.proofs.lemmas.Slice.Eq.{bytes_eq-Decides}
 pub use Rattle.std.specs.Cmp.Lexicographic.{nat_list_cmp_total}
@@ -31,7 +29,7 @@ pub use Rattle.bag_facts.specs.Facts.{rules_in}
 pub use Rattle.bag_stages.specs.Payload.{payload}
 pub use Rattle.bag_text.proofs.ListOf.{contains_back, contains_behind, contains_cases, contains_either, contains_first}
 pub use Rattle.bag_text.proofs.ListOf.{contains_front, contains_nothing}
-pub use Rattle.bag_text.specs.Alg.{algs, name}
+pub use Rattle.bag_text.specs.Alg.{name}
 pub use Rattle.bag_text.specs.AlgList.{has_member}
 pub use Rattle.bag_text.specs.Path.{is_base_name, is_path, is_payload_path, under}
 pub use Rattle.bag_text.specs.Text.{text_cmp}
@@ -45,14 +43,13 @@ pub use Rattle.bag_tree.specs.Moved.{is_within}
 pub use Rattle.bag_tree.specs.Steps.{create}
 pub use Rattle.bag_tree.specs.declared.file_change.FileChange.{FileChange}
 pub use Rattle.bag_tree.specs.declared.file_change.FileChange.TheVariants.{Put, Remove}
-pub use Rattle.bag_renew.specs.Changes.{after, changes, clearing, closing, dropping, opening, put, putting, unkept}
-pub use Rattle.bag_renew.specs.Laws.{ChangesKeepPayload, ChangesRenew, HasKnownManifests}
+pub use Rattle.bag_changes.specs.Changes.{after, changes, clearing, closing, dropping, opening, put, putting, unkept}
+pub use Rattle.bag_changes.specs.Laws.{ChangesKeepPayload, ChangesRenew, HasKnownManifests}
 pub use Rattle.bag_renewed.specs.Renewed.{algs_where, begun_file, declaration_file, has_payload_manifest}
 pub use Rattle.bag_renewed.specs.Renewed.{has_tag_manifest, info_files, is_kept, is_kept_alg, is_new_alg, keeps}
 pub use Rattle.bag_renewed.specs.Renewed.{kept_or, kept_tag_files, named_tag_files, new_algs, new_elements, new_rules}
 pub use Rattle.bag_renewed.specs.Renewed.{new_tag_files, payload_manifest, payload_manifests, renewed, stays}
 pub use Rattle.bag_renewed.specs.Renewed.{tag_manifests, with_path, writes_info}
 pub use Rattle.bag_tags.specs.Summed.{File, manifest_by}
-pub use Rattle.bag_renew.specs.Reserved.{IsOutOfTheWay, reserved_names}
-unfoldable pub use Rattle.bag_renew.specs.Reserved.{manifest_names}
+pub use Rattle.bag_changes.specs.Reserved.{IsOutOfTheWay}
 pub use Rattle.bag_renewed.specs.declared.renewal.Renewal.{Renewal}

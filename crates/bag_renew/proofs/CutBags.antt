@@ -20,16 +20,16 @@ use Rattle.bag_tags.specs.Writable.{is_unnameable}
 use Rattle.bag_tree.specs.Bag.{LacksFile}
 use Rattle.bag_tree.specs.FileChanges.{IsAfterFirst}
 use Rattle.bag_renew.specs.Again.{CutBagsCanBeRenewed}
-use Rattle.bag_renew.specs.Obstacles.{has_percent}
+use Rattle.bag_changes.specs.Obstacles.{has_percent}
 use Rattle.bag_renew.specs.OnTheWay.{CanRenewInPlace, HasNoPercent, NoTagManifestNamesBegun}
 use Rattle.bag_renewed.specs.Renewed.{is_v10, renewed, writes_payload_manifest}
 use Rattle.bag_renewed.specs.Request.{is_bad_request}
-use Rattle.bag_renew.specs.Telling.{AreNameable, AreStillListed, IsNamedByKept, IsToBeNamed, NamesItsFiles}
-use Rattle.bag_renew.specs.Valid.{HasGoodElements, HasGoodInfo}
-use Rattle.bag_renew.proofs.AlgsWhere.{alg_in, passes}
+use Rattle.bag_changes.specs.Telling.{AreNameable, AreStillListed, IsNamedByKept, IsToBeNamed, NamesItsFiles}
+use Rattle.bag_changes.specs.Valid.{HasGoodElements, HasGoodInfo}
+use Rattle.bag_changes.proofs.AlgsWhere.{alg_in, passes}
 use Rattle.bag_renew.proofs.BetweenFaults.{IsBetween, named_by, names_begun}
 use Rattle.bag_facts.proofs.Found.{content_of}
-use Rattle.bag_renew.proofs.KeptOr.{kept_rules}
+use Rattle.bag_changes.proofs.KeptOr.{kept_rules}
 use Rattle.bag_renew.proofs.NewRules.{renewed_keeps}
 use Rattle.bag_renew.proofs.OldBag.{known, names_its_payload}
 use Rattle.bag_renew.proofs.OnTheWay.{cut_on_its_way, each_cut_has_old_faults}

@@ -34,9 +34,9 @@ use Rattle.bag_tags.specs.ReadAgain.{elements_read}
 use Rattle.bag_renewed.specs.Elements.{added_to, after_oxum, appended_to, before_oxum, elements_of, goes, has_label}
 use Rattle.bag_renewed.specs.Elements.{in_place_of, is_same, new_ones, replaced, some_has}
 use Rattle.bag_renewed.specs.Renewed.{renewed}
-use Rattle.bag_renew.specs.Valid.{CanRenew, GoodElementsAreGoodInfo, HasGoodElements, HasGoodInfo}
+use Rattle.bag_changes.specs.Valid.{CanRenew, GoodElementsAreGoodInfo, HasGoodElements, HasGoodInfo}
 use Rattle.bag_renewed.specs.declared.renewal.ElementChanges.{ElementChanges}
-use Rattle.bag_renew.proofs.Contents.{these_files}
+use Rattle.bag_changes.proofs.Contents.{these_files}
 use Rattle.bag_renew.proofs.KeptInfo.{kept_is_good}
 use Rattle.bag_tags.proofs.OxumReads.{oxum_reads}
 use Rattle.bag_renew.proofs.Places.{place_of}

@@ -9,10 +9,10 @@ use Rattle.bag_renew.proofs.Common.{declaration_file, algs_where, has_payload_ma
 use Rattle.bag_renew.proofs.Common.{info_files, is_kept, new_algs, payload_manifest, payload_manifests}
 use Rattle.bag_renew.proofs.Common.{tag_manifests, writes_info, Renewal}
 use Rattle.bag_facts.proofs.Mapped.{kept, passed}
-use Rattle.bag_renew.proofs.AlgsWhere.{alg_in}
-use Rattle.bag_renew.specs.Contents.{IsNew, IsNewText}
+use Rattle.bag_changes.proofs.AlgsWhere.{alg_in}
+use Rattle.bag_changes.specs.Contents.{IsNew, IsNewText}
 use Rattle.bag_renew.proofs.ChangedNames.{back, info_put, is_dropped}
-use Rattle.bag_renew.proofs.Members.{declaration_new, info_listed, info_new, payload_listed, payload_new, tag_new}
+use Rattle.bag_changes.proofs.Members.{declaration_new, info_listed, info_new, payload_listed, payload_new, tag_new}
 
 module _ (bag : Bag) (renewal : Renewal) where
   abbrev last : List FileChange

@@ -22,10 +22,10 @@ use Rattle.bag_stages.specs.TagFiles.{lines_in, lines_or_none}
 use Rattle.bag_tags.specs.OnLines.{text_on_lines}
 use Rattle.bag_renewed.specs.Elements.{asks_nothing}
 use Rattle.bag_renewed.specs.Renewed.{renewed}
-use Rattle.bag_renew.specs.Valid.{CanRenew, HasGoodInfo}
-use Rattle.bag_renew.proofs.Contents.{these_files}
+use Rattle.bag_changes.specs.Valid.{CanRenew, HasGoodInfo}
+use Rattle.bag_changes.proofs.Contents.{these_files}
 use Rattle.bag_facts.proofs.Found.{same_option}
-use Rattle.bag_renew.proofs.KeptOr.{keeps_rules}
+use Rattle.bag_changes.proofs.KeptOr.{keeps_rules}
 use Rattle.bag_renew.proofs.OldBag.{no_metadata_fault, old_text}
 use Rattle.bag_renew.proofs.RenewedNames.{by_new_rules, new_text, same_payload}
 

@@ -10,7 +10,7 @@ use Rattle.bag_read.specs.Declaration.{declared_version}
 use Rattle.bag_facts.specs.Facts.{IsByV10, rules_in}
 use Rattle.bag_facts.specs.FactsOfBag.{IsByV097}
 use Rattle.bag_renewed.specs.Renewed.{is_v10}
-use Rattle.bag_renew.proofs.KeptOr.{becomes_v10, keeps_rules}
+use Rattle.bag_changes.proofs.KeptOr.{becomes_v10, keeps_rules}
 
 v10_stays : (to_1_0 : Bool) → cond to_1_0 V10 V10 ≡ V10
 v10_stays true = refl

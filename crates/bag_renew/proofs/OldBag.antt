@@ -39,7 +39,7 @@ use Rattle.bag_stages.specs.ManifestsStage.{InManifest, IsOfManifests, ManifestH
 use Rattle.bag_stages.specs.MetadataStage.{IsOfMetadata, MetadataHolds}
 use Rattle.bag_stages.specs.PartsStage.{IsOfParts, PartHolds}
 use Rattle.bag_stages.specs.TagFiles.{HasManifest, HasSupported, Names, lines_or_none, manifest_of, named_in}
-use Rattle.bag_renew.specs.Telling.{IsToBeNamed, NamesAll, NamesFiles, NamesItsPayload, paths_named}
+use Rattle.bag_changes.specs.Telling.{IsToBeNamed, NamesAll, NamesFiles, NamesItsPayload, paths_named}
 use Rattle.bag_checked.specs.FirstFaults.{IsDamage}
 
 -- ---- the codes of the faults of a manifest's lines

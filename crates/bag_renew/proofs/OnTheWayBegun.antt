@@ -14,7 +14,7 @@ use Rattle.bag_renew.proofs.BetweenFaults.{HasNoPayloadManifest, IsBetween, IsBe
 use Rattle.bag_renew.proofs.BetweenFaults.{MayBeListed, no_manifest_begun}
 use Rattle.bag_renew.proofs.OnTheWayFiles.{same_rules}
 use Rattle.bag_renew.proofs.ReadAlike.{ReadAlike, SplitAlike}
-use Rattle.bag_renew.proofs.Staying.{itself, no_begun, no_payload_name, stays_so}
+use Rattle.bag_changes.proofs.Staying.{itself, no_begun, no_payload_name, stays_so}
 
 module _ (mid old new : Bag) (found : List ℕ) (between : IsBetween mid old new) where
   abbrev begun : Bag

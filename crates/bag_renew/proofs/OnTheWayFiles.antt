@@ -26,16 +26,16 @@ use Rattle.bag_stages.specs.TagFiles.{Names, bagit_txt, lines_or_none, manifest_
 use Rattle.bag_tags.specs.Declaration.{declaration_text}
 use Rattle.bag_renew.specs.OnTheWay.{CanRenewInPlace}
 use Rattle.bag_renewed.specs.Renewed.{renewed}
-use Rattle.bag_renew.specs.Telling.{NamesItsFiles}
+use Rattle.bag_changes.specs.Telling.{NamesItsFiles}
 use Rattle.bag_renew.proofs.AlikeFaults.{AreAlike, alike_by_rules, names_now}
 use Rattle.bag_renew.proofs.BetweenFaults.{HasNoPayloadManifest, IsBetween, IsBetweenByV097, IsTagManifestOf}
 use Rattle.bag_renew.proofs.BetweenFaults.{IsUnlistedByV097, NoneNamesBegun, named_by}
 use Rattle.bag_renew.proofs.ChangedNames.{are_of_files, back, of_changes}
 use Rattle.bag_renew.proofs.ChangesRenew.{they_renew}
-use Rattle.bag_renew.proofs.Contents.{these_files}
+use Rattle.bag_changes.proofs.Contents.{these_files}
 use Rattle.bag_facts.proofs.Found.{content_of}
 use Rattle.bag_renew.proofs.InChanges.{open_in, put_in_changes}
-use Rattle.bag_renew.proofs.KeptOr.{kept_or_written}
+use Rattle.bag_changes.proofs.KeptOr.{kept_or_written}
 use Rattle.bag_renew.proofs.ManyChanges.{came_from, not_named}
 use Rattle.bag_renew.proofs.OldBag.{known, names_its_payload, none, some_manifest}
 use Rattle.bag_renew.proofs.OnTheWayChanges.{AllIn, after_put, closing_names, kept_not_removed, dropped_or_not, first_or_later}
@@ -45,8 +45,8 @@ use Rattle.bag_renew.proofs.OnTheWayChanges.{tag_not_put, tag_not_removed, till_
 use Rattle.bag_renew.proofs.OneChange.{all_level, at_changes, first_are, itself_level, name_of, with_change}
 use Rattle.bag_renew.proofs.OneChange.{with_changes}
 use Rattle.bag_renew.proofs.RenewedNames.{declared, names_files, old_or_anew, one_manifest}
-use Rattle.bag_renew.proofs.Staying.{IsWritten, itself, no_begun, no_payload_name, no_payload_tag, stays_so}
-use Rattle.bag_renew.proofs.Staying.{written_goes}
+use Rattle.bag_changes.proofs.Staying.{IsWritten, itself, no_begun, no_payload_name, no_payload_tag, stays_so}
+use Rattle.bag_changes.proofs.Staying.{written_goes}
 
 -- two bags with the same declaration are judged by the same rules
 pub same_rules : (one other : Bag) → file one bagit_txt ≡ file other bagit_txt → rules_in one ≡ rules_in other

@@ -24,17 +24,17 @@ use Rattle.bag_stages.specs.LeftOut.{IsLeftOutByAll, IsNamedBySome}
 use Rattle.bag_stages.specs.MetadataStage.{IsOfMetadata, MetadataHolds, bag_info_txt}
 use Rattle.bag_stages.specs.TagFiles.{HasSupported, Names, bagit_txt, lines_in, lines_or_none, manifest_of}
 use Rattle.bag_tree.specs.Bag.{LacksFile}
-use Rattle.bag_renew.specs.Obstacles.{has_percent}
+use Rattle.bag_changes.specs.Obstacles.{has_percent}
 use Rattle.bag_renew.specs.OnTheWay.{CanRenewInPlace, HasNoPercent}
 use Rattle.bag_renewed.specs.Renewed.{renewed}
-use Rattle.bag_renew.specs.Telling.{NamesFiles, NamesItsFiles}
-use Rattle.bag_renew.specs.Valid.{HasGoodInfo}
+use Rattle.bag_changes.specs.Telling.{NamesFiles, NamesItsFiles}
+use Rattle.bag_changes.specs.Valid.{HasGoodInfo}
 use Rattle.bag_renew.proofs.AlikeFaults.{AreAlike, names_now}
 use Rattle.bag_renew.proofs.BetweenFaults.{IsBetween, IsTagManifestOf, IsUnlistedByV097, MayBeListed, named_by}
 use Rattle.bag_renew.proofs.BetweenFaults.{other_kind}
-use Rattle.bag_renew.proofs.Contents.{these_files}
+use Rattle.bag_changes.proofs.Contents.{these_files}
 use Rattle.bag_renew.proofs.InChanges.{open_in}
-use Rattle.bag_renew.proofs.KeptOr.{becomes_v10, is_old}
+use Rattle.bag_changes.proofs.KeptOr.{becomes_v10, is_old}
 use Rattle.bag_renew.proofs.ManyChanges.{not_named}
 use Rattle.bag_renew.proofs.OnTheWayChanges.{AllIn, declaration_unnamed, declared_or_not, first_or_later, left, made}
 use Rattle.bag_renew.proofs.OnTheWayChanges.{no_remove_last, opened_or_not, payload_not_put, payload_not_removed}

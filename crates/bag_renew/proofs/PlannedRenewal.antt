@@ -5,18 +5,18 @@ use Rattle.bag_text.specs.Lines.{lines_of_file}
 use Rattle.bag_facts.specs.FactsOfBag.{IfBagRead}
 use Rattle.bag_facts.specs.declared.facts.Facts.{Facts}
 use Rattle.bag_tree.specs.Tree.{TreeState}
-use Rattle.bag_renew.specs.Composing.{AreOfFiles}
-use Rattle.bag_renew.specs.NewInfo.{IsInfoAfter}
-use Rattle.bag_renew.specs.Planned.{ChangesCompared, changes_from}
-use Rattle.bag_renew.specs.Reading.{HasReadBag, MayRefuseReading}
+use Rattle.bag_changes.specs.Composing.{AreOfFiles}
+use Rattle.bag_changes.specs.NewInfo.{IsInfoAfter}
+use Rattle.bag_changes.specs.Planned.{ChangesCompared, changes_from}
+use Rattle.bag_changes.specs.Reading.{HasReadBag, MayRefuseReading}
 use Rattle.bag_renew.specs.Renew.{HasPlanned}
 use Rattle.bag_renewed.specs.Renewed.{reads_payload}
 use Rattle.bag_renewed.specs.Request.{is_bad_request}
 use Rattle.bag_checked.specs.Summed.{AreSummedBy, files_to_read}
-use Rattle.bag_renew.specs.declared.fault.RenewFault.TheVariants.{Memory}
+use Rattle.bag_changes.specs.declared.fault.RenewFault.TheVariants.{Memory}
 use Rattle.bag_tags.specs.declared.summed.SummedFile.{SummedFile}
-use Rattle.bag_renew.proofs.ComposedChanges.{changes_of_bag}
-use Rattle.bag_renew.proofs.DroppedManifests.{read_to_drop}
+use Rattle.bag_changes.proofs.ComposedChanges.{changes_of_bag}
+use Rattle.bag_changes.proofs.DroppedManifests.{read_to_drop}
 use Rattle.bag_renew.proofs.ReadForRenewal.{deep, new_info, read_for_renewal}
 
 module _ (renewal : Renewal) (old new : TreeState) (facts : Facts) (summed : List SummedFile) (read : List ℕ)

@@ -32,9 +32,9 @@ use Rattle.bag_read.specs.ManifestLine.{IsManifestLine}
 use Rattle.bag_read.specs.Reason.{Reason}
 use Rattle.bag_read.specs.declared.info.Element.{Element}
 use Rattle.bag_read.specs.declared.line_fault.LineFault.{LineFault}
-use Rattle.bag_read.specs.declared.manifest.ManifestEntry.{ManifestEntry}
+use Rattle.bag_entries.specs.declared.entry.ManifestEntry.{ManifestEntry}
 use Rattle.bag_tags.proofs.TrimmedTexts.{stays_trimmed}
-use Rattle.bag_renew.specs.Obstacles.{has_percent}
+use Rattle.bag_changes.specs.Obstacles.{has_percent}
 
 -- ---- lines
 

@@ -15,15 +15,15 @@ use Rattle.bag_tags.specs.Element.{NewElement}
 use Rattle.bag_tags.specs.OnLines.{is_bad_long_element, text_on_lines}
 use Rattle.bag_tree.specs.Tree.{TreeState}
 use Rattle.bag_renewed.specs.Elements.{has_label}
-use Rattle.bag_renew.specs.NewInfo.{IsInfoAfter, IsInfoRefusal, IsNewInfo}
-use Rattle.bag_renew.specs.Reading.{HasKnownSize, HasReadBag, IsReadForRenewal, MayRefuseReading}
+use Rattle.bag_changes.specs.NewInfo.{IsInfoAfter, IsInfoRefusal, IsNewInfo}
+use Rattle.bag_changes.specs.Reading.{HasKnownSize, HasReadBag, IsReadForRenewal, MayRefuseReading}
 use Rattle.bag_checked.specs.FirstFaults.{HasNoEarlyFault}
 use Rattle.bag_renewed.specs.Renewed.{writes_info}
 use Rattle.bag_renewed.specs.Request.{is_bad_request, is_refused}
-use Rattle.bag_renew.specs.Valid.{HasGoodElements}
+use Rattle.bag_changes.specs.Valid.{HasGoodElements}
 use Rattle.bag_report.specs.Valid.{full}
-use Rattle.bag_renew.specs.declared.fault.RenewFault.{RenewFault}
-use Rattle.bag_renew.specs.declared.fault.RenewFault.TheVariants as why
+use Rattle.bag_changes.specs.declared.fault.RenewFault.{RenewFault}
+use Rattle.bag_changes.specs.declared.fault.RenewFault.TheVariants as why
 use Rattle.bag_renewed.specs.declared.renewal.ElementChanges.{ElementChanges}
 use Rattle.bag_tags.specs.declared.summed.SummedFile.{SummedFile}
 

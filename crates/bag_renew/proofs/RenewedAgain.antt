@@ -17,9 +17,9 @@ use Rattle.bag_renewed.specs.Elements.{asks_nothing}
 use Rattle.bag_renew.specs.OnTheWay.{CanRenewInPlace, HasNoPercent}
 use Rattle.bag_renewed.specs.Renewed.{file_at, is_v10, renewed}
 use Rattle.bag_renewed.specs.Request.{is_bad_request}
-use Rattle.bag_renew.specs.Valid.{HasGoodElements}
+use Rattle.bag_changes.specs.Valid.{HasGoodElements}
 use Rattle.bag_renew.proofs.BetweenFaults.{IsBetween, no_manifest_begun, other_kind}
-use Rattle.bag_renew.proofs.KeptOr.{becomes_v10, v10_keeps}
+use Rattle.bag_changes.proofs.KeptOr.{becomes_v10, v10_keeps}
 use Rattle.bag_renew.proofs.NewRules.{still_v10}
 use Rattle.bag_renew.proofs.OnTheWayBegun.{at_manifest, elsewhere, stays_elsewhere, with_begun}
 use Rattle.bag_renew.proofs.OnTheWayChanges.{AllIn, left as yet_to_make, tags_put}
@@ -27,7 +27,7 @@ use Rattle.bag_renew.proofs.OnTheWayFiles.{between, manifest_stays, same_rules, 
 use Rattle.bag_renew.proofs.OnTheWayFromV097.{by_v10, early_between, early_or_late, late_between, put_all}
 use Rattle.bag_renew.proofs.PayloadFiles.{payload_alike}
 use Rattle.bag_renew.proofs.RenewedNames.{declared, same_file}
-use Rattle.bag_renew.proofs.Staying.{no_begun}
+use Rattle.bag_changes.proofs.Staying.{no_begun}
 use Rattle.bag_renew.proofs.TagNames.{not_tag_manifest}
 use Rattle.bag_renew.proofs.RenewedAlike.{AreRenewedAlike, HasInfoOf, from_left, has_or_added, info_so, kept_is}
 use Rattle.bag_renew.proofs.RenewedAlike.{manifest_there, new_info, new_manifest, same_bool, same_renewed, text}

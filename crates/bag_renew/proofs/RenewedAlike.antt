@@ -24,10 +24,10 @@ use Rattle.bag_renew.specs.WrittenElements.{WrittenElementsAreRead}
 use Rattle.bag_renewed.specs.Elements.{elements_of, renewed_elements}
 use Rattle.bag_renewed.specs.Renewed.{file_at, in_path_order, renewed}
 use Rattle.bag_renewed.specs.Request.{is_bad_request}
-use Rattle.bag_renew.specs.Valid.{HasGoodElements}
-use Rattle.bag_renew.proofs.AlgsWhere.{alg_in, passes}
+use Rattle.bag_changes.specs.Valid.{HasGoodElements}
+use Rattle.bag_changes.proofs.AlgsWhere.{alg_in, passes}
 use Rattle.bag_renew.proofs.AlikeFaults.{AreAlike}
-use Rattle.bag_renew.proofs.Contents.{these_files}
+use Rattle.bag_changes.proofs.Contents.{these_files}
 use Rattle.bag_renew.proofs.ElementsAgain.{renewed_once_only}
 use Rattle.bag_facts.proofs.Found.{content_of, same_option}
 use Rattle.bag_renew.proofs.PayloadFiles.{files_alike, payload_alike}

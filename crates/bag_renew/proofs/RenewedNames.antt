@@ -33,18 +33,18 @@ use Rattle.bag_tags.proofs.DeclarationReadAgain.{declaration_again}
 use Rattle.bag_tags.specs.Declaration.{declaration_text}
 use Rattle.bag_tags.specs.OnLines.{text_on_lines}
 use Rattle.bag_tags.specs.Writable.{is_unnameable}
-use Rattle.bag_renew.specs.Contents.{IsNew, IsNewText, Stands}
+use Rattle.bag_changes.specs.Contents.{IsNew, IsNewText, Stands}
 use Rattle.bag_renewed.specs.Renewed.{is_kept_alg, new_rules, renewed, writes_payload_manifest}
-use Rattle.bag_renew.specs.Telling.{AreNameable, ArePaths, AreStillListed, GivesDigests, IsManifestOf, IsNamedByKept}
-use Rattle.bag_renew.specs.Telling.{IsToBeNamed, IsWrittenAnew, NamesAll, NamesFiles, NamesItsFiles, NamesItsPayload}
-use Rattle.bag_renew.specs.Telling.{NewManifestsGiveDigests, RenewedNames, is_to_name, to_name}
-use Rattle.bag_renew.proofs.AlgsWhere.{alg_in, passes}
-use Rattle.bag_renew.proofs.Contents.{one_stands, these_files}
+use Rattle.bag_changes.specs.Telling.{AreNameable, ArePaths, AreStillListed, GivesDigests, IsManifestOf, IsNamedByKept}
+use Rattle.bag_changes.specs.Telling.{IsToBeNamed, IsWrittenAnew, NamesAll, NamesFiles, NamesItsFiles, NamesItsPayload}
+use Rattle.bag_changes.specs.Telling.{NewManifestsGiveDigests, RenewedNames, is_to_name, to_name}
+use Rattle.bag_changes.proofs.AlgsWhere.{alg_in, passes}
+use Rattle.bag_changes.proofs.Contents.{one_stands, these_files}
 use Rattle.bag_facts.proofs.Found.{content_of, found, found_alone, held_at, listed, same_option}
-use Rattle.bag_renew.proofs.KeptOr.{kept_or_written, kept_rules}
-use Rattle.bag_renew.proofs.Members.{declaration_new, info_listed, info_new, payload_listed, payload_new}
+use Rattle.bag_changes.proofs.KeptOr.{kept_or_written, kept_rules}
+use Rattle.bag_changes.proofs.Members.{declaration_new, info_listed, info_new, payload_listed, payload_new}
 use Rattle.bag_renew.proofs.NewRules.{by_content, of_written, still_v10}
-use Rattle.bag_renew.proofs.Staying.{IsWritten, no_payload_tag, stays_so, written_goes}
+use Rattle.bag_changes.proofs.Staying.{IsWritten, no_payload_tag, stays_so, written_goes}
 use Rattle.bag_renew.proofs.TagNames.{IsNamed, named_so, no_manifest_name, tag_nameable, tag_text}
 use Rattle.bag_renew.proofs.WrittenTells.{tells}
 

@@ -1,12 +1,12 @@
 -- Each bag on the way has the payload of the first.
 use Rattle.bag_renew.proofs.Common.{◌≡◌, ◌∷◌, ℕ, true, List, [], take, sym, ap, ◌∙◌, is_payload_path, Bag, IsBag}
 use Rattle.bag_renew.proofs.Common.{file, payload, after, changes, IsOutOfTheWay, Renewal, AllByRecursion, FileChange}
-use Rattle.bag_renew.specs.Laws.{ChangesKeepPayloadList}
+use Rattle.bag_changes.specs.Laws.{ChangesKeepPayloadList}
 use Rattle.bag_renew.proofs.ChangedNames.{are_of_files}
 use Rattle.bag_renew.proofs.ManyChanges.{not_named_all}
 use Rattle.bag_renew.proofs.OneChange.{AreOfFiles, at_changes, first_are, itself_level, name_of}
 use Rattle.bag_renew.proofs.PayloadFiles.{payload_alike}
-use Rattle.bag_renew.proofs.Staying.{no_payload_name}
+use Rattle.bag_changes.proofs.Staying.{no_payload_name}
 
 others : (bag : Bag) (cs : List FileChange) (q : List ℕ) → is_payload_path q ≡ true → AreOfFiles bag cs
     → AllByRecursion (λ c. (q ≡ name_of c → ⊥)) cs

@@ -3,9 +3,9 @@ use Rattle.bag_renew.proofs.Common.{◌≡◌, ◌≢◌, ◌++◌, ◌∷◌, i
 use Rattle.bag_renew.proofs.Common.{refl, ap, begun_file, file, has_file, changes, clearing, dropping, opening, putting}
 use Rattle.bag_renew.proofs.Common.{put, unkept, declaration_file, manifest_by, named_tag_files, new_algs, new_rules, renewed}
 use Rattle.bag_renew.proofs.Common.{tag_path, Tag, Manifest, Alg, Bag, File, FileChange, Renewal}
-use Rattle.bag_renew.proofs.Contents.{these_files}
-use Rattle.bag_renew.proofs.Staying.{itself, no_begun, no_payload_name, stays_so}
-use Rattle.bag_renew.specs.Contents.{Stands}
+use Rattle.bag_changes.proofs.Contents.{these_files}
+use Rattle.bag_changes.proofs.Staying.{itself, no_begun, no_payload_name, stays_so}
+use Rattle.bag_changes.specs.Contents.{Stands}
 
 last_none : (xs ys : List FileChange) → xs ++ ys ≡ [] → ys ≡ []
 last_none [] ys none = none

@@ -10,8 +10,8 @@ use Rattle.bag_read.proofs.ManifestName.{is_named}
 use Rattle.bag_text.specs.declared.rules.Rules.{Rules}
 use Rattle.bag_text.specs.declared.rules.Rules.TheVariants.{V10, V097}
 use Rattle.bag_tags.specs.Writable.{is_unnameable}
-use Rattle.bag_renew.specs.Telling.{is_to_name}
-use Rattle.bag_renew.proofs.NoPayload.{no_payload_tag}
+use Rattle.bag_changes.specs.Telling.{is_to_name}
+use Rattle.bag_changes.proofs.NoPayload.{no_payload_tag}
 
 -- no manifest has the name of another tag file
 abbrev pub IsPlain : TagName → Type 0

@@ -11,7 +11,7 @@ use Rattle.bag_text.specs.declared.code.Code.TheVariants.{PayloadManifestNotList
 use Rattle.bag_text.specs.declared.rules.Rules.{Rules}
 use Rattle.bag_text.specs.declared.rules.Rules.TheVariants.{V10, V097}
 use Rattle.bag_read.specs.Manifest.{IsEntry, named}
-use Rattle.bag_read.specs.declared.manifest.ManifestEntry.{ManifestEntry}
+use Rattle.bag_entries.specs.declared.entry.ManifestEntry.{ManifestEntry}
 use Rattle.bag_read.proofs.ManifestEntries.{named_has_entry}
 use Rattle.bag_facts.specs.Facts.{IsByV10, rules_in}
 use Rattle.bag_faults.specs.declared.fault.Fault.{Fault}
@@ -23,8 +23,8 @@ use Rattle.bag_stages.specs.LeftOut.{IsNamedBySome}
 use Rattle.bag_stages.specs.ManifestsStage.{InManifest, IsOfManifests, ManifestHolds}
 use Rattle.bag_stages.specs.TagFiles.{HasSupported, Names, lines_or_none, manifest_of, named_in}
 use Rattle.bag_stages.specs.ValidityStage.{Differs, IsEntryIn, IsOfValidity, ValidityHolds}
-use Rattle.bag_renew.specs.Telling.{BagsThatNameTheirFilesAreComplete, BagsThatTellTheirFilesAreValid, GivesDigests}
-use Rattle.bag_renew.specs.Telling.{IsToBeNamed, NamesItsFiles, TellsItsFiles, is_to_name}
+use Rattle.bag_changes.specs.Telling.{BagsThatNameTheirFilesAreComplete, BagsThatTellTheirFilesAreValid, GivesDigests}
+use Rattle.bag_changes.specs.Telling.{IsToBeNamed, NamesItsFiles, TellsItsFiles, is_to_name}
 use Rattle.bag_facts.proofs.Found.{content_of}
 use Rattle.bag_renew.proofs.TagNames.{named_so}
 

@@ -27,7 +27,7 @@ use Rattle.bag_read.specs.Fetch.{IsFetch, IsFetchFault}
 use Rattle.bag_read.specs.LineFault.{not_utf8}
 use Rattle.bag_read.specs.Manifest.{IsEntry}
 use Rattle.bag_read.specs.declared.fetch.FetchEntry.{FetchEntry}
-use Rattle.bag_read.specs.declared.manifest.ManifestEntry.{ManifestEntry}
+use Rattle.bag_entries.specs.declared.entry.ManifestEntry.{ManifestEntry}
 use Rattle.bag_faults.specs.FaultOrder.{fault_cmp}
 use Rattle.bag_facts.specs.Facts.{rules_in}
 use Rattle.bag_faults.specs.declared.fault.Fault.{Fault}
@@ -44,20 +44,20 @@ use Rattle.bag_tags.proofs.DeclarationReadAgain.{declaration_again}
 use Rattle.bag_tags.specs.Declaration.{declaration_text}
 use Rattle.bag_tree.specs.Bag.{LacksFile}
 use Rattle.bag_tree.specs.Digest.{digest}
-use Rattle.bag_renew.specs.Contents.{IsNewText}
+use Rattle.bag_changes.specs.Contents.{IsNewText}
 use Rattle.bag_renewed.specs.Renewed.{is_kept_alg, renewed}
-use Rattle.bag_renew.specs.Telling.{GivesDigests, NamesItsFiles, NewManifestsGiveDigests}
-use Rattle.bag_renew.specs.Valid.{CanRenew, HasGoodInfo, IsOldDamage}
-use Rattle.bag_renew.specs.Valid.{RenewedHasOldFaults, RenewedIsValid}
-use Rattle.bag_renew.proofs.AlgsWhere.{passes}
-use Rattle.bag_renew.proofs.Contents.{these_files}
+use Rattle.bag_changes.specs.Telling.{GivesDigests, NamesItsFiles, NewManifestsGiveDigests}
+use Rattle.bag_changes.specs.Valid.{CanRenew, HasGoodInfo, IsOldDamage}
+use Rattle.bag_changes.specs.Valid.{RenewedHasOldFaults, RenewedIsValid}
+use Rattle.bag_changes.proofs.AlgsWhere.{passes}
+use Rattle.bag_changes.proofs.Contents.{these_files}
 use Rattle.bag_facts.proofs.Found.{same_option}
-use Rattle.bag_renew.proofs.KeptOr.{keeps_rules, kept_or_written, kept_rules}
+use Rattle.bag_changes.proofs.KeptOr.{keeps_rules, kept_or_written, kept_rules}
 use Rattle.bag_renew.proofs.OldBag.{fetched, has_data, known, names_its_payload, no_declaration_fault, no_fetch_fault}
 use Rattle.bag_renew.proofs.OldBag.{old_text}
 use Rattle.bag_renew.proofs.RenewedNames.{by_new_rules, declared, give_digests, names_files, new_text, old_or_anew}
 use Rattle.bag_renew.proofs.RenewedNames.{same_file}
-use Rattle.bag_renew.proofs.Staying.{no_payload_tag, so_it_stays}
+use Rattle.bag_changes.proofs.Staying.{no_payload_tag, so_it_stays}
 use Rattle.bag_renew.proofs.TagNames.{no_manifest_name}
 use Rattle.bag_renew.proofs.Telling.{no_completeness_fault, no_line, no_manifest_fault, none_differs, text_of_entry}
 

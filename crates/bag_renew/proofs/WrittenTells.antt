@@ -20,7 +20,7 @@ use Rattle.bag_text.specs.Lines.{lines_of_file}
 use Rattle.bag_text.specs.Text.{IsText}
 use Rattle.bag_text.specs.declared.rules.Rules.{Rules}
 use Rattle.bag_read.specs.Manifest.{IsEntry}
-use Rattle.bag_read.specs.declared.manifest.ManifestEntry.{ManifestEntry}
+use Rattle.bag_entries.specs.declared.entry.ManifestEntry.{ManifestEntry}
 use Rattle.bag_read.proofs.ManifestEntries.{entry_named, named_has_entry}
 use Rattle.bag_tags.specs.Entry.{NewEntry}
 use Rattle.bag_tags.specs.Writable.{CanWriteBy, is_bad_digest, is_bad_entry_by, is_bad_path_by, is_unnameable, may_name}
@@ -30,8 +30,8 @@ use Rattle.bag_facts.proofs.Mapped.{kept, passed}
 use Rattle.bag_tree.proofs.PathEntries.{t_true}
 use Rattle.bag_tree.specs.Digest.{digest}
 use Rattle.bag_tags.specs.Summed.{entries_of}
-use Rattle.bag_renew.specs.Telling.{AreNameable, ArePaths, GivesDigests, IsManifestOf, IsToBeNamed, NamesAll, WrittenManifestsTell}
-use Rattle.bag_renew.specs.Telling.{is_to_name, paths_named, to_name}
+use Rattle.bag_changes.specs.Telling.{AreNameable, ArePaths, GivesDigests, IsManifestOf, IsToBeNamed, NamesAll, WrittenManifestsTell}
+use Rattle.bag_changes.specs.Telling.{is_to_name, paths_named, to_name}
 use Rattle.bag_tags.proofs.Digests.{good_digest}
 use Rattle.bag_facts.proofs.Found.{content_of, held_at, listed}
 use Rattle.bag_renew.proofs.Places.{at_place, place_of}

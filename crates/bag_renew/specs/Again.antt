@@ -3,12 +3,12 @@ use Rattle.std.specs.Prelude.{ℕ, ◌≡◌, false, true, List}
 use Rattle.bag_tags.specs.Element.{NewElement}
 use Rattle.bag_tree.specs.Bag.{Bag, IsBag}
 use Rattle.bag_tree.specs.FileChanges.{IsAfterFirst}
-use Rattle.bag_renew.specs.Changes.{changes}
+use Rattle.bag_changes.specs.Changes.{changes}
 use Rattle.bag_renewed.specs.Elements.{renewed_elements}
 use Rattle.bag_renew.specs.OnTheWay.{CanRenewInPlace}
 use Rattle.bag_renewed.specs.Renewed.{begun_file, renewed, writes_info}
 use Rattle.bag_renewed.specs.Request.{is_bad_request}
-use Rattle.bag_renew.specs.Valid.{HasGoodElements}
+use Rattle.bag_changes.specs.Valid.{HasGoodElements}
 use Rattle.bag_renewed.specs.declared.renewal.ElementChanges.{ElementChanges}
 use Rattle.bag_renewed.specs.declared.renewal.Renewal.{Renewal}
 

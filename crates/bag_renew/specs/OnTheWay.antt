@@ -8,11 +8,11 @@ use Rattle.bag_stages.specs.TagFiles.{Names}
 use Rattle.bag_tree.specs.Bag.{Bag, HasFile}
 use Rattle.bag_tree.specs.FileChanges.{IsAfterFirst}
 use Rattle.bag_report.specs.Valid.{HasNoFault, IsFaultOf}
-use Rattle.bag_renew.specs.Changes.{after, changes}
-use Rattle.bag_renew.specs.Reserved.{IsOutOfTheWay}
-use Rattle.bag_renew.specs.Obstacles.{has_percent}
+use Rattle.bag_changes.specs.Changes.{after, changes}
+use Rattle.bag_changes.specs.Reserved.{IsOutOfTheWay}
+use Rattle.bag_changes.specs.Obstacles.{has_percent}
 use Rattle.bag_renewed.specs.Renewed.{begun_file, keeps}
-use Rattle.bag_renew.specs.Valid.{CanRenew, HasGoodInfo}
+use Rattle.bag_changes.specs.Valid.{CanRenew, HasGoodInfo}
 use Rattle.bag_checked.specs.FirstFaults.{IsDamage}
 use Rattle.bag_renewed.specs.declared.renewal.Renewal.{Renewal}
 

@@ -14,15 +14,15 @@ use Rattle.bag_tree.specs.declared.file_change.FileChange.TheVariants.{Put, Remo
 use Rattle.bag_tree.specs.declared.tree_fault.TreeFault.{TreeFault}
 use Rattle.bag_faults.specs.declared.fault.Fault.{Fault}
 use Rattle.bag_report.specs.Valid.{IsFaultOf}
-use Rattle.bag_renew.specs.Changes.{changes}
-use Rattle.bag_renew.specs.Openings.{OpensBefore, OpensForRenewal}
-use Rattle.bag_renew.specs.Planned.{ChangesCompared}
-use Rattle.bag_renew.specs.Reading.{HasKnownSize, IsReadForRenewal, MayRefuseReading}
+use Rattle.bag_changes.specs.Changes.{changes}
+use Rattle.bag_changes.specs.Openings.{OpensBefore, OpensForRenewal}
+use Rattle.bag_changes.specs.Planned.{ChangesCompared}
+use Rattle.bag_changes.specs.Reading.{HasKnownSize, IsReadForRenewal, MayRefuseReading}
 use Rattle.bag_renewed.specs.Renewed.{begun_file, renewed}
 use Rattle.bag_renewed.specs.Request.{is_bad_request}
-use Rattle.bag_renew.specs.Valid.{DropsCompared, IsOldDamage}
-use Rattle.bag_renew.specs.declared.fault.RenewFault.{RenewFault}
-use Rattle.bag_renew.specs.declared.fault.RenewFault.TheVariants as why
+use Rattle.bag_changes.specs.Valid.{DropsCompared, IsOldDamage}
+use Rattle.bag_changes.specs.declared.fault.RenewFault.{RenewFault}
+use Rattle.bag_changes.specs.declared.fault.RenewFault.TheVariants as why
 use Rattle.bag_renewed.specs.declared.renewal.Renewal.{Renewal}
 
 -- All was read for a renewal, and these are its changes, of an honest tree's bag.

@@ -3,7 +3,7 @@ use Rattle.std.specs.Prelude.{◌≡◌, true}
 use Rattle.bag_tree.specs.Bag.{Bag}
 use Rattle.bag_renewed.specs.Elements.{elements_of}
 use Rattle.bag_renewed.specs.Renewed.{new_elements, renewed, writes_info}
-use Rattle.bag_renew.specs.Valid.{HasGoodElements}
+use Rattle.bag_changes.specs.Valid.{HasGoodElements}
 use Rattle.bag_renewed.specs.declared.renewal.Renewal.{Renewal}
 
 -- the law: of the bag-info.txt that is written just these elements are read

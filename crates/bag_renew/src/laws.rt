@@ -1,9 +1,9 @@
 //! Laws of the definitions, each the contract of a function that does nothing.
-ghost use Rattle.bag_renew.specs.Contents.{RenewedHasTheseFiles};
-ghost use Rattle.bag_renew.specs.Valid.{GoodElementsAreGoodInfo, RenewedHasOldFaults, RenewedIsValid};
-ghost use Rattle.bag_renew.specs.Telling.{BagsThatNameTheirFilesAreComplete};
-ghost use Rattle.bag_renew.specs.Telling.{BagsThatTellTheirFilesAreValid, RenewedNames};
-ghost use Rattle.bag_renew.specs.Telling.{WrittenManifestsTell};
+ghost use Rattle.bag_changes.specs.Contents.{RenewedHasTheseFiles};
+ghost use Rattle.bag_changes.specs.Valid.{GoodElementsAreGoodInfo, RenewedHasOldFaults, RenewedIsValid};
+ghost use Rattle.bag_changes.specs.Telling.{BagsThatNameTheirFilesAreComplete};
+ghost use Rattle.bag_changes.specs.Telling.{BagsThatTellTheirFilesAreValid, RenewedNames};
+ghost use Rattle.bag_changes.specs.Telling.{WrittenManifestsTell};
 ghost use Rattle.bag_renew.specs.Again.{CutBagsCanBeRenewed, ElementsAreRenewedOnce};
 ghost use Rattle.bag_renew.specs.Again.{RenewingAgainMakesTheSame};
 ghost use Rattle.bag_renew.specs.ElementLaws.{AppendedElementsAreLast, NewElementsStandBeforeOxum};
@@ -13,8 +13,8 @@ ghost use Rattle.bag_renew.specs.ElementLaws.{UnaskedElementsStay, UnsetElements
 ghost use Rattle.bag_renew.specs.WrittenElements.{WrittenElementsAreRead};
 ghost use Rattle.bag_renew.specs.OnTheWay.{EachBagOnTheWayHasOldFaults, EachBagOnTheWayIsValid};
 ghost use Rattle.bag_renew.specs.OnTheWay.{EachCutBagHasOldFaults, EachCutBagIsValid};
-ghost use Rattle.bag_renew.specs.Laws.{ChangesCanBeMade, ChangesKeepPayload};
-ghost use Rattle.bag_renew.specs.Laws.{ChangesKeepPayloadList, ChangesRenew};
+ghost use Rattle.bag_changes.specs.Laws.{ChangesCanBeMade, ChangesKeepPayload};
+ghost use Rattle.bag_changes.specs.Laws.{ChangesKeepPayloadList, ChangesRenew};
 
 /// No change of a renewal touches a file of the payload, or any other file below a folder.
 pub fn the_payload_stays()

@@ -19,21 +19,11 @@
 //! payload.
 #![tactic(auto)]
 
-mod composing;
-mod fault;
-mod folders;
-mod info;
 pub mod laws;
-mod named;
-mod obstacles;
-mod reading;
-mod removing;
 mod renewing;
-mod tag_files;
-mod unlisted;
 
+pub use bag_changes::RenewFault;
 pub use bag_checked::{Unchecked, check_and_sum, new_manifests};
 pub use bag_renewed::{ElementChanges, Renewal};
 pub use bag_tags::TagFile;
-pub use fault::RenewFault;
 pub use renewing::{plan_renewal, renew};

@@ -4,19 +4,15 @@ ghost use Rattle.bag_tree.specs.ChangeFiles.{HasChanged, IsOfFile, LastsResumed}
 ghost use Rattle.bag_tree.specs.ChangeFiles.{OutlastsResumedChanges};
 ghost use Rattle.bag_tree.specs.Tree.{Keeps};
 ghost use Rattle.bag_tree.specs.declared.file_change.FileChange.{FileChange as Change};
-ghost use Rattle.bag_renew.specs.Openings.{OpensBefore, OpensForRenewal};
-ghost use Rattle.bag_renew.specs.Reading.{MayRefuseReading};
+ghost use Rattle.bag_changes.specs.Openings.{OpensBefore, OpensForRenewal};
+ghost use Rattle.bag_changes.specs.Reading.{MayRefuseReading};
 ghost use Rattle.bag_renew.specs.Renew.{HasPlanned, HasStoppedAt, IsRenewal, told_as};
 ghost use Rattle.bag_renewed.specs.Renewed.{begun_file};
 ghost use Rattle.bag_renewed.specs.Request.{is_bad_request as is_bad};
 
-use crate::composing::changes_of;
-use crate::info::info_file;
-use crate::obstacles::BEGUN_FILE;
-use crate::reading::read_bag;
-use crate::{RenewFault, Renewal};
+use bag_changes::{BEGUN_FILE, RenewFault, changes_of, info_file, read_bag};
 use bag_checked::CheckedFiles;
-use bag_renewed::is_bad_request;
+use bag_renewed::{Renewal, is_bad_request};
 use bag_text::Items;
 use bag_tree::{FileChange, RefusedChange, ReplaceTree, change_files};
 use std::alloc::{AllocError, Global};

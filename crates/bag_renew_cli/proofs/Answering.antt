@@ -5,8 +5,8 @@ use Rattle.bag_renew_cli.proofs.Common.{◌∷◌, Ok, Row, Text, command, clap_
 use Rattle.bag_renew_cli.proofs.Common.{rows_in, subst, takes, true, refusals, matches_of_words}
 use Rattle.clap.specs.Words.{Kinds}
 use Rattle.clap.specs.declared.parser.matches.ArgMatches.{ArgMatches}
-use Rattle.bag_arguments.specs.Taken.{IsPlain, IsTaken}
-use Rattle.bag_arguments.specs.declared.taking.Declined.TheVariants as declined
+use Rattle.bag_words.specs.Taken.{IsPlain, IsTaken}
+use Rattle.bag_words.specs.declared.taking.Declined.TheVariants as declined
 use Rattle.bag_renew_cli.specs.Given.{has_others, has_several, printed, prints}
 use Rattle.bag_renew_cli.specs.declared.plan.RenewAction.TheVariants.{Help}
 use Rattle.bag_renew_cli.specs.Plan.{Answers, IsNotRefused, IsPlanned, Plans, misuse, plan_without_words, print_misuse}

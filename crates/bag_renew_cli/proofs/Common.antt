@@ -27,10 +27,11 @@ pub use Rattle.clap.specs.Simple.{app_of_fields, built}
 pub use Rattle.clap.specs.Words.{App, FailsBy, HasKind, Row, Text, app_of}
 pub use Rattle.clap.specs.Words.{fault_of, found_of, is_simple, is_simple_and_free, kind_of, matches_of, rows_of, takes}
 pub use Rattle.clap.specs.declared.error.kind.ErrorKind.TheVariants.{OutOfMemory}
-pub use Rattle.bag_arguments.proofs.Adding.{added}
-pub use Rattle.bag_arguments.proofs.Reading.{named_one_by_one, values_of, with_if}
-pub use Rattle.bag_arguments.specs.Arguments.{with_rules, without_program_name}
-pub use Rattle.bag_arguments.specs.GivenRows.{rows_in}
+pub use Rattle.bag_words.proofs.Adding.{added}
+pub use Rattle.bag_arguments.proofs.Reading.{named_one_by_one, with_if}
+pub use Rattle.bag_words.proofs.Reading.{values_of}
+pub use Rattle.bag_words.specs.Rules.{with_rules, without_program_name}
+pub use Rattle.bag_words.specs.Rows.{rows_in}
 pub use Rattle.bag_renew_cli.specs.Arguments.{element_arguments, list_arguments, manner_arguments}
 unfoldable pub use Rattle.clap.proofs.OnLiterals.{clap_on_literals}
 unfoldable pub use Rattle.bag_renew_cli.specs.Arguments.{command}

@@ -10,8 +10,8 @@ use Rattle.bag_program.proofs.Deeds.{deeds_status, said_status}
 use Rattle.bag_program.specs.Visits.{Event}
 use Rattle.bag_checked.specs.declared.checked.Unchecked.{Unchecked}
 use Rattle.bag_checked.specs.declared.checked.Unchecked.TheVariants.{Faulty, Stopped}
-use Rattle.bag_renew.specs.declared.fault.RenewFault.{RenewFault}
-use Rattle.bag_renew.specs.declared.fault.RenewFault.TheVariants as why
+use Rattle.bag_changes.specs.declared.fault.RenewFault.{RenewFault}
+use Rattle.bag_changes.specs.declared.fault.RenewFault.TheVariants as why
 use Rattle.bag_renew_cli.specs.Printing.{is_status_of}
 use Rattle.bag_renew_cli.specs.RenewalLine.{renewal_status}
 use Rattle.bag_renew_cli.specs.Renewals.{IsDone, IsDoneBy, IsPerformed}

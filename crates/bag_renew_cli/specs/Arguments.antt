@@ -2,8 +2,8 @@
 use Rattle.std.specs.Prelude.{List, [], ◌∷◌, Some, codes}
 use Rattle.clap.specs.Words.{App, Rule, Text, new_app}
 use Rattle.clap.specs.declared.builder.action.ArgAction.TheVariants.{Append}
-use Rattle.bag_arguments.specs.Arguments.{flag_rule, operands_rule, option_rule}
-use Rattle.bag_arguments.specs.Arguments.{with_rules, without_program_name}
+use Rattle.bag_words.specs.Rules.{flag_rule, operands_rule, option_rule}
+use Rattle.bag_words.specs.Rules.{with_rules, without_program_name}
 
 -- `--NAME TEXT`, as often as wanted
 abbrev pub several_rule : Text → Rule

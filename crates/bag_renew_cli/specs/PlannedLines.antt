@@ -5,7 +5,7 @@ use Rattle.std.specs.List.{flat_map}
 use Rattle.bag_faults.specs.FaultLine.{field}
 use Rattle.bag_tree.specs.declared.file_change.FileChange.{FileChange}
 use Rattle.bag_tree.specs.declared.file_change.FileChange.TheVariants.{Put, Remove}
-use Rattle.bag_renew.specs.declared.fault.RenewFault.{RenewFault}
+use Rattle.bag_changes.specs.declared.fault.RenewFault.{RenewFault}
 use Rattle.bag_renew_cli.specs.RenewalLine.{not_renewed_line, reason}
 
 -- the line that says this of a file of the bag of this name, with its end

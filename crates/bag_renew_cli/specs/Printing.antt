@@ -15,8 +15,8 @@ use Rattle.bag_tags.specs.Summed.{File, manifest_by}
 use Rattle.bag_checked.specs.Stops.{MayStopUnchecked}
 use Rattle.bag_checked.specs.declared.checked.Unchecked.{Unchecked}
 use Rattle.bag_checked.specs.declared.checked.Unchecked.TheVariants.{Faulty, Stopped}
-use Rattle.bag_renew.specs.declared.fault.RenewFault.{RenewFault}
-use Rattle.bag_renew.specs.declared.fault.RenewFault.TheVariants as why
+use Rattle.bag_changes.specs.declared.fault.RenewFault.{RenewFault}
+use Rattle.bag_changes.specs.declared.fault.RenewFault.TheVariants as why
 
 abbrev pub text_of : File → List ℕ
 text_of one = one.1

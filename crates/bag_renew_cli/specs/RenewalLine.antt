@@ -5,8 +5,8 @@ use Rattle.bag_faults.specs.FaultLine.{fault_line, field}
 use Rattle.bag_faults.specs.declared.fault.Fault.{Fault}
 use Rattle.bag_tree.specs.Tree.{cause_word}
 use Rattle.bag_tree.specs.declared.tree_fault.TreeFault.{TreeFault}
-use Rattle.bag_renew.specs.declared.fault.RenewFault.{RenewFault}
-use Rattle.bag_renew.specs.declared.fault.RenewFault.TheVariants as why
+use Rattle.bag_changes.specs.declared.fault.RenewFault.{RenewFault}
+use Rattle.bag_changes.specs.declared.fault.RenewFault.TheVariants as why
 
 -- what is said of a path
 abbrev pub about_path : List ℕ → List ℕ → List ℕ

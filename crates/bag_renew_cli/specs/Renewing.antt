@@ -5,10 +5,10 @@ use Rattle.bag_tree.specs.Tree.{Keeps, TreeState}
 use Rattle.bag_tree.specs.declared.file_change.FileChange.{FileChange}
 use Rattle.bag_tree.specs.declared.out.Refused.{Refused}
 use Rattle.bag_program.specs.FolderDeeds.{Reports}
-use Rattle.bag_renew.specs.Openings.{OpensBefore, OpensForRenewal}
-use Rattle.bag_renew.specs.Reading.{MayRefuseReading}
+use Rattle.bag_changes.specs.Openings.{OpensBefore, OpensForRenewal}
+use Rattle.bag_changes.specs.Reading.{MayRefuseReading}
 use Rattle.bag_renew.specs.Renew.{HasPlanned, IsRenewal}
-use Rattle.bag_renew.specs.declared.fault.RenewFault.{RenewFault}
+use Rattle.bag_changes.specs.declared.fault.RenewFault.{RenewFault}
 use Rattle.bag_renewed.specs.declared.renewal.Renewal.{Renewal}
 use Rattle.bag_renew_cli.specs.PlannedLines.{planned_lines}
 use Rattle.bag_renew_cli.specs.RenewalLine.{line, renewal_status}

@@ -1,11 +1,11 @@
 //! The command: its name and its arguments.
 ghost use Rattle.std.specs.Prelude.{◌≡◌, IfOk, false};
 ghost use Rattle.clap.specs.Words.{app_of, rule_of};
-ghost use Rattle.bag_arguments.specs.Arguments.{with_rules};
+ghost use Rattle.bag_words.specs.Rules.{with_rules};
 ghost use Rattle.bag_renew_cli.specs.Arguments as spec;
 
 use crate::help::{ABOUT, AFTER};
-use bag_arguments::argument::{flag, operands, option};
+use bag_words::argument::{flag, operands, option};
 use clap::{Arg, ArgAction, Command};
 use std::alloc::{AllocError, Global};
 

@@ -1,11 +1,11 @@
 //! What is given on a renewal's command line, read from the matches of clap.
 ghost use Rattle.std.specs.Prelude.{◌≡◌, IfOk};
-ghost use Rattle.bag_arguments.specs.GivenRows.{rows_in};
+ghost use Rattle.bag_words.specs.Rows.{rows_in};
 ghost use Rattle.bag_renew_cli.specs.Given as spec;
 
 use crate::listed::{self, algs_listed, is_element};
-use bag_arguments::matched::{is_given, value, value_count};
 use bag_text::{Alg, AlgSet, Items, Text};
+use bag_words::matched::{is_given, value, value_count};
 use clap::ArgMatches;
 use std::alloc::{AllocError, Global};
 

@@ -1,17 +1,17 @@
 //! The plan of a renewal's words.
 ghost use Rattle.std.specs.Prelude.{◌≡◌, MatchResult, Some, None, true};
-ghost use Rattle.bag_arguments.specs.GivenRows.{rows_in};
-ghost use Rattle.bag_arguments.specs.Words.{texts_of_words};
+ghost use Rattle.bag_words.specs.Rows.{rows_in};
+ghost use Rattle.bag_words.specs.Rows.{texts_of_words};
 ghost use Rattle.bag_renew_cli.specs.Given as asked;
 ghost use Rattle.bag_renew_cli.specs.Plan as spec;
 ghost use Rattle.bag_renew_cli.specs.Words.{clap_takes};
 
 use crate::command::command;
 use crate::{BagAction, ElementOption, ListOption, RenewAction, RenewPlan, RenewUsage, given};
-use bag_arguments::matched::{is_given, value, values};
-use bag_arguments::taking::{Declined, taken};
 use bag_renew::{ElementChanges, Renewal};
 use bag_text::{Alg, AlgSet, Items};
+use bag_words::matched::{is_given, value, values};
+use bag_words::taking::{Declined, taken};
 use clap::ArgMatches;
 use std::alloc::Global;
 

@@ -68,7 +68,7 @@ pub use Rattle.bag_read.specs.declared.info.Element.{Element}
 pub use Rattle.bag_read.specs.declared.kind.Kind.{Kind}
 pub use Rattle.bag_read.specs.declared.kind.Kind.TheVariants.{Payload, Tag}
 pub use Rattle.bag_read.specs.declared.line_fault.LineFault.{LineFault}
-pub use Rattle.bag_read.specs.declared.manifest.ManifestEntry.{ManifestEntry}
+pub use Rattle.bag_entries.specs.declared.entry.ManifestEntry.{ManifestEntry}
 pub use Rattle.bag_read.specs.declared.oxum.Oxum.{Oxum}
 pub use Rattle.bag_read.specs.declared.tag_name.TagName.{TagName}
 pub use Rattle.bag_read.specs.declared.tag_name.TagName.TheVariants.{Fetch, Info}

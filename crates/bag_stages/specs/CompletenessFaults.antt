@@ -10,7 +10,7 @@ use Rattle.bag_text.specs.declared.code.Code.TheVariants.{PayloadFileMissing, Ta
 use Rattle.bag_text.specs.declared.code.Code.TheVariants.{PayloadFileNotListed, NameClash}
 use Rattle.bag_read.specs.declared.kind.Kind.{Kind}
 use Rattle.bag_read.specs.declared.kind.Kind.TheVariants.{Payload, Tag}
-use Rattle.bag_read.specs.declared.manifest.ManifestEntry.{ManifestEntry}
+use Rattle.bag_entries.specs.declared.entry.ManifestEntry.{ManifestEntry}
 use Rattle.bag_tree.specs.Bag.{Bag, LacksFile}
 use Rattle.bag_faults.specs.FaultAt.{of_path}
 use Rattle.bag_faults.specs.FaultOrder.{fault_cmp}

@@ -7,7 +7,7 @@ use Rattle.bag_text.specs.Order.{IsListOf}
 use Rattle.bag_text.specs.declared.alg.Alg.{Alg}
 use Rattle.bag_text.specs.declared.code.Code.TheVariants.{FetchNotInManifest}
 use Rattle.bag_read.specs.declared.fetch.FetchEntry.{FetchEntry}
-use Rattle.bag_read.specs.declared.manifest.ManifestEntry.{ManifestEntry}
+use Rattle.bag_entries.specs.declared.entry.ManifestEntry.{ManifestEntry}
 use Rattle.bag_tree.specs.Bag.{Bag}
 use Rattle.bag_faults.specs.FaultAt.{of_line}
 use Rattle.bag_faults.specs.declared.fault.Fault.{Fault}

@@ -4,7 +4,7 @@ use Rattle.bag_text.specs.Bytes.{Path}
 use Rattle.hex.specs.Hex.{encode_lower}
 use Rattle.bag_text.specs.declared.alg.Alg.{Alg}
 use Rattle.bag_read.specs.declared.kind.Kind.{Kind}
-use Rattle.bag_read.specs.declared.manifest.ManifestEntry.{ManifestEntry}
+use Rattle.bag_entries.specs.declared.entry.ManifestEntry.{ManifestEntry}
 use Rattle.bag_tree.specs.Bag.{Bag}
 use Rattle.bag_stages.specs.Expected.{Expected}
 use Rattle.bag_stages.specs.TagFiles.{Names}

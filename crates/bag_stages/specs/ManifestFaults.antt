@@ -8,7 +8,7 @@ use Rattle.bag_read.specs.Manifest.{IsManifestFault}
 use Rattle.bag_read.specs.ManifestName.{manifest_name, is_alg_text}
 use Rattle.bag_read.specs.declared.kind.Kind.{Kind}
 use Rattle.bag_read.specs.declared.kind.Kind.TheVariants.{Payload, Tag}
-use Rattle.bag_read.specs.declared.manifest.ManifestEntry.{ManifestEntry}
+use Rattle.bag_entries.specs.declared.entry.ManifestEntry.{ManifestEntry}
 use Rattle.bag_tree.specs.Bag.{Bag}
 use Rattle.bag_faults.specs.FaultAt.{of_path}
 use Rattle.bag_faults.specs.declared.fault.Fault.{Fault}

@@ -8,7 +8,7 @@ use Rattle.bag_text.specs.declared.code.Code.TheVariants.{PayloadSumDiffers, Tag
 use Rattle.bag_read.specs.Manifest.{IsEntry}
 use Rattle.bag_read.specs.declared.kind.Kind.{Kind}
 use Rattle.bag_read.specs.declared.kind.Kind.TheVariants.{Payload, Tag}
-use Rattle.bag_read.specs.declared.manifest.ManifestEntry.{ManifestEntry}
+use Rattle.bag_entries.specs.declared.entry.ManifestEntry.{ManifestEntry}
 use Rattle.bag_tree.specs.Bag.{Bag, file}
 use Rattle.bag_tree.specs.Digest.{digest}
 use Rattle.bag_faults.specs.declared.fault.Fault.{Fault}

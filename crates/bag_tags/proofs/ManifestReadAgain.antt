@@ -11,7 +11,7 @@ use Rattle.bag_text.proofs.ListOf.{contains_cases, contains_nothing}
 use Rattle.bag_read.proofs.ManifestCodes.{unread_line}
 use Rattle.bag_read.proofs.Reason.{never_ok, ok_same}
 use Rattle.bag_read.specs.Manifest.{HasUnreadLine}
-use Rattle.bag_read.specs.declared.manifest.ManifestEntry.{ManifestEntry}
+use Rattle.bag_entries.specs.declared.entry.ManifestEntry.{ManifestEntry}
 use Rattle.bag_text.specs.declared.rules.Rules.{Rules}
 use Rattle.bag_tags.specs.Entry.{entry_line_by, manifest_text_by}
 use Rattle.bag_tags.specs.ReadAgain.{ManifestIsReadAgainBy}

@@ -14,7 +14,7 @@ use Rattle.bag_read.specs.declared.info.Element.{Element}
 use Rattle.bag_read.specs.Declaration.{declared_version, declared_encoding, IsDeclarationFault}
 use Rattle.bag_read.specs.Manifest.{IsEntry, IsManifestFault}
 use Rattle.bag_read.specs.declared.kind.Kind.{Kind}
-use Rattle.bag_read.specs.declared.manifest.ManifestEntry.{ManifestEntry}
+use Rattle.bag_entries.specs.declared.entry.ManifestEntry.{ManifestEntry}
 use Rattle.bag_tags.specs.Declaration.{declaration_text}
 use Rattle.bag_tags.specs.Element.{NewElement, info_text, is_bad_element}
 use Rattle.bag_tags.specs.Entry.{NewEntry, manifest_text_by}

@@ -30,7 +30,6 @@ pub mod laws;
 mod line_cut;
 mod path;
 mod path_order;
-mod pool;
 mod read_text;
 mod rules;
 pub mod said;
@@ -51,7 +50,6 @@ pub use path::{
     PathFault, Unsafe, check_path, escape_path, is_payload, is_written_as_itself, unescape_path,
 };
 pub use path_order::{HasPath, sort_by_path};
-pub use pool::{Pool, Run};
 pub use read_text::{BYTE_ORDER_MARK, NotUtf8, lines, text_of};
 pub use rules::Rules;
 pub use sort_key::common_front;

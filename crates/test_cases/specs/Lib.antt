@@ -1,4 +1,1 @@
-pub mod CaseReports
-pub mod CaseTar
 pub mod Checked
-pub mod Shelf

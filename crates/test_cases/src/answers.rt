@@ -1,11 +1,13 @@
 //! What commands answer over the disk, and over disks in memory.
 use crate::commands::Verb;
 use bag_cli::{Disks, Folders, WriterOut, program};
+use bag_disk::DiskFault;
 use bag_renew_cli::renewal_program;
 use bag_store::{FileTree, Tree};
 use std::alloc::Global;
 use std::io::{self, ErrorKind, Write};
 use test_case_lines::{Answer, Bytes, Mistake};
+use test_world::{Refusing, World};
 
 /// An output with room for `room` more bytes.
 #[derive(Drop)]
@@ -40,6 +42,18 @@ pub(crate) fn answer_to<D: Disks>(alloc: Global, disks: &D, verb: Verb, words: &
         }
         _ => run(alloc, disks, verb, words),
     }
+}
+
+/// What a command answers over disks in memory, of each of which the call of a number is refused by
+/// a fault, from 0, or none: then their calls are counted.
+pub(crate) fn answer_in_memory(
+    alloc: Global,
+    world: &World,
+    refused: Option<(u64, DiskFault)>,
+    verb: Verb,
+    words: &[&str],
+) -> Answer {
+    answer_to(alloc, &Refusing::at(world, refused), verb, words)
 }
 
 /// What a program answers to words.

@@ -4,22 +4,15 @@
 #![tactic(auto)]
 
 mod answers;
-mod case_reports;
-mod case_tar;
 mod commands;
 mod files;
-mod on_disk;
-mod packing;
 mod renewals;
 mod running;
 mod segments;
 mod session;
-mod shelf;
 mod stages;
-mod tars;
 mod trees;
 mod turns;
-mod world;
 
 use crate::files::run_files;
 use std::env;

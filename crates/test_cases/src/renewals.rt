@@ -1,7 +1,6 @@
 //! Renewals on disks in memory.
 use crate::commands::Verb;
 use crate::turns::{Calls, Turns, see_in_turn};
-use crate::world::World;
 use bag_cli::Disks;
 use bag_disk::DiskFault;
 use bag_renew::renew;
@@ -10,6 +9,7 @@ use bag_store::FileTree;
 use std::alloc::{AllocError, Global};
 use test_case_lines::{Mistake, Report, Sight};
 use test_disk::MemoryDisk;
+use test_world::World;
 
 /// Renews the bags in the folders of words, where these say so, and keeps what is left.
 pub(crate) fn renew_in_memory(

@@ -1,15 +1,14 @@
 //! Commands, and what each side answers to them.
-use crate::answers::answer_to;
+use crate::answers::{answer_in_memory, answer_to};
 use crate::commands::{Verb, verb_of};
-use crate::shelf::answer_in_memory;
 use crate::turns::{Calls, Turns};
-use crate::world::World;
 use crate::{renewals, stages, trees, turns};
 use bag_cli::{Plan, Usage, plan_of};
 use std::str;
 use test_case_lines::{
     Entry, Line, Mistake, Report, Sight, lines_in_memory, lines_on_disk, words_of,
 };
+use test_world::World;
 
 /// Runs a command, and compares its answers.
 pub(crate) fn run(rt: &HostRuntime, sight: &Sight<'_>, world: &mut World, report: &mut Report) {
@@ -40,11 +39,11 @@ fn run_verb(
         Verb::RefuseTree | Verb::RefuseDisk(_) => see_planned(sight, verb, words, world, report),
         Verb::RefuseRenewal(fault) => renewals::see_refused(sight, fault, words, world, report),
         Verb::Stage => stages::see_stage(sight, words, world, report),
-        Verb::RunOnDisk if world.opened.is_some() => report.text.fail(Mistake::Place),
+        Verb::RunOnDisk if world.has_opened() => report.text.fail(Mistake::Place),
         Verb::RunOnDisk => see_on_disk(rt, sight, verb, words, report),
         Verb::Run | Verb::RunWithRoom(_) | Verb::Renew | Verb::List | Verb::Write => {
             // on the disk no file holds something else than is listed
-            if world.opened.is_some() {
+            if world.has_opened() {
                 return see_in_memory(sight, verb, words, world, report);
             }
             let (alloc, below) = (sight.texts.alloc, sight.entry.below);
@@ -90,7 +89,7 @@ fn see_in_memory(
     report.see(sight, "on a disk in memory", &found);
     match verb {
         Verb::Run => see_planned(sight, verb, words, world, report),
-        Verb::Renew if world.opened.is_none() => {
+        Verb::Renew if !world.has_opened() => {
             renewals::renew_in_memory(sight.texts.alloc, words, world, report);
         }
         _ => {}

@@ -1,12 +1,11 @@
 //! A session over a file of cases: its entries are followed one after another.
 use crate::running::run;
-use crate::tars::Tar;
-use crate::world::World;
 use std::alloc::{AllocError, Global};
 use test_case_lines::{
     Bytes, Entry, Line, Mistake, Reader, Report, Sight, Texts, Word, below, name_text,
     path_and_bytes, read_row, words_of,
 };
+use test_world::{Tar, World};
 
 /// What a file has said up to an entry.
 #[derive(Drop)]

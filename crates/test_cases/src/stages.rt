@@ -1,6 +1,6 @@
 //! The faults of one stage of a folder.
-use crate::world::World;
 use test_case_lines::{Mistake, Report, Sight};
+use test_world::World;
 
 /// `stage NUMBER DEPTH,.. FOLDER [PROFILE]`: compares the lines of the faults of one stage of a
 /// folder that can be a tree, the same at each depth, beside a profile where one is given.

@@ -3,13 +3,13 @@ ghost use Rattle.std.specs.Prelude.{None};
 ghost use Rattle.bag_store.specs.Tree.{Keeps};
 ghost use Rattle.test_cases.specs.Checked.{IsChecked};
 
-use crate::world::World;
 use bag_cli::{Action, Plan, elements, make_and_report, request_for};
 use bag_store::{FailTree, MemoryTree, Tree, WriteTree, WriterOut};
 use bag_text::Text;
 use bag_walk::{Part, Request, run, run_part, status};
 use std::alloc::{AllocError, Global};
 use test_case_lines::{Answer, Bytes, Mistake, Report, Sight};
+use test_world::World;
 
 /// Whether what a plan asks for can be done over trees: folders that can be trees are checked
 /// without a profile, or made bags.

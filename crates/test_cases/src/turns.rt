@@ -1,13 +1,12 @@
 //! Calls that are refused in turn: each that a run makes of which none is refused.
-use crate::answers::put_listing;
+use crate::answers::{answer_in_memory, put_listing};
 use crate::commands::Verb;
-use crate::shelf::answer_in_memory;
 use crate::trees::do_over_tree;
-use crate::world::World;
 use bag_cli::{Action, Plan};
 use bag_disk::DiskFault;
 use std::alloc::Global;
 use test_case_lines::{Answer, Bytes, Mistake, Report, Sight, Turn, is_wanted, see_turn};
+use test_world::World;
 
 /// Whose calls are refused.
 #[derive(Clone, Copy)]
@@ -33,7 +32,7 @@ impl Turns<'_> {
             Calls::Tree(plan, folder) => self.over_tree(plan, folder, u64::MAX),
             Calls::Disk(verb, words, _) => {
                 let answer = answer_in_memory(self.alloc, self.world, None, verb, words);
-                (answer, self.world.calls.get())
+                (answer, self.world.call_count())
             }
         }
     }

@@ -10,7 +10,7 @@ use Rattle.bag_disk.specs.declared.disk.Entry.{Entry}
 use Rattle.bag_disk.specs.declared.disk.DiskFault.{DiskFault}
 use Rattle.bag_disk.specs.declared.disk.DiskFault.TheVariants.{NotFound, Exists, Name, Memory}
 use Rattle.bag_disk.specs.declared.disk.DiskFault.TheVariants.{Device}
-use Rattle.test_disk.specs.Held.{nodes_of}
+use Rattle.test_nodes.specs.Held.{nodes_of}
 use Rattle.test_disk.specs.declared.memory_disk.MemoryDisk.{MemoryDisk}
 use Rattle.test_disk.specs.declared.swap.Swap.{Swap}
 

@@ -6,24 +6,18 @@
 //! let disk = MemoryDisk::holding(alloc, nodes);
 //! ```
 //!
-//! A `MemoryDisk` is honest until a file is swapped, and notes what its device did. A `RefusingDisk`
-//! is any disk of which one call is refused.
+//! A `MemoryDisk` is honest until a file is swapped, and notes what its device did.
 //!
 //! There is a `MemoryDisk` of all that can stand on a disk, and of nothing else. Clauses say why a
 //! call of it may be refused, but for `next_name`, `read`, `replace` and `remove`.
 #![tactic(auto)]
 
-mod changing;
-mod held;
 mod memory_changes;
 mod memory_disk;
-mod placing;
 mod reading;
-mod refusing_disk;
 mod swap;
 mod trail;
 
 pub use bag_tree::DeviceEvent;
-pub use held::Node;
 pub use memory_disk::MemoryDisk;
-pub use refusing_disk::{Call, RefusingDisk};
+pub use test_nodes::Node;

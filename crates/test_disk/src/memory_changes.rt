@@ -1,17 +1,16 @@
 //! Changes of a disk in memory, which its device notes.
-use crate::changing::{add_node, append, moved_to, put_in_place, removed};
-use crate::held::{Node, is_folder};
 use crate::memory_disk::MemoryDisk;
 use crate::trail::{renamed, written};
 use bag_disk::{DiskFault, Refusal, ReplaceDisk, WritableDisk};
 use bag_text::Text;
 use bag_tree::DeviceEvent;
+use test_nodes::{Node, add_node, append, is_folder, moved_to, put_in_place, removed};
 
 impl WritableDisk for MemoryDisk {
     ghost use Rattle.std.specs.Prelude.{◌≡◌, IfErr, IfOk, IsTrue, length};
     ghost use Rattle.bag_text.specs.Path.{is_path};
-    ghost use Rattle.test_disk.specs.Changing.{MayRefuseAdding, MayRefuseMoving, MayRefuseSync};
-    ghost use Rattle.test_disk.specs.Changing.{MayRefuseSyncFolder, MayRefuseWriting};
+    ghost use Rattle.test_nodes.specs.Changing.{MayRefuseAdding, MayRefuseMoving, MayRefuseSync};
+    ghost use Rattle.test_nodes.specs.Changing.{MayRefuseSyncFolder, MayRefuseWriting};
     ghost use Rattle.test_disk.specs.DiskCalls.{Creates, MakesFolderAt, Renames, Syncs};
     ghost use Rattle.test_disk.specs.DiskCalls.{SyncsFolder, Writes};
     ghost use Rattle.test_disk.specs.MemoryDisk.{barred_of, state_of, written_of};

@@ -1,9 +1,7 @@
 //! A disk in memory.
-ghost use Rattle.test_disk.specs.Held.{nodes_of};
-ghost use Rattle.test_disk.specs.Placing.{PassesAsDisk};
+ghost use Rattle.test_nodes.specs.Held.{nodes_of};
+ghost use Rattle.test_nodes.specs.Placing.{PassesAsDisk};
 
-use crate::held::{Node, names_in, node_at};
-use crate::placing::are_placed;
 use crate::reading::read_at;
 use crate::swap::Swap;
 use crate::trail::Trail;
@@ -13,6 +11,7 @@ use bag_tree::DeviceEvent;
 use std::alloc::{AllocError, Global};
 use std::collections::BTreeMap;
 use std::str;
+use test_nodes::{Node, are_placed, names_in, node_at};
 
 /// A disk in memory, below its base folder. It is honest until a file is swapped. It notes what its
 /// device did.
@@ -171,7 +170,7 @@ impl Disk for MemoryDisk {
     ghost use Rattle.test_disk.specs.DiskCalls.{Enters, LooksAt, LooksAtNamed, NamesNext, Opens};
     ghost use Rattle.test_disk.specs.MemoryDisk.{IsEntry, MayRefuse, barred_of, content_of};
     ghost use Rattle.test_disk.specs.MemoryDisk.{is_barred, state_of};
-    ghost use Rattle.test_disk.specs.PlacingLaw.{passing_is_disk};
+    ghost use Rattle.test_nodes.specs.PlacingLaw.{passing_is_disk};
 
     ghost state = { state_of };
 

@@ -8,7 +8,7 @@ ghost use Rattle.test_disk.specs.MemoryDisk.{fresh, state_of};
 
 use bag_cli::laws::honest_disks_are_reported;
 use bag_cli::{Disks, Folders, Plan, ReadFault, perform};
-use bag_join::HeldReports;
+use bag_reports::HeldReports;
 use bag_tar::MemoryArchive;
 use bag_text::Text;
 use bag_tree::Out;

@@ -1,5 +1,5 @@
 use Rattle.bag_arguments.proofs.Common.{◌∙◌, sym, arith, take_all, fold_more, algs, name, Alg, app_of, flag_rule}
-use Rattle.bag_arguments.proofs.Adding.{added, with_rules-map}
+use Rattle.bag_words.proofs.Adding.{added, with_rules-map}
 use Rattle.bag_arguments.proofs.command.with_alg_arguments.Goals as goal
 
 pub loop-alg-preserved : goal.loop-alg-preserved

@@ -1,5 +1,5 @@
 use Rattle.bag_arguments.proofs.Common.{arith, take_all, fold_more, app_of, option_rule, label_option, Label}
-use Rattle.bag_arguments.proofs.Adding.{added, with_rules-map}
+use Rattle.bag_words.proofs.Adding.{added, with_rules-map}
 use Rattle.bag_arguments.proofs.command.with_label_arguments.Goals as goal
 
 pub loop-label-preserved : goal.loop-label-preserved

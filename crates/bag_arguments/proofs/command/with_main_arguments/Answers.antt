@@ -1,5 +1,5 @@
 use Rattle.bag_arguments.proofs.Common.{refl, IfOk-weaker}
-use Rattle.bag_arguments.proofs.Adding.{added}
+use Rattle.bag_words.proofs.Adding.{added}
 use Rattle.bag_arguments.proofs.command.with_main_arguments.Goals as goal
 
 pub returns : goal.returns

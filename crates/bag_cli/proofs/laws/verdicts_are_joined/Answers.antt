@@ -1,7 +1,7 @@
 use Rattle.bag_cli.proofs.Common.{◌≡◌, ◌≢◌, ℕ, List, inl, inr, AreJoined, Event, OutState, Outcome, ReportsState}
 use Rattle.bag_cli.proofs.Common.{status}
 use Rattle.bag_join.specs.Join.{IsJoined}
-use Rattle.bag_join.specs.Reports.{all_given}
+use Rattle.bag_reports.specs.Reports.{all_given}
 use Rattle.bag_cli.proofs.Joins.{verdict_joined}
 use Rattle.bag_cli.proofs.laws.verdicts_are_joined.Goals as goal
 

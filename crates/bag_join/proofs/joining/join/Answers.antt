@@ -1,4 +1,4 @@
-use Rattle.bag_join.specs.declared.refusal.Cause.TheVariants.{Memory}
+use Rattle.bag_reports.specs.declared.refusal.Cause.TheVariants.{Memory}
 use Rattle.bag_join.proofs.Left.{nothing_left}
 use Rattle.bag_join.proofs.joining.join.Goals as goal
 

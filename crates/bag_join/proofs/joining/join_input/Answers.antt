@@ -1,9 +1,9 @@
 use Rattle.std.proofs.Common.{IsTrue, [], ap, arith, subst, sym}
 use Rattle.std.proofs.lemmas.Grind.{common_steps}
-use Rattle.bag_join.proofs.Ends.{may_refuse}
+use Rattle.bag_reports.proofs.Ends.{may_refuse}
+use Rattle.bag_reports.proofs.OneReport.{same_more}
 use Rattle.bag_join.proofs.Joined.{joins_all}
 use Rattle.bag_join.proofs.Left.{closing_left, nothing_left, report_left}
-use Rattle.bag_join.proofs.OneReport.{same_more}
 use Rattle.bag_join.proofs.Turns.{report_written, same_plan}
 use Rattle.bag_join.proofs.joining.join_input.Goals as goal
 

@@ -1,5 +1,5 @@
 use Rattle.std.proofs.Common.{None}
-use Rattle.bag_join.proofs.Left.{leaves_as}
+use Rattle.bag_reports.proofs.LeftLines.{leaves_as}
 use Rattle.bag_join.proofs.joining.write_again.Goals as goal
 
 pub returns-in-Err-clause-left : goal.returns-in-Err-clause-left

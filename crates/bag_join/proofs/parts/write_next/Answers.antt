@@ -1,11 +1,11 @@
 use Rattle.std.proofs.Common.{◌≡◌, [], true, sym, ap, ◌∙◌, arith, vec_len}
 use Rattle.std.proofs.lemmas.Grind.{common_steps}
-use Rattle.bag_join.specs.DoneLine.{line_for}
+use Rattle.bag_reports.specs.DoneLine.{line_for}
+use Rattle.bag_reports.proofs.Ends.{may_refuse}
+use Rattle.bag_reports.proofs.LeftLines.{leaves_all}
 use Rattle.bag_join.proofs.Joined.{joins_part, part_is, part_numbered}
 use Rattle.bag_join.specs.Findings.{faults_at, keys_at}
-use Rattle.bag_join.proofs.Ends.{may_refuse}
 use Rattle.bag_join.proofs.Findings.{front_at}
-use Rattle.bag_join.proofs.Left.{leaves_all}
 use Rattle.bag_join.proofs.Turns.{front_is_other, front_planned, front_says_none, turn_ahead}
 use Rattle.bag_join.proofs.parts.write_next.Goals as goal
 

@@ -1,9 +1,9 @@
 use Rattle.std.proofs.Common.{◌≡◌, ℕ, ◌<◌, None, Some, length, subst, vec_len, arith}
 use Rattle.std.proofs.lemmas.Grind.{common_steps}
+use Rattle.bag_reports.proofs.LeftLines.{leaves_on}
+use Rattle.bag_reports.proofs.OneReport.{same_itself, same_more}
 use Rattle.bag_join.specs.Join.{JoinsPart}
 use Rattle.bag_join.proofs.Joined.{joins_more, joins_none, part_numbered}
-use Rattle.bag_join.proofs.Left.{leaves_on}
-use Rattle.bag_join.proofs.OneReport.{same_itself, same_more}
 use Rattle.bag_join.proofs.Turns.{has_place, place_at, turn_comes, writes_first_more, writes_first_none}
 use Rattle.bag_join.proofs.parts.write_parts.Goals as goal
 

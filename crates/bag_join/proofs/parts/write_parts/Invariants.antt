@@ -1,7 +1,7 @@
 use Rattle.std.proofs.Common.{IsTrue, length}
+use Rattle.bag_reports.specs.Reports.{SameReports}
 use Rattle.bag_join.specs.Findings.{AreFindings, Findings, IsPlanFor}
 use Rattle.bag_join.specs.Join.{JoinsFirst}
-use Rattle.bag_join.specs.Reports.{SameReports}
 use Rattle.bag_join.proofs.Turns.{WritesFirst}
 use Rattle.bag_join.proofs.parts.write_parts.Given as goal
 

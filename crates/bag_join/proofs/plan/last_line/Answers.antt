@@ -1,7 +1,7 @@
 use Rattle.std.proofs.Common.{◌≡◌, ◌++◌, true, false, arith, codes}
 use Rattle.std.proofs.lemmas.Grind.{common_steps}
-use Rattle.bag_join.proofs.LastLine.{nears_end, nears_more}
-use Rattle.bag_join.proofs.OneReport.{reads_more}
+use Rattle.bag_reports.proofs.LastLine.{nears_end, nears_more}
+use Rattle.bag_reports.proofs.OneReport.{reads_more}
 use Rattle.bag_join.proofs.plan.last_line.Goals as goal
 
 pub lines-preserved : goal.lines-preserved

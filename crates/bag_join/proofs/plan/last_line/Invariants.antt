@@ -1,5 +1,5 @@
-use Rattle.bag_join.specs.Reports.{ReadsOn}
-use Rattle.bag_join.proofs.LastLine.{Nears}
+use Rattle.bag_reports.specs.Reports.{ReadsOn}
+use Rattle.bag_reports.proofs.LastLine.{Nears}
 use Rattle.bag_join.proofs.plan.last_line.Given as goal
 
 abbrev pub invariant-lines : goal.invariant-lines

@@ -1,8 +1,8 @@
 use Rattle.std.proofs.Common.{◌≡◌, get_or, length, vec_len, arith, ap, sym, ◌∙◌, replicate, None, Some}
 use Rattle.std.specs.Prelude.{slice_get, slice_set}
 use Rattle.std.proofs.lemmas.Grind.{common_steps}
+use Rattle.bag_reports.proofs.OneReport.{same_itself, same_more}
 use Rattle.bag_join.proofs.Placing.{all_placed, fills_next, fills_none, held_count, is_planned, next_free, order_is}
-use Rattle.bag_join.proofs.OneReport.{same_itself, same_more}
 use Rattle.bag_join.proofs.plan.plan_of.Goals as goal
 
 pub returns-in_err-subject-clause-whole : goal.returns-in_err-subject-clause-whole

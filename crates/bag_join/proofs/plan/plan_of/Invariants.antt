@@ -1,5 +1,5 @@
+use Rattle.bag_reports.specs.Reports.{SameReports}
 use Rattle.bag_join.specs.Findings.{AreWhole, Findings}
-use Rattle.bag_join.specs.Reports.{SameReports}
 use Rattle.bag_join.proofs.Placing.{FillsFirst}
 use Rattle.bag_join.proofs.plan.plan_of.Given as goal
 

@@ -1,8 +1,9 @@
 use Rattle.std.proofs.Common.{Some, ap, ◌∙◌, subst, sym, None}
-use Rattle.bag_join.specs.DoneLine.{IsDoneLineOf}
+use Rattle.bag_reports.specs.DoneLine.{IsDoneLineOf}
+use Rattle.bag_reports.proofs.FileLines.{are_lines}
 use Rattle.bag_join.specs.Findings.{done_at, faults_at, keys_at}
-use Rattle.bag_join.proofs.FileLines.{are_lines}
-use Rattle.bag_join.proofs.Findings.{after_none, few_at, file_lines, front_at, is_said, lines_at, part_after, read_alike}
+use Rattle.bag_join.proofs.Findings.{after_none, few_at, file_lines, front_at, is_said, lines_at, part_after}
+use Rattle.bag_join.proofs.Findings.{read_alike}
 use Rattle.bag_join.proofs.Turns.{front_is_other}
 use Rattle.bag_join.proofs.plan.read_closing.Goals as goal
 

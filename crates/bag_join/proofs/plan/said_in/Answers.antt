@@ -1,6 +1,6 @@
 use Rattle.std.proofs.Common.{arith, sym, subst}
 use Rattle.std.specs.Prelude.{IsUtf8}
-use Rattle.bag_join.proofs.Other.{AreSmall, done_is_text}
+use Rattle.bag_reports.proofs.Other.{AreSmall, done_is_text}
 use Rattle.bag_join.proofs.plan.said_in.Goals as goal
 
 pub returns-in_default : goal.returns-in_default

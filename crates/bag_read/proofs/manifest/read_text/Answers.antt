@@ -1,6 +1,6 @@
 use Rattle.bag_read.proofs.Common.{Bool, List, false, refl, ℕ, ◌∙◌, ◌≡◌, contains, nat_cmp, lines}
 use Rattle.bag_read.proofs.Reason.{both_ok}
-use Rattle.bag_read.proofs.RepeatedLines.{different_told, repeats_told}
+use Rattle.bag_read.proofs.ToldRepeats.{different_told, repeats_told}
 use Rattle.bag_read.proofs.manifest.read_text.Goals as goal
 
 pub returns-then-branch : goal.returns-then-branch

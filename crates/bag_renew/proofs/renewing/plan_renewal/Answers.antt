@@ -1,10 +1,10 @@
 use Rattle.bag_renew.proofs.Common.{refl, sym, subst, ◌∙◌}
 use Rattle.bag_text.specs.Lines.{lines_of_file}
 use Rattle.bag_facts.specs.FactsOfBag.{IfBagRead}
-use Rattle.bag_renew.proofs.Openings.{before_by_info, for_renewal_of_none}
+use Rattle.bag_changes.proofs.Openings.{before_by_info, for_renewal_of_none}
 use Rattle.bag_renew.proofs.PlannedRenewal.{planned}
 use Rattle.bag_renew.proofs.ReadForRenewal.{deep, info_refused}
-use Rattle.bag_renew.specs.NewInfo.{IsInfoAfter, IsInfoRefusal}
+use Rattle.bag_changes.specs.NewInfo.{IsInfoAfter, IsInfoRefusal}
 use Rattle.bag_renew.specs.Renew.{HasPlanned}
 use Rattle.bag_renew.proofs.renewing.plan_renewal.Goals as goal
 

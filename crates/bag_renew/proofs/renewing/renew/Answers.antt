@@ -1,9 +1,9 @@
 use Rattle.bag_renew.proofs.Common.{All, ap, begun_file, sym, subst}
 use Rattle.std.proofs.lemmas.Result.{err_from_is_err_and}
 use Rattle.bag_renew.proofs.WholeRenewal.{one_result, refused_before}
-use Rattle.bag_renew.specs.Openings.{OpensBefore}
+use Rattle.bag_changes.specs.Openings.{OpensBefore}
 use Rattle.bag_tree.specs.ChangeFiles.{IsOfFile}
-use Rattle.bag_renew.specs.Reading.{MayRefuseReading}
+use Rattle.bag_changes.specs.Reading.{MayRefuseReading}
 use Rattle.bag_renew.specs.Renew.{HasPlanned}
 use Rattle.bag_renew.proofs.renewing.renew.Goals as goal
 

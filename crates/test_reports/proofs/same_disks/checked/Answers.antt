@@ -1,6 +1,6 @@
 use Rattle.std.proofs.Common.{◌≡◌, ℕ, List, [], Option, None, refl, subst}
 use Rattle.bag_program.specs.SystemReports.{unread_reports}
-use Rattle.bag_join.specs.Reports.{ReportsState}
+use Rattle.bag_reports.specs.Reports.{ReportsState}
 use Rattle.bag_archive.specs.Archive.{ArchiveState}
 use Rattle.bag_archive.specs.MemoryArchive.{state_of_bytes}
 use Rattle.bag_tree.specs.Tree.{TreeState}

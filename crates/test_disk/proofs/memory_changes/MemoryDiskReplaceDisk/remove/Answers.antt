@@ -1,5 +1,5 @@
-use Rattle.test_disk.specs.Held.{nodes_of}
-use Rattle.test_disk.proofs.Placed.{disk_passes}
+use Rattle.test_nodes.specs.Held.{nodes_of}
+use Rattle.test_nodes.proofs.Placed.{disk_passes}
 use Rattle.test_disk.proofs.memory_changes.MemoryDiskReplaceDisk.remove.Goals as goal
 
 pub invariant_of-self-2 : goal.invariant_of-self-2

@@ -1,8 +1,8 @@
 use Rattle.std.proofs.Common.{ℕ, List, subst, sym}
 use Rattle.bag_disk.specs.DiskNodes.{IsFileWith}
 use Rattle.bag_disk.specs.ReplaceDisk.{Replaces}
-use Rattle.test_disk.specs.Held.{nodes_of}
-use Rattle.test_disk.proofs.Placed.{disk_passes}
+use Rattle.test_nodes.specs.Held.{nodes_of}
+use Rattle.test_nodes.proofs.Placed.{disk_passes}
 use Rattle.test_disk.proofs.memory_changes.MemoryDiskReplaceDisk.replace.Goals as goal
 
 pub invariant_of-self-2 : goal.invariant_of-self-2

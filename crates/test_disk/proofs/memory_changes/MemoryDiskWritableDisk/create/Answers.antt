@@ -1,8 +1,8 @@
 use Rattle.std.proofs.Common.{refl, ap, ◌∙◌, []}
 use Rattle.std.specs.FinMap as map
 use Rattle.bag_disk.specs.Disk.Node.{File}
-use Rattle.test_disk.specs.Held.{nodes_of}
-use Rattle.test_disk.proofs.PutPlaced.{added_passes}
+use Rattle.test_nodes.specs.Held.{nodes_of}
+use Rattle.test_nodes.proofs.PutPlaced.{added_passes}
 use Rattle.test_disk.proofs.memory_changes.MemoryDiskWritableDisk.create.Goals as goal
 
 pub invariant_of-self-2 : goal.invariant_of-self-2

@@ -1,7 +1,7 @@
 use Rattle.std.proofs.Common.{refl}
 use Rattle.bag_disk.specs.Disk.Node.{Folder}
-use Rattle.test_disk.specs.Held.{nodes_of}
-use Rattle.test_disk.proofs.PutPlaced.{added_passes}
+use Rattle.test_nodes.specs.Held.{nodes_of}
+use Rattle.test_nodes.proofs.PutPlaced.{added_passes}
 use Rattle.test_disk.proofs.memory_changes.MemoryDiskWritableDisk.make_folder.Goals as goal
 
 pub invariant_of-self-2 : goal.invariant_of-self-2

@@ -2,9 +2,9 @@ use Rattle.std.proofs.Common.{◌≡◌, None, arith}
 use Rattle.std.proofs.lemmas.Grind.{common_steps}
 use Rattle.bag_disk.specs.DiskNodes.{node}
 use Rattle.bag_tree.specs.Moved.{moved}
-use Rattle.test_disk.specs.Held.{nodes_of}
-use Rattle.test_disk.proofs.HeldMoved.{others_stay}
-use Rattle.test_disk.proofs.Placed.{disk_passes}
+use Rattle.test_nodes.specs.Held.{nodes_of}
+use Rattle.test_nodes.proofs.HeldMoved.{others_stay}
+use Rattle.test_nodes.proofs.Placed.{disk_passes}
 use Rattle.test_disk.proofs.memory_changes.MemoryDiskWritableDisk.rename.Goals as goal
 
 pub invariant_of-self-2 : goal.invariant_of-self-2

@@ -1,6 +1,6 @@
-use Rattle.test_disk.specs.Held.{nodes_of}
-use Rattle.test_disk.proofs.Placed.{bytes_below}
-use Rattle.test_disk.proofs.PutPlaced.{appended_passes}
+use Rattle.test_nodes.specs.Held.{nodes_of}
+use Rattle.test_nodes.proofs.Placed.{bytes_below}
+use Rattle.test_nodes.proofs.PutPlaced.{appended_passes}
 use Rattle.test_disk.proofs.memory_changes.MemoryDiskWritableDisk.write.Goals as goal
 
 pub invariant_of-self-2 : goal.invariant_of-self-2

@@ -1,6 +1,6 @@
 use Rattle.std.proofs.Common.{sym, subst}
 use Rattle.bag_disk.specs.DiskNodes.{empty_disk, IsDisk}
-use Rattle.test_disk.specs.Held.{nodes_of}
+use Rattle.test_nodes.specs.Held.{nodes_of}
 use Rattle.test_disk.proofs.memory_disk.MemoryDisk.empty.Goals as goal
 
 pub with_nodes-requires : goal.with_nodes-requires

@@ -1,9 +1,9 @@
 use Rattle.std.proofs.Common.{subst, sym, ap, ◌∙◌}
 use Rattle.bag_disk.specs.DiskNodes.{IsDisk}
-use Rattle.test_disk.specs.Held.{nodes_of}
+use Rattle.test_nodes.specs.Held.{nodes_of}
 use Rattle.test_disk.specs.MemoryDisk.{fresh}
-use Rattle.test_disk.specs.PlacingLaw.{passing_is_disk}
-use Rattle.test_disk.proofs.HeldCopied.{held_cloned}
+use Rattle.test_nodes.specs.PlacingLaw.{passing_is_disk}
+use Rattle.test_nodes.proofs.HeldCopied.{held_cloned}
 use Rattle.test_disk.proofs.memory_disk.MemoryDisk.fresh_copy.Goals as goal
 
 pub with_nodes-requires : goal.with_nodes-requires

@@ -1,5 +1,5 @@
-use Rattle.test_disk.specs.Held.{nodes_of}
-use Rattle.test_disk.proofs.Placed.{disk_passes}
+use Rattle.test_nodes.specs.Held.{nodes_of}
+use Rattle.test_nodes.proofs.Placed.{disk_passes}
 use Rattle.test_disk.proofs.memory_disk.MemoryDisk.with_nodes.Goals as goal
 
 pub invariant_of-result : goal.invariant_of-result

@@ -1,8 +1,8 @@
 use Rattle.std.proofs.Common.{arith, subst, sym, ap, ◌∙◌}
 use Rattle.std.proofs.lemmas.Grind.{common_steps}
 use Rattle.bag_disk.specs.DiskNodes.{AreNamesIn}
-use Rattle.test_disk.specs.Held.{names_in, nodes_of}
-use Rattle.test_disk.proofs.HeldNames.{names_are_in}
+use Rattle.test_nodes.specs.Held.{names_in, nodes_of}
+use Rattle.test_nodes.proofs.HeldNames.{names_are_in}
 use Rattle.test_disk.proofs.memory_disk.MemoryDiskDisk.enter.Goals as goal
 
 pub returns-clause-enters : goal.returns-clause-enters

@@ -1,6 +1,6 @@
 use Rattle.std.proofs.Common.{arith, ◌<◌, length, get_or, ap, sym, subst, ◌∙◌, IsUtf8}
 use Rattle.std.proofs.lemmas.Grind.{common_steps}
-use Rattle.test_disk.proofs.HeldNames.{next_unnamed}
+use Rattle.test_nodes.proofs.HeldNames.{next_unnamed}
 use Rattle.test_disk.proofs.memory_disk.MemoryDiskDisk.next_name.Goals as goal
 
 pub returns-in_default-from_utf8-clause-names : goal.returns-in_default-from_utf8-clause-names

@@ -1,0 +1,14 @@
+pub mod Changes
+pub mod Composed
+pub mod Composing
+pub mod Contents
+pub mod Folders
+pub mod Laws
+pub mod NewInfo
+pub mod Obstacles
+pub mod Openings
+pub mod Planned
+pub mod Reading
+pub mod Reserved
+pub mod Telling
+pub mod Valid

@@ -1,0 +1,3 @@
+pub mod Pool
+pub mod Repeats
+pub mod Spelled

@@ -1,4 +1,0 @@
-use Rattle.bag_join.proofs.noted.Noted.after.Given as goal
-
-abbrev pub ghost-these : goal.ghost-these
-ghost-these g a = g.items

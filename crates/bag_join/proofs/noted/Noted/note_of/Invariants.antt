@@ -1,5 +1,0 @@
-use Rattle.std.proofs.Common.{[], ◌∷◌, ◌++◌}
-use Rattle.bag_join.proofs.noted.Noted.note_of.Given as goal
-
-abbrev pub ghost-after : goal.ghost-after
-ghost-after g a = a.self.now.items ++ g.item ∷ []

@@ -1,5 +1,0 @@
-use Rattle.bag_read.proofs.Common.{◌≡◌, map, take, mark_of}
-use Rattle.bag_read.proofs.repeats.fingerprints.Given as goal
-
-abbrev pub invariant-loop-entry : goal.invariant-loop-entry
-invariant-loop-entry l = l.found.items ≡ map mark_of (take l.entry-index l.entries)

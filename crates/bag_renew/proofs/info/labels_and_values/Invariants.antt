@@ -1,6 +1,0 @@
-use Rattle.bag_renew.proofs.Common.{◌≡◌, take}
-use Rattle.bag_renew.specs.NewInfo.{labels_and_values}
-use Rattle.bag_renew.proofs.info.labels_and_values.Given as goal
-
-abbrev pub invariant-loop-element : goal.invariant-loop-element
-invariant-loop-element l = l.made.items ≡ labels_and_values (take l.element-index l.elements)

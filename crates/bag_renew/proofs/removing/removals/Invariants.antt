@@ -1,6 +1,0 @@
-use Rattle.bag_renew.proofs.Common.{◌≡◌, take}
-use Rattle.bag_renew.specs.Composing.{removals_of}
-use Rattle.bag_renew.proofs.removing.removals.Given as goal
-
-abbrev pub invariant-loop-alg : goal.invariant-loop-alg
-invariant-loop-alg l = l.changes.items ≡ removals_of l.fn.kind (take l.alg-index l.algs)

@@ -1,8 +1,0 @@
-use Rattle.bag_renew.proofs.Common.{◌∙◌, ◌++◌}
-use Rattle.bag_renew.proofs.OfFiles.{first_of_files}
-use Rattle.bag_renew.proofs.tag_files.first_files.Goals as goal
-
-pub returns-clause-files : goal.returns-clause-files
-returns-clause-files c =
-    first_of_files c.args.target.now.rules c.append.new.self.items c.args.info c.deref.result.now c.args.payload.now
-    (c.in_ok-append.ensures.items ∙ (λ i. c.in_ok-files.ensures i ++ c.in_ok-manifests.ensures i))

@@ -1,0 +1,16 @@
+pub mod Ahead
+pub mod Asked
+pub mod Closing
+pub mod Coming
+pub mod Ends
+pub mod Faults
+pub mod FileLines
+pub mod HeldAt
+pub mod KeyLines
+pub mod LastLine
+pub mod LeftLines
+pub mod OneReport
+pub mod Other
+pub mod Plain
+pub mod WholeReport
+pub mod Words

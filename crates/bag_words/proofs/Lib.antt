@@ -1,0 +1,5 @@
+pub mod Adding
+pub mod Common
+pub mod Declining
+pub mod OneKind
+pub mod Reading

@@ -1,0 +1,4 @@
+pub mod Changing
+pub mod Held
+pub mod Placing
+pub mod PlacingLaw

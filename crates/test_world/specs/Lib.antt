@@ -1,0 +1,5 @@
+pub mod CaseReports
+pub mod CaseTar
+pub mod Refusing
+pub mod RefusingDisk
+pub mod Shelf
