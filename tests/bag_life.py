@@ -29,9 +29,12 @@ ROOT = Path(__file__).resolve().parents[1]
 sys.path.insert(0, str(ROOT / "companions"))
 
 from bagitkeep import commands, edit, make, repack, restore  # noqa: E402, F401  so that who is forked needs no file of them
+from bagitkeep.program import MARK  # noqa: E402
 
 NAMES = ["-x", "new\nline", "back\\slash", "50%25 %", "caf\u00e9", "--from", "\x1b[2J", "d is valid", " ", "a" * 250]
 KILLS, NOBODY = 20, 65534
+# In the environment of a program that a command starts: which command that is.
+STARTED_BY = "BAG_LIFE_STARTED_BY"
 STEPS = "rename", "unlink", "rmdir"
 counts = {"kills": 0, "steps": 0}
 
@@ -53,6 +56,16 @@ def content_of(folder):
             is_link = os.path.islink(path)
             found[os.path.relpath(path, folder)] = os.readlink(path).encode() if is_link else Path(path).read_bytes()
     return found
+
+
+def is_at_work(command):
+    """Whether a program that this command has started is still there. What is to stop it, in its guard's time, isn't meant."""
+    for file in Path("/proc").glob("[0-9]*/environ"):
+        with suppress(OSError):
+            marks = file.read_bytes()
+            if f"{STARTED_BY}={command}.".encode() in marks and MARK.encode() in marks:
+                return True
+    return False
 
 
 class Ended:
@@ -84,7 +97,7 @@ class Life(unittest.TestCase):
                 os.dup2(os.open(os.devnull, os.O_RDONLY), 0)
                 os.dup2(out.fileno(), 1)
                 os.dup2(said.fileno(), 2)
-                os.environ.update(environment)
+                os.environ.update({**environment, STARTED_BY: f"{os.getpid()}."})
                 if user is not None:
                     os.setgroups([])
                     os.setgid(user)
@@ -129,6 +142,8 @@ class Life(unittest.TestCase):
     def end(self, begun):
         number, *files = begun
         status = os.waitstatus_to_exitcode(os.waitpid(number, 0)[1])
+        while status == -signal.SIGKILL and is_at_work(number):
+            time.sleep(0.01)
         texts = []
         for file in files:
             file.seek(0)
@@ -146,7 +161,7 @@ class Life(unittest.TestCase):
         return ended
 
     def again(self, *words):
-        """A command that was killed is asked again. What the killed one has started may be at work for a moment."""
+        """A command that was killed is asked again. What it has started may hold its lock for a moment."""
         for _ in range(100):
             ended = self.run_it(*words)
             if "another process" not in ended.said:

@@ -1,4 +1,4 @@
-//! What is said of the words of a command line that ask for a part or join parts, each text once.
+//! What the program says of its words, and before a line about itself, each text once.
 
 /// A part is asked for at a depth that compares no digests.
 pub const PART_OF_DEPTH: &str =
@@ -12,9 +12,6 @@ pub const JOIN_WITH_OTHER: &str = "--join takes neither --quiet nor another opti
 
 /// What begins a line about the program itself.
 pub const PROGRAM: &str = "bagit: ";
-
-/// A word of the command line isn't UTF-8: the whole line, since it is said as of clap.
-pub const WORD_NOT_UTF8: &str = "bagit: a word isn't UTF-8\n";
 
 /// After an option that is only for checks.
 pub const NEEDS_VALIDATE: &str = " needs --validate";

@@ -21,7 +21,7 @@ use Rattle.bag_tags.specs.Writable as by_rules
 use Rattle.bag_tree.proofs.ListingLaw.{listings_are_of_the_bag}
 use Rattle.bag_tree.specs.Tree.{NothingFailed, TreeState}
 use Rattle.bag_tree.specs.declared.listing.FileEntry.{FileEntry}
-use Rattle.bag_renewed.proofs.AlgsMade.{same_truth}
+use Rattle.bag_facts.proofs.ListedPaths.{same_truth}
 use Rattle.bag_changes.specs.Obstacles.{CanNameFiles, IsFreeToChange, IsHindered, IsNamedAsTag, IsObstacle}
 use Rattle.bag_changes.specs.Obstacles.{first_outdated, first_unlisted, first_unnameable, has_percent, is_named_by_kept}
 use Rattle.bag_changes.specs.Obstacles.{is_unlisted, is_unnameable, is_unnameable_by, keeps_naming, paths_of}

@@ -1,4 +1,4 @@
--- What the changes of a renewal are composed of.
+-- How the changes of a renewal are composed, of files and of their digests.
 use Rattle.std.specs.Prelude.{ℕ, ◌||◌, Bool, not, List, [], ◌∷◌, ◌++◌, Option, bytes_eq}
 use Rattle.std.specs.Prelude.{All, map, if◌then◌else◌}
 use Rattle.std.specs.List.{list_any}

@@ -152,7 +152,7 @@ IsRefusalOfStop stop why.Memory = stop.cause ≡ cause_of.Memory
 IsRefusalOfStop stop (why.ReadStopped other) = (other ≡ stop) × (stop.cause ≢ cause_of.Memory)
 IsRefusalOfStop stop fault = ⊥
 
--- and the one for which a file isn't known to have its digests
+-- and the one for which a bag isn't known to be without a fault
 abbrev pub IsRefusalOf : Unchecked → RenewFault → Type 0
 IsRefusalOf (checked.Stopped stop) fault = IsRefusalOfStop stop fault
 IsRefusalOf (checked.Faulty found) fault = fault ≡ why.Faulty found

@@ -40,8 +40,8 @@ pub enum RenewFault {
     RemoveRefused(Text, TreeFault),
 }
 
-/// The refusal for which a file isn't known to have its digests.
-pub(crate) fn refusal(unchecked: Unchecked) -> RenewFault
+/// The refusal for which a bag isn't known to be without a fault.
+pub fn refusal(unchecked: Unchecked) -> RenewFault
     ensures { IsRefusalOf unchecked result }
 {
     match unchecked {

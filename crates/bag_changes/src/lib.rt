@@ -2,8 +2,9 @@
 //! order.
 //!
 //! ```
-//! let read = read_bag(alloc, tree, &renewal)?;
-//! let changes = changes_of(alloc, &facts, &target, summed, info)?;
+//! let (facts, target, checked) = read_bag(alloc, tree, &renewal)?;
+//! let info = info_file(alloc, &facts, &renewal, &target, checked.info.as_slice())?;
+//! let changes = changes_of(alloc, &facts, &target, checked.summed, info)?;
 //! ```
 //!
 //! All of the bag that is wanted is read first: a bag is refused with the first of its faults, else for
@@ -23,7 +24,7 @@ mod tag_files;
 mod unlisted;
 
 pub use composing::changes_of;
-pub use fault::RenewFault;
+pub use fault::{RenewFault, refusal};
 pub use info::info_file;
 pub use obstacles::BEGUN_FILE;
 pub use reading::read_bag;

@@ -2,7 +2,7 @@
 ghost use Rattle.std.specs.Prelude.{◌≡◌, ◌++◌, List, IfOk, bytes_eq, filter, map};
 ghost use Rattle.std.specs.List.{list_any};
 ghost use Rattle.bag_text.specs.Path.{is_payload_path};
-ghost use Rattle.bag_read.specs.ManifestName.{is_manifest_name, tag_path};
+ghost use Rattle.bag_read.specs.ManifestName.{tag_path};
 ghost use Rattle.bag_text.specs.declared.alg.Alg.{Alg as Member};
 ghost use Rattle.bag_tags.specs.Summed.{File};
 ghost use Rattle.bag_changes.specs.Composing as spec;
@@ -10,9 +10,7 @@ ghost use Rattle.bag_renewed.specs.Renewed as renewed;
 ghost use Rattle.bag_checked.specs.Summed.{AreSummedBy};
 
 use crate::obstacles::BEGUN_FILE;
-use bag_checked::INFO;
-use bag_read::{Kind, TagName, manifest_alg};
-use bag_renewed::DECLARATION;
+use bag_read::{DECLARATION, INFO, Kind, TagName, is_manifest_name};
 use bag_tags::{SummedFile, TagFile, sum_texts};
 use bag_text::{AlgSet, Text, is_payload};
 use bag_tree::Sums;
@@ -82,16 +80,9 @@ fn stays(path: &str) -> bool
     !is_payload(path)
         && path != DECLARATION
         && path != INFO
-        && !is_manifest(Kind::Payload, path)
-        && !is_manifest(Kind::Tag, path)
+        && !is_manifest_name(Kind::Payload, path)
+        && !is_manifest_name(Kind::Tag, path)
         && path != BEGUN_FILE
-}
-
-/// Whether a path is the name of a manifest, of any algorithm.
-pub(crate) fn is_manifest(kind: Kind, path: &str) -> bool
-    ensures { result ≡ is_manifest_name kind path.now }
-{
-    manifest_alg(kind, path).is_some()
 }
 
 /// What tag manifests name, in the order of their paths: the files that stay, and these texts.

@@ -1,5 +1,5 @@
 //! What keeps a bag without faults from being renewed.
-ghost use Rattle.std.specs.Prelude.{◌≡◌, ◌↔◌, ◌==◌, ◌&&◌, not, find, IfErr, IfOk, IsTrue};
+ghost use Rattle.std.specs.Prelude.{◌≡◌, ◌==◌, ◌&&◌, not, find, IfErr, IfOk, IsTrue};
 ghost use Rattle.std.specs.Prelude.{MatchOption, OnOk};
 ghost use Rattle.std.specs.List.{list_any};
 ghost use Rattle.std.specs.Option.{option_copied};
@@ -7,7 +7,6 @@ ghost use Rattle.bag_text.specs.Path.{slash};
 ghost use Rattle.bag_read.specs.ManifestName.{tag_path};
 ghost use Rattle.bag_read.specs.declared.tag_name.TagName.TheVariants.{Fetch};
 ghost use Rattle.bag_facts.specs.FactsOfBag.{IfBagRead, IsFactsOf};
-ghost use Rattle.bag_stages.specs.TagFiles.{Names};
 ghost use Rattle.bag_tree.specs.Bag.{Bag, has_file};
 ghost use Rattle.bag_tree.specs.Tree.{NothingFailed};
 ghost use Rattle.bag_changes.specs.Folders.{OpensNothing};
@@ -18,13 +17,13 @@ ghost use Rattle.bag_renewed.specs.declared.renewal.Renewal.{Renewal as Asked};
 
 use crate::RenewFault;
 use crate::folders::check_folders;
-use crate::named::is_manifest;
 use crate::unlisted::unlisted_path;
 use bag_facts::Facts;
-use bag_read::Kind;
+use bag_read::{Kind, is_manifest_name};
 use bag_renewed::Target;
+use bag_stages::is_named;
 use bag_tags::is_unnameable as is_unnameable_by_rules;
-use bag_text::{Alg, Rules, Text};
+use bag_text::{Rules, Text};
 use bag_tree::{FileEntry, ReplaceTree};
 use std::alloc::{AllocError, Global};
 
@@ -41,9 +40,10 @@ const TAG_MANIFEST: &[u8] = b"tagmanifest-";
 const TEXT: &[u8] = b".txt";
 
 /// Whether nothing keeps a bag without faults from being renewed; else the first obstacle, in this
-/// order: what it fetches, its algorithms, the names of tag files, files that would be out of date,
-/// paths that no manifest can name, and files of the payload that none would name. The facts are
-/// those read for more than the declaration. Memory is taken for names only.
+/// order: what it fetches, its algorithms, the name of a begun file, files that would be out of
+/// date, folders with the name of a tag file or of a begun one, paths that no manifest can name, and
+/// files of the payload that none would name. The facts are those read for more than the
+/// declaration. Memory is taken for names only.
 ///
 /// A folder is in the way of a tag file of its name, also where it holds no file and isn't listed:
 /// the tree is asked for each name. No file is opened.
@@ -95,7 +95,7 @@ fn obstacle_asked(
         return Ok(Some(RenewFault::NoAlgorithm));
     }
     let begun = Text::from_str(alloc, BEGUN_FILE)?;
-    if is_named(facts, &begun) {
+    if is_named(facts, Kind::Tag, &begun) {
         return Ok(Some(RenewFault::InTheWay(begun)));
     }
     match outdated_path(alloc, facts)? {
@@ -153,7 +153,7 @@ fn is_other_tag_manifest(path: &str) -> bool
     bytes.starts_with(TAG_MANIFEST)
         && bytes.ends_with(TEXT)
         && !has_slash(path)
-        && !is_manifest(Kind::Tag, path)
+        && !is_manifest_name(Kind::Tag, path)
 }
 
 fn has_slash(path: &str) -> bool
@@ -168,28 +168,6 @@ fn has_old_fetch(facts: &Facts, target: &Target) -> bool
         result ≡ (not target.now.keeps && has_file bag (tag_path Fetch))) }
 {
     !target.keeps && facts.fetch_list().is_some()
-}
-
-/// Whether some tag manifest names a path.
-fn is_named(facts: &Facts, path: &Text) -> bool
-    ensures named { IfBagRead facts.now (λ bag.
-        IsTrue result → spec.IsNamedAsTag bag path.now) }
-    ensures unnamed { IfBagRead facts.now (λ bag.
-        spec.IsNamedAsTag bag path.now → IsTrue result) }
-{
-    Alg::ALL
-        .iter()
-        .any(|alg| is_named_by(facts, Kind::Tag, *alg, path))
-}
-
-/// Whether the manifest of a kind and an algorithm names a path.
-pub(crate) fn is_named_by(facts: &Facts, kind: Kind, alg: Alg, path: &Text) -> bool
-    ensures { IfBagRead facts.now (λ bag. IsTrue result ↔ Names bag kind alg path.now) }
-{
-    match facts.manifest(kind, alg) {
-        Some(manifest) => manifest.names(path),
-        None => false,
-    }
 }
 
 /// The first path that no manifest of the renewed bag can name, in path order.

@@ -10,7 +10,7 @@ use crate::obstacles::BEGUN_FILE;
 use crate::tag_files::push_where;
 use bag_facts::Facts;
 use bag_read::{Kind, TagName};
-use bag_renewed::{Target, algs_there, is_listed};
+use bag_renewed::{Target, algs_there};
 use bag_text::{Alg, Text};
 use bag_tree::FileChange;
 use std::alloc::{AllocError, Global};
@@ -24,7 +24,7 @@ pub(crate) fn opened(alloc: Global, facts: &Facts) -> Result<Vec<FileChange>, Al
     let there = algs_there(facts, Kind::Tag).members(alloc)?;
     let mut changes = removals(alloc, Kind::Tag, &there)?;
     let begun = FileChange::Remove(Text::from_str(alloc, BEGUN_FILE)?);
-    push_where(&mut changes, begun, is_listed(facts, BEGUN_FILE))?;
+    push_where(&mut changes, begun, facts.has_file(BEGUN_FILE))?;
     Ok(changes)
 }
 

@@ -8,10 +8,10 @@ ghost use Rattle.bag_renewed.specs.Renewed as renewed;
 ghost use Rattle.bag_renewed.specs.Target.{IfTarget};
 ghost use Rattle.bag_changes.specs.Telling.{AreStillListed};
 
-use crate::obstacles::is_named_by;
 use bag_facts::Facts;
 use bag_read::Kind;
 use bag_renewed::{Target, has, has_some};
+use bag_stages::is_named_by;
 use bag_text::{Alg, Rules, Text, is_payload};
 use bag_tree::FileEntry;
 use std::alloc::{AllocError, Global};

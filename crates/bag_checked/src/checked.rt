@@ -10,21 +10,19 @@ ghost use Rattle.bag_checked.specs.Checked.{DiffersFirst, IsChecked, IsCheckedAn
 ghost use Rattle.bag_checked.specs.OneReading.{AreReadOnce, IsLeftUnchecked};
 
 use bag_faults::Fault;
+use bag_read::INFO;
 use bag_stages::{Packed, faults_by};
 use bag_tags::sums_of;
 use bag_text::{AlgSet, Items, Text};
 use bag_tree::{FileEntry, Stop, Sums, Tree, digest_file, read_whole};
 use std::alloc::Global;
 
-/// The name of the metadata (RFC 8493, 2.2.2).
-pub const INFO: &str = "bag-info.txt";
-
-/// Why a file isn't known to have the digests that manifests give for it.
+/// Why a bag, or a file of it, isn't known to be without a fault.
 #[derive(Debug, Drop)]
 pub enum Unchecked {
-    /// The file was refused, or memory ran out.
+    /// The listing or a file was refused, or memory ran out.
     Stopped(Stop),
-    /// It has another digest. No digest of it was kept.
+    /// It has this fault: of a file, another digest than is given. No digest of it was kept.
     Faulty(Fault),
 }
 

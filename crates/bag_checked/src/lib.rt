@@ -21,7 +21,7 @@ mod further;
 mod stages;
 mod summed;
 
-pub use checked::{INFO, Unchecked, check_and_sum};
+pub use checked::{Unchecked, check_and_sum};
 pub use further::{FULL, new_manifests};
 pub use stages::check_stages;
 pub use summed::{CheckedFiles, check_files};

@@ -11,6 +11,7 @@ use Rattle.bag_program.specs.InTurn.{Deed}
 use Rattle.bag_cli.specs.Joined.{Reported}
 use Rattle.bag_cli.specs.Performed.{ReadableFiles, IsPerformed}
 use Rattle.bag_program.specs.ProgramRun.{IsRun}
+use Rattle.bag_program.specs.declared.no_words.NoWords.{NoWords}
 use Rattle.bag_cli.specs.TarChecked.{Archived}
 
 -- a plan was performed; where the words are refused, nothing is written
@@ -32,9 +33,10 @@ pub record IsProgram (below : Below) (archived : Archived) (reported : Reported)
   pub taken : clap_takes words ≡ true → IsNotRefused planned
   pub done : IsPlanPerformed below archived reported file planned before after visits n
 
--- What its words ask for was done by this program, on disks that hold this below each base folder, where tar files and
--- reports are these and files have these bytes.
-abbrev pub IsWholeProgram : (Result (List (List ℕ)) Usage → Type 0) → Below → Archived → Reported
+-- The program was given one of these answers, and did what it asks for, on disks that hold this
+-- below each base folder, where tar files and reports are these and files have these bytes; or
+-- memory for the words ran out, and then nothing is written.
+abbrev pub IsWholeProgram : (Result (List (List ℕ)) NoWords → Type 0) → Below → Archived → Reported
     → ReadableFiles → Deed
 IsWholeProgram answers below archived reported file =
-    IsRun answers (λ usage. IsNothing (usage_status usage)) (IsProgram below archived reported file)
+    IsRun answers (IsProgram below archived reported file)

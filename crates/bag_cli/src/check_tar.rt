@@ -63,7 +63,7 @@ impl<D: Disks> Work<'_, D> {
         self.folders.enter_tree(name, visits);
         let (tree, checked) = check_tree(self.alloc, tree, self.plan, profile, name, out);
         self.say_tar_trouble(tree.archive(), name, err);
-        self.folders.leave_tree(tree, visits);
+        self.folders.leave(tree, visits);
         whole_status(checked)
     }
 

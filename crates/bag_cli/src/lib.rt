@@ -7,13 +7,11 @@
 //! let status = run_program(&rt, &folders, &mut visits, &mut out, &mut err);
 //! ```
 //!
-//! `Disks` gives the disks that the program looks at, and the bytes of files elsewhere, as
-//! profiles; it is implemented for every runtime of the system, of which nothing is promised.
+//! `Disks`, of `bag_program`, gives the disks, tar files, reports and profiles that the program
+//! looks at.
 //!
 //! For each directory the output takes what the run theorem says of its tree, or what its making
-//! reported, and the status is the greatest of all. The disk is the one below the base folder; each
-//! folder whose tree is given, and as what it is left, is noted. A file's bytes are the whole file,
-//! up to a bound.
+//! reported, and the status is the greatest of all. The disk is the one below the base folder.
 #![tactic(auto)]
 
 mod all_checks;
@@ -38,7 +36,7 @@ mod work;
 
 pub use all_makings::elements;
 pub use bag_arguments::{Action, Plan, Usage, plan_of};
-pub use bag_program::{Disks, Folders, ReadFault, Visits, Words};
+pub use bag_program::{Disks, Folders, NoWords, ReadFault, Visits, Words};
 pub use bag_tree::WriterOut;
 pub use check::request_for;
 pub use making::make_and_report;

@@ -22,16 +22,15 @@ use std::alloc::Global;
 /// Gives the exit status, over several folders the greatest: 0 if a bag was checked to its end,
 /// without a cursor, and has no fault, or was made, or help was written; 1 if it has faults, or its
 /// report began at a cursor, stopped at a limit or is a part's; 2 if the profile is rejected; and 3
-/// if a read or a write failed, memory ran out, or a bag wasn't made. The profile is read first.
-/// If `out` fails, it stops. Unless the status is 2 or 3, `out` took a whole report for each bag
-/// that was checked, and the line of each that was made but for a quiet plan; or the report of one
-/// check, into which reports of parts were joined.
+/// if a read or a write failed, memory ran out, a bag wasn't made, or reports weren't joined. The
+/// profile is read first. If `out` fails, it stops. Unless the status is 2 or 3, `out` took a whole
+/// report for each bag that was checked, and the line of each that was made but for a quiet plan; or
+/// the report of one check, into which reports of parts were joined.
 ///
 /// `visits` are those that were made with the folders: each folder of the plan is looked into once
 /// at most, in order, and no other; the profile's file is read once, and no other; the reports that
-/// are joined are asked for together, and no folder beside them. Whatever a
-/// folder's status, the next one is asked for; where memory runs out for one, it stops, and that
-/// one was asked for.
+/// are joined are asked for together, and no folder beside them. Whatever a folder's status, the
+/// next one is asked for; where memory runs out for one, it stops, and that one was asked for.
 pub fn perform<D: Disks, O: Out, E: Out>(
     alloc: Global,
     folders: &Folders<'_, D>,

@@ -7,8 +7,8 @@ ghost use Rattle.bag_cli.specs.ProfileFile.{ReadsProfile};
 use crate::profile_refusal::ProfileRefusal;
 use bag_profile::{Profile, ProfileFault};
 use bag_program::{Disks, Folders, Visits};
+use bag_tags::sums_of;
 use bag_text::{Alg, AlgSet, Text};
-use bag_tree::Digests;
 use std::alloc::{AllocError, Global};
 
 /// A file of more bytes isn't read.
@@ -43,9 +43,7 @@ pub fn read_profile<D: Disks>(
 fn sha256_of(alloc: Global, bytes: &[u8]) -> Result<Text, AllocError>
     ensures { IfOk result (λ sum. sum ≡ digest Alg.Sha256 bytes.now) }
 {
-    let mut digests = Digests::new(AlgSet::empty().with(Alg::Sha256));
-    digests.update(bytes);
-    match digests.finish().hex(alloc, Alg::Sha256) {
+    match sums_of(bytes, AlgSet::empty().with(Alg::Sha256)).hex(alloc, Alg::Sha256) {
         Ok(sum) => Ok(Text::from_string(sum)),
         Err(_) => Err(AllocError),
     }

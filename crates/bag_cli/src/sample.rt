@@ -5,9 +5,8 @@ ghost use Rattle.bag_memory.specs.MemoryView.{state_of_memory};
 ghost use Rattle.bag_cli.specs.Sample.{sample_bag, sample_state};
 
 use bag_memory::MemoryTree;
+use bag_tags::DECLARATION_TEXT;
 use std::alloc::{AllocError, Global};
-
-const DECLARATION: &[u8] = b"BagIt-Version: 1.0\nTag-File-Character-Encoding: UTF-8\n";
 
 /// A bag with an empty payload, held in memory.
 pub(crate) fn sample_tree(alloc: Global) -> Result<MemoryTree, AllocError>
@@ -23,7 +22,7 @@ fn put_sample(tree: &mut MemoryTree) -> Result<(), AllocError>
     requires { state_of_memory tree.old ≡ memory_state empty_bag [] None }
     ensures { OnOk result (state_of_memory tree.new ≡ sample_state) }
 {
-    tree.put_file("bagit.txt", DECLARATION)?;
+    tree.put_file("bagit.txt", DECLARATION_TEXT.as_bytes())?;
     tree.put_file("manifest-sha256.txt", b"")?;
     tree.put_folder("data")
 }

@@ -6,8 +6,9 @@ ghost use Rattle.bag_cli.specs.Program.{IsProgram, IsWholeProgram};
 
 use crate::performing::perform;
 use crate::refuse_words;
-use bag_arguments::{Usage, plan_of};
-use bag_program::{Disks, Folders, Visits, Words, asked_words, texts_of};
+use bag_arguments::plan_of;
+use bag_arguments::said::PROGRAM;
+use bag_program::{Disks, Folders, NoWords, Visits, Words, asked_words, texts_of};
 use bag_tree::Out;
 use std::alloc::{AllocError, Global};
 
@@ -53,10 +54,10 @@ pub fn run_program<R: Words + AllocGlobal, D: Disks, O: Out, E: Out>(
     let alloc = rt.alloc();
     let words = match asked_words(alloc, rt) {
         Ok(words) => words,
-        Err(usage) => return refuse_words(&usage, err),
+        Err(why) => return why.tell(PROGRAM, err),
     };
     match texts_of(alloc, &words) {
         Ok(texts) => program(alloc, folders, &texts, visits, out, err),
-        Err(AllocError) => refuse_words(&Usage::Memory, err),
+        Err(AllocError) => NoWords::Memory.tell(PROGRAM, err),
     }
 }

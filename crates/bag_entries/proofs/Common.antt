@@ -10,7 +10,7 @@ pub use Rattle.std.proofs.lemmas.Bool.{not-true}
 pub use Rattle.std.proofs.lemmas.Bool.Decides.{nat_tests}
 pub use Rattle.std.proofs.lemmas.List.{get_or-map, length-map}
 pub use Rattle.std.proofs.lemmas.List.{map-append, take_more, take_more_set}
-pub use Rattle.std.proofs.lemmas.Option.{slice_get-get_or, slice_get_within}
+pub use Rattle.std.proofs.lemmas.Option.{get_or_from_slice_get, slice_get-get_or, slice_get_within}
 pub use Rattle.std.proofs.lemmas.Slice.Eq.{bytes_eq-Decides}
 pub use Rattle.std.specs.BTreeSet.{contains, contains_by}
 pub use Rattle.std.specs.Char.{is_ascii_hexdigit, to_ascii_lowercase}

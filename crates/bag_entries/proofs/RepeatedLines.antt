@@ -2,7 +2,7 @@
 use Rattle.bag_entries.proofs.Common.{Bool, List, Some, ap, arith, bytes_eq, cond, false, get_or, length, map, nat_eq}
 use Rattle.bag_entries.proofs.Common.{nat_lt, refl, rules, sym, true, ℕ, ◌+◌, ◌<◌, ◌∙◌, ◌≡◌, ◌≤◌, ◌⊎◌, both_ways}
 use Rattle.bag_entries.proofs.Common.{cases_lt, eqb-false, eqb-true, nat_tests, get_or-map, length-map}
-use Rattle.bag_entries.proofs.Common.{slice_get_within, bytes_eq-Decides, nat_cmp_is, Equal}
+use Rattle.bag_entries.proofs.Common.{slice_get_within, get_or_from_slice_get, bytes_eq-Decides, nat_cmp_is, Equal}
 use Rattle.bag_entries.proofs.Common.{IsTotalOrder, IsDistinct, slice_get, is_eq, is_lt, nat_cmp, IsTrue}
 use Rattle.std.specs.List.{IsAllAdjacentAnswer}
 use Rattle.bag_entries.proofs.Common.{Ordering, ◌↔◌, Less, text_cmp}
@@ -74,6 +74,16 @@ different_by_order entries up = λ i j d low high same.
     rw same at (up i d (omega arith)) in
     let none = rw near at far in
     cc
+
+-- a set of no line has those that name a path again, where the paths are all different
+pub none_named_again : (entries : List ManifestEntry) → AreDifferent entries → (n : ℕ) (b : Bool) → b ≡ false
+    → IsTrue b ↔ IsRepeatedLine entries n
+none_named_again entries different n b e = (λ h. absurd (clash b h e), λ r. absurd (none_repeated r))
+  where
+    none_repeated : ¬ (IsRepeatedLine entries n)
+    none_repeated (i, e, w, there, line_is, (j, d, low, before, same)) =
+        different j i e low w
+        (rw (get_or_from_slice_get entries j d e before, get_or_from_slice_get entries i e e there) same)
 
 -- one entry more
 module _ (entries : List ManifestEntry) (k : ℕ) (e : ManifestEntry) (at : slice_get entries k ≡ Some e) where

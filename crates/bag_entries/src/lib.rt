@@ -3,9 +3,7 @@
 //!
 //! ```
 //! let hex = entry.digest.to_text(alloc)?;
-//! if !are_different(alloc, entries)? {
-//!     let again = repeated_lines(alloc, entries)?;
-//! }
+//! let again = repeated_lines(alloc, entries)?;
 //! ```
 //!
 //! Of RFC 8493 it keeps digests (2.4) and that a manifest names a path once (2.1.3).
@@ -22,4 +20,4 @@ mod repeats;
 pub use digest::Digest;
 pub use entry::ManifestEntry;
 pub use pool::{Pool, Run};
-pub use repeats::{are_different, repeated_lines};
+pub use repeats::repeated_lines;

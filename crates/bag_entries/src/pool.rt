@@ -74,7 +74,9 @@ impl Pool {
     fn text_at(&self, which: usize, place: usize, text: &str) -> Option<Text>
         ensures { IfSome result (λ t. t ≡ text.now) }
     {
-        let found = Text::part_of(self.wholes.get(which)?, place, text)?;
+        let Ok(Some(found)) = Text::part_of(self.wholes.get(which)?, place, text) else {
+            return None;
+        };
         let after = place.saturating_add(text.len()).saturating_add(1);
         self.next.set((which, after));
         Some(found)

@@ -11,9 +11,20 @@ use std::alloc::{AllocError, Global};
 use std::collections::BTreeSet;
 use std::hash::{FoldHasher, Hasher};
 
-/// Whether entries name each path once; where they do, this may still be false. Takes time n log n
-/// in their number.
-pub fn are_different(alloc: Global, entries: &[ManifestEntry]) -> Result<bool, AllocError>
+/// The lines that name the path of an earlier entry. Takes time n log n in the number of entries,
+/// or n where their paths ascend.
+pub fn repeated_lines(alloc: Global, entries: &[ManifestEntry]) -> Result<BTreeSet<u64>, AllocError>
+    ensures { IfOk result (λ lines.
+        (n : ℕ) → IsTrue (contains nat_cmp lines n) ↔ IsRepeatedLine entries.now n) }
+{
+    if are_different(alloc, entries)? {
+        return Ok(BTreeSet::new(alloc));
+    }
+    lines_named_again(alloc, entries)
+}
+
+/// Whether the paths are known to differ; where they do, this may still be false.
+fn are_different(alloc: Global, entries: &[ManifestEntry]) -> Result<bool, AllocError>
     ensures { IfOk result (λ different. IsTrue different → AreDifferent entries.now) }
 {
     if is_ascending(entries) {
@@ -67,8 +78,8 @@ fn is_increasing(numbers: &[u64]) -> bool
     numbers.is_sorted_by(|a, b| a < b)
 }
 
-/// The lines that name the path of an earlier entry. Takes time n log n in the number of entries.
-pub fn repeated_lines(alloc: Global, entries: &[ManifestEntry]) -> Result<BTreeSet<u64>, AllocError>
+/// The lines that name the path of an earlier entry, found by looking up each path.
+fn lines_named_again(alloc: Global, entries: &[ManifestEntry]) -> Result<BTreeSet<u64>, AllocError>
     ensures { IfOk result (λ lines.
         (n : ℕ) → IsTrue (contains nat_cmp lines n) ↔ IsRepeatedLine entries.now n) }
 {

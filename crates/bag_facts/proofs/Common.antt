@@ -51,7 +51,7 @@ pub use Rattle.bag_text.specs.declared.rules.Rules.{Rules}
 pub use Rattle.bag_tree.proofs.Calm.{memory_refused, memory_then, memory_unlisted, nothing_asked, nothing_given}
 pub use Rattle.bag_tree.proofs.Calm.{nothing_then}
 pub use Rattle.bag_tree.proofs.SameText.{one_text, same_test, text_itself}
-pub use Rattle.bag_tree.specs.Bag.{Bag, HasFile, IsBag, file}
+pub use Rattle.bag_tree.specs.Bag.{Bag, HasFile, IsBag, file, has_file}
 pub use Rattle.bag_tree.specs.Listing.{IsListingOf, IsOrdered, entry_at, size_at}
 pub use Rattle.bag_tree.specs.Tree.{CameFromFile, FailsOver, Keeps, MayRefuseListing, TreeState}
 pub use Rattle.bag_tree.specs.Tree.{MayReportMemory, NothingFailed, IsRefusedAt}

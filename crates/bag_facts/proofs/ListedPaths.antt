@@ -2,13 +2,19 @@
 use Rattle.bag_facts.proofs.Common.{◌≡◌, ◌↔◌, ℕ, List, [], Bool, length, bytes_eq, subst, sym, ◌∙◌, Contains, IsTrue}
 use Rattle.bag_facts.proofs.Common.{Result, bytes_eq-Decides, list_any, is_ok, IsStrictlySortedBy, IsBinarySearchResult}
 use Rattle.bag_facts.proofs.Common.{IsSearchInRange, text_cmp, Bag, HasFile, IsOrdered, FileEntry, IsFactsOf, paths_of}
-use Rattle.bag_facts.proofs.Common.{Facts, any_from, from_any}
+use Rattle.bag_facts.proofs.Common.{Facts, any_from, from_any, true, false, refl}
 use Rattle.bag_facts.proofs.ByPath.{found, items_ascend}
 use Rattle.bag_facts.proofs.ListedFiles.{file_listed, listed_file}
 use Rattle.bag_facts.proofs.Mapped.{contains_mapped, mapped_contains}
 
 some_file : FileEntry
 some_file = record { path = []; size = 0 }
+
+-- two tests that hold alike give the same
+pub same_truth : (a b : Bool) → (a ≡ true → b ≡ true) → (b ≡ true → a ≡ true) → a ≡ b
+same_truth true b to from = sym (to refl)
+same_truth false true to from = from refl
+same_truth false false to from = refl
 
 -- a search by path tells whether a file has it
 pub path_found : (files : List FileEntry) (path : List ℕ) (r : Result ℕ ℕ) (b : Bool) → b ≡ is_ok r

@@ -7,7 +7,7 @@ ghost use Rattle.bag_text.specs.Path.{is_payload_path};
 ghost use Rattle.bag_text.specs.Rules.{rules_of};
 ghost use Rattle.bag_read.specs.ManifestName.{tag_path};
 ghost use Rattle.bag_read.specs.declared.tag_name.TagName.TheVariants as file_of;
-ghost use Rattle.bag_tree.specs.Bag.{Bag, IsBag, HasFile, file};
+ghost use Rattle.bag_tree.specs.Bag.{Bag, IsBag, HasFile, file, has_file};
 ghost use Rattle.bag_tree.specs.Tree.{Keeps, NothingFailed};
 ghost use Rattle.bag_facts.specs.Facts.{rules_in};
 ghost use Rattle.bag_facts.specs.FactsOfBag.{AreJudged, AreParsed, AreRulesOf, HasItsFolder};
@@ -185,6 +185,18 @@ impl Facts {
         ensures { result.now ≡ self.now.listing.files }
     {
         self.listing.files.as_slice()
+    }
+
+    /// Whether the bag has a file at a path, found in time log n of its files, whatever the facts
+    /// were read for.
+    pub fn has_file(&self, path: &str) -> bool
+        ensures { (bag : Bag) → IsFactsOf bag self.now → result ≡ has_file bag path.now }
+    {
+        self.listing
+            .files
+            .as_slice()
+            .binary_search_by(|entry| entry.path.as_str().cmp(path))
+            .is_ok()
     }
 
     /// The algorithms of which the bag has a manifest of this kind (RFC 8493, 2.1.3 and 2.2.1),

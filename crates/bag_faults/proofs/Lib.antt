@@ -11,4 +11,5 @@ pub mod Ordered
 pub mod Parts
 pub mod PassedOn
 pub mod Pieces
+pub mod PutParts
 pub mod Spaces

@@ -2,6 +2,7 @@ pub mod EarlierReports
 pub mod FaultAt
 pub mod FaultLine
 pub mod FaultOrder
+pub mod FaultParts
 pub mod Laws
 pub mod LineFields
 pub mod LineOf

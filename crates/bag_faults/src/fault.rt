@@ -231,7 +231,7 @@ fn append_fields(fault: &Fault, out: &mut String) -> Result<(), AllocError>
     append_text(fault.detail.as_str(), out)
 }
 
-fn alg_name(alg: Option<Alg>) -> &'static str
+pub(crate) fn alg_name(alg: Option<Alg>) -> &'static str
     ensures { result.now ≡ spec.alg_field alg }
 {
     match alg {

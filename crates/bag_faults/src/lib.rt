@@ -15,6 +15,7 @@ mod from_line;
 pub mod laws;
 mod options;
 mod part;
+mod put;
 mod stage;
 
 pub use fault::Fault;

@@ -1,6 +1,6 @@
 //! Why a folder wasn't made a bag, as it is said, each text once.
 
-/// The new tag files' folder is there already.
+/// A file stands where the files are held while they are moved.
 pub const IN_THE_WAY: &str = ".bagit-new is there";
 
 /// Before the file of a making that couldn't be read, and before the place of a step that was

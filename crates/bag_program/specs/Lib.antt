@@ -3,6 +3,7 @@ pub mod FolderDeeds
 pub mod Folders
 pub mod Halt
 pub mod InTurn
+pub mod NoWords
 pub mod ProgramRun
 pub mod Saying
 pub mod StoredEvent

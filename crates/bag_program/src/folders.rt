@@ -132,8 +132,8 @@ impl<'d, D: Disks> Folders<'d, D> {
         visits.note_of(&name);
     }
 
-    /// Drops a tree that a tar file made, which is left as it is now.
-    pub fn leave_tree<T: Tree + Drop>(&self, tree: T, visits: &mut Visits<D>)
+    /// Drops a tree, which is left as it is now.
+    pub fn leave<T: Tree + Drop>(&self, tree: T, visits: &mut Visits<D>)
         ensures { AddsEvent visits.old visits.new (Left (T.state tree)) }
     {
         visits.note_of(&tree);
@@ -142,14 +142,6 @@ impl<'d, D: Disks> Folders<'d, D> {
     /// Why the system refused last in a tree, for people to read, as far as that is known.
     pub fn trouble<'t>(&self, tree: &'t FileTree<D::Disk>) -> Option<&'t Trouble> {
         self.disks.trouble(tree.disk())
-    }
-
-    /// Drops a tree, which is left as it is now.
-    pub fn leave(&self, tree: FileTree<D::Disk>, visits: &mut Visits<D>)
-        ensures { AddsEvent visits.old visits.new
-            (Left (⟦<FileTree<D::Disk> as bag_tree::Tree>⟧.state tree)) }
-    {
-        visits.note_of(&tree);
     }
 
     /// The bytes of the file at a path, all of them. A file of more than `most` bytes can't be

@@ -4,7 +4,7 @@
 //! ```
 //! let (folders, mut visits) = Folders::of(&rt);
 //! let words = asked_words(alloc, &rt)?;
-//! let done = in_turn(names, &mut turn, &mut visits, &mut out, &mut err);
+//! let done = in_turn(&turn, names, &mut visits, &mut out, &mut err);
 //! let status = told_status(done, program, &mut err);
 //! ```
 //!
@@ -22,6 +22,7 @@ mod folder_deed;
 mod folders;
 mod halt;
 mod happening;
+mod no_words;
 mod one_by_one;
 mod read_fault;
 pub mod said;
@@ -39,6 +40,7 @@ pub use file_trouble::{FileTrouble, say_file_trouble};
 pub use folder_deed::{FolderDeed, InFolders};
 pub use folders::Folders;
 pub use halt::{Halt, told_status};
+pub use no_words::NoWords;
 pub use one_by_one::{Turn, in_turn};
 pub use read_fault::ReadFault;
 pub use saying::{say_ended, say_on};

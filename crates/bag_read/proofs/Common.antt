@@ -91,10 +91,9 @@ pub use Rattle.bag_read.specs.Laws.{IsOxum, OxumsReadAsTheirParts, WritesNumber}
 pub use Rattle.bag_read.specs.Reason.{Reason, decoded_or}
 pub use Rattle.bag_read.specs.FetchReasons.{IsFirst}
 pub use Rattle.bag_text.specs.FirstFault.{◌>>=◌}
-pub use Rattle.bag_entries.specs.Repeats.{PathsAscend, AreDifferent, IsRepeatedLine, NamesBelow, RepeatsBelow}
+pub use Rattle.bag_entries.specs.Repeats.{IsRepeatedLine}
 pub use Rattle.bag_read.specs.ReadOnce.{IsReadOnce}
 pub use Rattle.bag_read.specs.ReadOnce.{FindsRepeats}
-pub use Rattle.bag_entries.specs.Repeats.{fingerprint, mark_of}
 pub use Rattle.bag_read.specs.declared.fetch.FetchEntry.{FetchEntry}
 pub use Rattle.bag_read.specs.declared.info.Element.{Element}
 pub use Rattle.bag_read.specs.declared.kind.Kind.{Kind}

@@ -2,7 +2,7 @@
 use Rattle.bag_read.proofs.Common.{Bool, List, Some, ap, arith, false, refl, ℕ, ◌<◌, ◌∙◌, ◌≡◌, eq-or-lt_of_le}
 use Rattle.bag_read.proofs.Common.{cases_lt, get_or_from_slice_get, slice_get-get_or, slice_get_within}
 use Rattle.bag_read.proofs.Common.{slice_get, nat_cmp, on, Contains, IsTrue, ◌↔◌, IsLine, IsListOf, Alg, Rules}
-use Rattle.bag_read.proofs.Common.{entries_read, ReadsManifest, named_before, AreDifferent, IsRepeatedLine}
+use Rattle.bag_read.proofs.Common.{entries_read, ReadsManifest, named_before, IsRepeatedLine}
 use Rattle.bag_read.proofs.Common.{FindsRepeats, Kind, ManifestEntry}
 use Rattle.std.proofs.lemmas.Map.Keys.{Less-from_sorted}
 use Rattle.bag_read.proofs.FaultOrder.{lower}
@@ -73,13 +73,8 @@ module _ (rules : Rules) (kind : Kind) (alg : Alg) (all : List (List ℕ)) (at_f
             (j, _, places_ascend j i _ _ earlier this low, earlier, refl),
           )
 
-  none_repeated : AreDifferent items → (n : ℕ) → ¬ (IsRepeatedLine items n)
-  none_repeated different n (i, e, w, there, line_is, (j, d, low, before, same)) =
-      different j i e low w
-      (rw (get_or_from_slice_get items j d e before, get_or_from_slice_get items i e e there) same)
-
-  -- where the entries' paths are all different, none is named again
-  pub different_told : AreDifferent items → FindsRepeats rules kind alg all at_first
-  different_told different =
+  -- where no line names a path again, none needs to be known
+  pub none_told : ((n : ℕ) → ¬ (IsRepeatedLine items n)) → FindsRepeats rules kind alg all at_first
+  none_told none =
       repeats_told at_first (λ n path.
-      (λ t. absurd (clash (at_first n path) t (none_known n path)), λ r. absurd (none_repeated different n r)))
+      (λ t. absurd (clash (at_first n path) t (none_known n path)), λ r. absurd (none n r)))

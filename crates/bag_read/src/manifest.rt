@@ -18,7 +18,7 @@ use crate::line_fault::{
     LineForm, Parsed, Why, decode_known, line_count, read_lines, refuse, unread, without_prefix,
 };
 use crate::manifest_name::is_manifest_name;
-use bag_entries::{Digest, ManifestEntry, Pool, are_different, repeated_lines};
+use bag_entries::{Digest, ManifestEntry, Pool, repeated_lines};
 use bag_text::{Alg, Code, Rules, Text, check_path, is_payload, split_at_blanks, text_of};
 use std::alloc::{AllocError, Global};
 use std::collections::BTreeSet;
@@ -64,8 +64,7 @@ pub fn read_manifest_among(
     }
 }
 
-/// Reads a text. Where a path may be named again, it is read once more, with the lines known that
-/// do.
+/// Reads a text. Where a path is named again, it is read once more, with the lines known that do.
 fn read_text(
     alloc: Global,
     known: &Pool,
@@ -86,7 +85,8 @@ fn read_text(
         repeated: BTreeSet::new(alloc),
     };
     let parsed = read_lines(alloc, &form, text, room)?;
-    if are_different(alloc, parsed.items.as_slice())? {
+    let repeated = repeated_lines(alloc, parsed.items.as_slice())?;
+    if repeated.is_empty() {
         return Ok(parsed);
     }
     let form = ManifestForm {
@@ -94,7 +94,7 @@ fn read_text(
         rules,
         kind,
         alg,
-        repeated: repeated_lines(alloc, parsed.items.as_slice())?,
+        repeated,
     };
     read_lines(alloc, &form, text, room)
 }

@@ -29,8 +29,8 @@ pub fn manifest_alg(kind: Kind, name: &str) -> Option<&str>
     if is_alg_text(alg) { Some(alg) } else { None }
 }
 
-/// Whether a name is that of a manifest of this kind, of any algorithm.
-pub(crate) fn is_manifest_name(kind: Kind, name: &str) -> bool
+/// Whether a name is that of a manifest of this kind, of any algorithm (RFC 8493, 2.1.3 and 2.2.1).
+pub fn is_manifest_name(kind: Kind, name: &str) -> bool
     ensures { result ≡ spec.is_manifest_name kind name.now }
 {
     manifest_alg(kind, name).is_some()

@@ -5,6 +5,9 @@ ghost use Rattle.bag_read.specs.LineParts as parts;
 
 use crate::line_fault::is_digits;
 
+/// The label of the element that gives the payload's size.
+pub const OXUM_LABEL: &str = "Payload-Oxum";
+
 /// How many bytes the payload has, and how many files.
 #[derive(Clone, Copy, Debug, PartialEq, Eq)]
 pub struct Oxum {

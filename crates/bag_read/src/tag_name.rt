@@ -12,9 +12,11 @@ use bag_text::{Alg, Text};
 use std::alloc::{AllocError, Global};
 use std::fmt;
 
-const DECLARATION: &str = "bagit.txt";
+/// The name of the declaration (RFC 8493, 2.1.1).
+pub const DECLARATION: &str = "bagit.txt";
 
-const INFO: &str = "bag-info.txt";
+/// The name of the metadata (RFC 8493, 2.2.2).
+pub const INFO: &str = "bag-info.txt";
 
 const FETCH: &str = "fetch.txt";
 

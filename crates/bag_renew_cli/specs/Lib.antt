@@ -1,5 +1,4 @@
 pub mod Arguments
-pub mod FaultParts
 pub mod Given
 pub mod Listed
 pub mod Options

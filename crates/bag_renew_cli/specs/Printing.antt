@@ -15,17 +15,9 @@ use Rattle.bag_tags.specs.Summed.{File, manifest_by}
 use Rattle.bag_checked.specs.Stops.{MayStopUnchecked}
 use Rattle.bag_checked.specs.declared.checked.Unchecked.{Unchecked}
 use Rattle.bag_checked.specs.declared.checked.Unchecked.TheVariants.{Faulty, Stopped}
-use Rattle.bag_changes.specs.declared.fault.RenewFault.{RenewFault}
-use Rattle.bag_changes.specs.declared.fault.RenewFault.TheVariants as why
 
 abbrev pub text_of : File → List ℕ
 text_of one = one.1
-
--- a fault is told as it is
-abbrev pub refused_as : Unchecked → RenewFault → Type 0
-refused_as (Faulty fault) refused = refused ≡ why.Faulty fault
-refused_as (Stopped stop) (why.Faulty fault) = ⊥
-refused_as (Stopped stop) refused = Unit {0}
 
 -- 1 for a fault, and else 3
 abbrev pub is_status_of : Unchecked → ℕ → Type 0

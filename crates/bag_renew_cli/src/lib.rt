@@ -13,7 +13,6 @@
 #![tactic(auto)]
 
 mod command;
-mod fault_line;
 mod given;
 mod help;
 mod listed;

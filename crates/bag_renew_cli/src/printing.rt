@@ -1,12 +1,13 @@
 //! Writing the new manifest of a bag without a fault.
 ghost use Rattle.std.specs.Prelude.{◌≡◌, flat_map, OnOk};
-ghost use Rattle.bag_renew_cli.specs.Printing.{IsPrinting, is_status_of, refused_as, text_of};
+ghost use Rattle.bag_renew_cli.specs.Printing.{IsPrinting, is_status_of, text_of};
 ghost use Rattle.bag_tree.specs.Pieces.{Writes};
 
 use crate::put_renewal;
-use bag_renew::{RenewFault, TagFile, Unchecked, new_manifests};
+use bag_changes::refusal;
+use bag_renew::{TagFile, Unchecked, new_manifests};
 use bag_text::{Alg, AlgSet};
-use bag_tree::{Out, Refused, Tree, TreeFault, put_all};
+use bag_tree::{Out, Refused, Tree, put_all};
 use std::alloc::Global;
 
 /// Writes the payload manifest of an algorithm, as it is to be for a bag without a fault; of
@@ -46,7 +47,7 @@ fn refuse<E: Out>(name: &str, unchecked: Unchecked, err: &mut E) -> u8
     ensures { is_status_of unchecked result }
 {
     let status = status_of(&unchecked);
-    let _ = put_renewal(name, &Err(reason(unchecked)), false, err);
+    let _ = put_renewal(name, &Err(refusal(unchecked)), false, err);
     status
 }
 
@@ -57,21 +58,5 @@ fn status_of(unchecked: &Unchecked) -> u8
     match unchecked {
         Unchecked::Faulty(_) => 1,
         Unchecked::Stopped(_) => 3,
-    }
-}
-
-/// What the refusal is told as.
-fn reason(unchecked: Unchecked) -> RenewFault
-    ensures { refused_as unchecked result }
-{
-    match unchecked {
-        Unchecked::Faulty(fault) => RenewFault::Faulty(fault),
-        Unchecked::Stopped(stop) => {
-            if stop.path.is_empty() && stop.cause == TreeFault::Memory {
-                RenewFault::Memory
-            } else {
-                RenewFault::ReadStopped(stop)
-            }
-        }
     }
 }

@@ -3,7 +3,6 @@ ghost use Rattle.std.specs.Prelude.{◌≡◌};
 ghost use Rattle.bag_renew_cli.specs.RenewalLine as spec;
 ghost use Rattle.bag_tree.specs.Pieces.{Writes};
 
-use crate::fault_line::put_fault;
 use crate::said::{
     CANT_BE_NAMED, FAULT, FETCH, IN_NO_MANIFEST, IN_THE_WAY, NOT_RENEWED, OUT_OF_DATE, PUT, READ,
     REMOVE, RENEWED,
@@ -122,5 +121,5 @@ fn put_faulty<W: Out>(name: &str, fault: &Fault, out: &mut W) -> Result<(), Refu
         (spec.not_renewed_line name.now (spec.faulty fault.now)) result }
 {
     put_line(name, &[NOT_RENEWED, FAULT], out)?;
-    put_fault(fault, out)
+    fault.put(out)
 }

@@ -3,9 +3,6 @@
 /// What begins a line about the program itself.
 pub const PROGRAM: &str = "bagit-renew: ";
 
-/// A word of the command line isn't UTF-8: the whole line, since it is said as of clap.
-pub const WORD_NOT_UTF8: &str = "bagit-renew: a word isn't UTF-8\n";
-
 /// After an option whose value names something that is no algorithm.
 pub const NOT_ALGORITHMS: &str = " takes algorithms, as sha256,sha512";
 

@@ -2,14 +2,12 @@
 ghost use Rattle.bag_words.specs.Rows.{texts_of_words};
 ghost use Rattle.bag_program.specs.Folders.{disks_of};
 ghost use Rattle.bag_program.specs.InTurn.{Does};
-ghost use Rattle.bag_renew_cli.specs.Program.{IsProgram, IsUnread, IsWholeProgram, is_usage_of};
+ghost use Rattle.bag_renew_cli.specs.Program.{IsProgram, IsWholeProgram};
 
 use crate::performing::perform;
-use crate::said::WORD_NOT_UTF8;
-use crate::{RenewUsage, refuse_words, renewal_of};
-use bag_arguments::Usage;
-use bag_program::{Disks, Folders, Visits, Words, asked_words, texts_of};
-use bag_text::Text;
+use crate::said::PROGRAM;
+use crate::{refuse_words, renewal_of};
+use bag_program::{Disks, Folders, NoWords, Visits, Words, asked_words, texts_of};
 use bag_tree::Out;
 use std::alloc::{AllocError, Global};
 
@@ -51,24 +49,10 @@ pub fn run_renewal<R: Words + AllocGlobal, D: Disks, O: Out, E: Out>(
     let alloc = rt.alloc();
     let words = match asked_words(alloc, rt) {
         Ok(words) => words,
-        Err(usage) => return refuse_words(&usage_without_words(alloc, usage), err),
+        Err(why) => return why.tell(PROGRAM, err),
     };
     match texts_of(alloc, &words) {
         Ok(texts) => renewal_program(alloc, folders, &texts, visits, out, err),
-        Err(AllocError) => refuse_words(&RenewUsage::Memory, err),
-    }
-}
-
-/// Why there are no words, as this program says it: one of them isn't UTF-8, or memory ran out.
-fn usage_without_words(alloc: Global, usage: Usage) -> RenewUsage
-    ensures status { is_usage_of usage result }
-    ensures said { IsUnread result }
-{
-    match usage {
-        Usage::Memory => RenewUsage::Memory,
-        _ => match Text::from_str(alloc, WORD_NOT_UTF8) {
-            Ok(text) => RenewUsage::Refused(text),
-            Err(AllocError) => RenewUsage::Memory,
-        },
+        Err(AllocError) => NoWords::Memory.tell(PROGRAM, err),
     }
 }

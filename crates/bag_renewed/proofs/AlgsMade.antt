@@ -13,12 +13,8 @@ use Rattle.bag_text.specs.AlgList.{same_alg, with_member}
 use Rattle.bag_text.specs.AlgTable.{has_each, has_member-filter, same_alg_same}
 use Rattle.bag_text.proofs.AlgSets.{Contains-from_has_member, has_member-from_Contains, with_member-filter}
 use Rattle.bag_text.specs.declared.alg.Alg.TheVariants.{Md5}
+use Rattle.bag_facts.proofs.ListedPaths.{same_truth}
 use Rattle.bag_facts.proofs.Mapped.{take_one_more}
-
-pub same_truth : (a b : Bool) → (a ≡ true → b ≡ true) → (b ≡ true → a ≡ true) → a ≡ b
-same_truth true b to from = sym (to refl)
-same_truth false true to from = from refl
-same_truth false false to from = refl
 
 -- the test of a set finds its members
 pub is_member : (r : Bool) (set : List Alg) (alg : Alg) → (IsTrue r ↔ Contains set alg) → r ≡ has_member set alg

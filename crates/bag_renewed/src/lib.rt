@@ -23,4 +23,4 @@ mod target;
 pub use algorithms::{algs_there, has, has_some};
 pub use elements::{is_bad_request, renewed_elements};
 pub use renewal::{ElementChanges, Renewal};
-pub use target::{DECLARATION, Target, is_listed, target_of};
+pub use target::{Target, target_of};

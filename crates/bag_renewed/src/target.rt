@@ -13,11 +13,8 @@ use crate::algorithms::{algs_there, has_some, members_of_either, members_of_firs
 use crate::elements::asks_nothing;
 use crate::{ElementChanges, Renewal};
 use bag_facts::Facts;
-use bag_read::Kind;
+use bag_read::{DECLARATION, Kind};
 use bag_text::{AlgSet, Rules};
-
-/// The name of the declaration (RFC 8493, 2.1.1).
-pub const DECLARATION: &str = "bagit.txt";
 
 /// What a renewal makes of a bag.
 #[derive(Clone, Copy, Debug)]
@@ -102,7 +99,7 @@ fn keeps_declaration(facts: &Facts, keeps: bool) -> bool
     ensures { (bag : Bag) → IsFactsOf bag facts.now
         → result ≡ (keeps && has_file bag (tag_path Declaration)) }
 {
-    keeps && is_listed(facts, DECLARATION)
+    keeps && facts.has_file(DECLARATION)
 }
 
 fn writes_info(changes: &ElementChanges, keeps: bool) -> bool
@@ -117,14 +114,4 @@ fn reads_payload(renewal: &Renewal, written: AlgSet, dropped: AlgSet) -> bool
 {
     let compares = !renewal.unchecked;
     has_some(written) || (compares && has_some(dropped))
-}
-
-/// Whether a file is listed, found in time log n of all files.
-pub fn is_listed(facts: &Facts, path: &str) -> bool
-    ensures { (bag : Bag) → IsFactsOf bag facts.now → result ≡ has_file bag path.now }
-{
-    facts
-        .files()
-        .binary_search_by(|entry| entry.path.as_str().cmp(path))
-        .is_ok()
 }

@@ -9,10 +9,11 @@
 //! }
 //! ```
 //!
-//! Of RFC 8493 it keeps what a complete bag and a valid one have (3). What is read of a bag, faults
-//! and their lines are in `bag_facts`, profiles in `bag_profile`, the faults of each other stage than
-//! the eighth in `bag_stages`. Those of the eighth are here: where a bag doesn't conform to a profile
-//! (BagIt Profiles Specification), of what was read of it beyond the declaration.
+//! Of RFC 8493 it keeps what a complete bag and a valid one have (3). What is read of a bag is in
+//! `bag_facts`, faults and their lines are in `bag_faults`, profiles in `bag_profile`, the faults of
+//! each other stage than the eighth in `bag_stages`. Those of the eighth are here: where a bag
+//! doesn't conform to a profile (BagIt Profiles Specification), of what was read of it beyond the
+//! declaration.
 //!
 //! Of each stage but the seventh exactly the part of the report is found that is asked for; every
 //! bag has exactly one report.
@@ -21,7 +22,6 @@
 mod by_label;
 mod conformance;
 mod elements;
-mod has_file;
 mod info_fault;
 mod label_rule;
 pub mod laws;

@@ -10,7 +10,6 @@ ghost use Rattle.bag_report.specs.ConformanceStage.{required_manifests, allowed_
 ghost use Rattle.bag_report.specs.ConformanceStage.{LacksManifest, HasOtherManifest};
 ghost use Rattle.bag_report.specs.NotAllowed.{IsOtherManifest};
 
-use crate::has_file::has_file;
 use crate::profile_rules::{excludes, listed};
 use bag_facts::Facts;
 use bag_faults::Fault;
@@ -97,7 +96,7 @@ fn has_manifest(facts: &Facts, kind: Kind, path: &str) -> bool
         → path.now ≡ manifest_name kind name
         → IsTrue result ↔ HasManifest bag kind name }
 {
-    manifest_alg(kind, path).is_some() && has_file(facts, path)
+    manifest_alg(kind, path).is_some() && facts.has_file(path)
 }
 
 /// The path that the manifest of a name would have.

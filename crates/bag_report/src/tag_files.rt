@@ -9,7 +9,6 @@ ghost use Rattle.bag_report.specs.ConformanceStage.{LacksTagFile, HasOtherTagFil
 ghost use Rattle.bag_report.specs.ConformanceStage.{HasFetchFile};
 ghost use Rattle.bag_report.specs.NotAllowed.{IsOtherTagFile};
 
-use crate::has_file::has_file;
 use crate::profile_rules::{is_free_tag_file, listed, matches_none};
 use bag_facts::Facts;
 use bag_faults::Fault;
@@ -46,7 +45,7 @@ fn lacking_tag_files(
     let required = listed(profile, ListRule::TagFilesRequired);
     let mut faults = Vec::new(alloc);
     for path in required {
-        if !has_file(facts, path.as_str()) {
+        if !facts.has_file(path.as_str()) {
             faults.push(Fault::about(alloc, Code::TagFileRequired, path)?)?;
         }
     }
@@ -86,7 +85,7 @@ fn fetch_faults(alloc: Global, facts: &Facts, profile: &Profile) -> Result<Vec<F
         → AreAll (λ f. (f.code ≡ FetchNotAllowed) × HasFetchFile bag profile.now f) faults.items) }
 {
     let path = TagName::Fetch.path(alloc)?;
-    if profile.allow_fetch() || !has_file(facts, path.as_str()) {
+    if profile.allow_fetch() || !facts.has_file(path.as_str()) {
         return Ok(Vec::new(alloc));
     }
     Ok(vec![in alloc; Fault::new(alloc, Code::FetchNotAllowed, path)]?)

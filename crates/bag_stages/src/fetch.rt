@@ -142,7 +142,7 @@ fn named_by_none(
 {
     let mut faults = Vec::new(alloc);
     for entry in entries {
-        if !is_named(facts, &entry.path) {
+        if !is_named(facts, Kind::Payload, &entry.path) {
             faults.push(left_out_fault(alloc, path, None, entry)?)?;
         }
     }

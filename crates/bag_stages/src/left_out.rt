@@ -154,5 +154,5 @@ fn is_named_by_none(facts: &Facts, path: &Text) -> bool
     ensures yes { IfBagRead facts.now (λ bag. IsTrue result → IsPathNamedByNone bag path.now) }
     ensures no { IfBagRead facts.now (λ bag. IsPathNamedByNone bag path.now → IsTrue result) }
 {
-    is_payload(path.as_str()) && !is_named(facts, path)
+    is_payload(path.as_str()) && !is_named(facts, Kind::Payload, path)
 }

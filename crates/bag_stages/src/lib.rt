@@ -48,6 +48,7 @@ pub use expected::expected_of;
 pub use fetch::fetch_faults;
 pub use manifests::manifest_faults;
 pub use metadata::metadata_faults;
+pub use named::{is_named, is_named_by};
 pub use names::in_order;
 pub use packed::{Packed, Unpacking};
 pub use parts::parts_faults;

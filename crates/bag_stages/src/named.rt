@@ -1,28 +1,32 @@
-//! Whether payload manifests name a path.
+//! Whether manifests name a path.
 ghost use Rattle.std.specs.Prelude.{◌↔◌, IsTrue};
-ghost use Rattle.bag_read.specs.declared.kind.Kind.TheVariants.{Payload};
+ghost use Rattle.bag_text.specs.declared.alg.Alg.{Alg as AlgValue};
 ghost use Rattle.bag_facts.specs.FactsOfBag.{IfBagRead};
-ghost use Rattle.bag_stages.specs.LeftOut.{IsNamedBySome};
 ghost use Rattle.bag_stages.specs.TagFiles.{Names};
 
 use bag_facts::Facts;
 use bag_read::Kind;
 use bag_text::{Alg, Text};
 
-/// Whether some payload manifest names a path, of facts read for more than the declaration. Takes
+/// Whether some manifest of a kind names a path, of facts read for more than the declaration. Takes
 /// no memory.
-pub(crate) fn is_named(facts: &Facts, path: &Text) -> bool
-    ensures named { IfBagRead facts.now (λ bag. IsTrue result → IsNamedBySome bag path.now) }
-    ensures unnamed { IfBagRead facts.now (λ bag. IsNamedBySome bag path.now → IsTrue result) }
+pub fn is_named(facts: &Facts, kind: Kind, path: &Text) -> bool
+    ensures named { IfBagRead facts.now (λ bag.
+        IsTrue result → (alg : AlgValue) × Names bag kind alg path.now) }
+    ensures unnamed { IfBagRead facts.now (λ bag.
+        ((alg : AlgValue) × Names bag kind alg path.now) → IsTrue result) }
 {
-    Alg::ALL.iter().any(|alg| is_named_by(facts, *alg, path))
+    Alg::ALL
+        .iter()
+        .any(|alg| is_named_by(facts, kind, *alg, path))
 }
 
-/// Whether the payload manifest of an algorithm names a path.
-fn is_named_by(facts: &Facts, alg: Alg, path: &Text) -> bool
-    ensures { IfBagRead facts.now (λ bag. IsTrue result ↔ Names bag Payload alg path.now) }
+/// Whether the manifest of a kind and an algorithm names a path, of facts read for more than the
+/// declaration.
+pub fn is_named_by(facts: &Facts, kind: Kind, alg: Alg, path: &Text) -> bool
+    ensures { IfBagRead facts.now (λ bag. IsTrue result ↔ Names bag kind alg path.now) }
 {
-    match facts.manifest(Kind::Payload, alg) {
+    match facts.manifest(kind, alg) {
         Some(manifest) => manifest.names(path),
         None => false,
     }

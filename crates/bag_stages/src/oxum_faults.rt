@@ -5,7 +5,7 @@ ghost use Rattle.bag_stages.specs.PayloadSize.{listed_oxum};
 
 use crate::payload_size::PayloadSize;
 use bag_faults::Fault;
-use bag_read::{Element, oxum_of};
+use bag_read::{Element, OXUM_LABEL, oxum_of};
 use bag_text::{Code, Text, same_label};
 use bag_tree::FileEntry;
 use std::alloc::{AllocError, Global};
@@ -41,7 +41,7 @@ fn first_oxum(elements: &[Element]) -> Option<usize>
 fn is_oxum(element: &Element) -> bool
     ensures { result ≡ reported.is_oxum element.now }
 {
-    same_label(element.label.as_str(), "Payload-Oxum")
+    same_label(element.label.as_str(), OXUM_LABEL)
 }
 
 /// That no element gives the payload's size.

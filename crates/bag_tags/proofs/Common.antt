@@ -26,12 +26,12 @@ pub use Rattle.std.specs.Prelude.{Contains, IsTrue, ◌↔◌}
 pub use Rattle.std.specs.Str.{IsUtf8, all_scalars, encode_utf8_all, str_to_ascii_lowercase}
 pub use Rattle.std.specs.declared.cmp.Ordering.TheVariants.{Less}
 pub use Rattle.bag_read.proofs.LineParts.{empty_test, not_empty, not_false, not_true, or_false}
-pub use Rattle.bag_read.proofs.ManifestName.{has_alg}
 pub use Rattle.bag_read.proofs.PickedOut.{both_true}
 pub use Rattle.bag_read.specs.Info.{InfoFault, IsElement, begins_element, continuations, is_colon, is_label}
 pub use Rattle.bag_read.specs.Info.{leading_continuations, split, value_of_parts}
 pub use Rattle.bag_read.specs.LineParts.{BeginsUnblank, IsCutAtBlanks}
 pub use Rattle.bag_read.specs.Manifest.{IsEntry, ManifestFault, ReadsManifest, manifest_line, named, named_before}
+pub use Rattle.bag_read.specs.ManifestName.{is_manifest_name}
 pub use Rattle.bag_read.specs.declared.kind.Kind.{Kind}
 pub use Rattle.bag_read.specs.declared.kind.Kind.TheVariants.{Payload, Tag}
 pub use Rattle.bag_read.specs.declared.line_fault.LineFault.{LineFault}
@@ -52,5 +52,5 @@ pub use Rattle.bag_tags.specs.Element.{NewElement, has_outer_blank, info_line, i
 pub use Rattle.bag_tags.specs.Entry.{NewEntry, entry_line, manifest_text}
 pub use Rattle.bag_tags.specs.Writable.{NamesEachOnce, begins_with_mark, is_bad_digest}
 pub use Rattle.bag_tags.specs.Writable.{is_bad_entry, is_bad_path, is_lower_hex_digit}
-pub use Rattle.bag_tags.specs.Writable.{is_tag_manifest, may_name, paths}
+pub use Rattle.bag_tags.specs.Writable.{may_name, paths}
 pub use Rattle.bag_tags.specs.ReadAgain.{DeclarationIsReadAgain, InfoIsReadAgain, ManifestIsReadAgain, StandsOn}

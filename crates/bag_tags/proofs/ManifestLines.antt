@@ -4,7 +4,7 @@ use Rattle.bag_tags.proofs.Common.{ℕ, ◌&&◌, ◌++◌, ◌∙◌, ◌≡◌
 use Rattle.bag_tags.proofs.Common.{IsUtf8-append, IsUtf8-from_is_utf8, not_false, not_true, or_false, both_true}
 use Rattle.bag_tags.proofs.Common.{IsCutAtBlanks, ReadsManifest, Kind, Payload, Tag, is_line_end, is_path}
 use Rattle.bag_tags.proofs.Common.{is_payload_path, IsText, has_mark, Alg, NewEntry, begins_with_mark, is_bad_digest}
-use Rattle.bag_tags.proofs.Common.{is_lower_hex_digit, is_tag_manifest, may_name}
+use Rattle.bag_tags.proofs.Common.{is_lower_hex_digit, is_manifest_name, may_name}
 use Rattle.bag_text.specs.declared.rules.Rules.{Rules}
 use Rattle.bag_read.specs.ManifestLine.{IsSpelling, MayName, IsManifestLine}
 use Rattle.bag_read.proofs.ManifestLineParts.{lines_read}
@@ -25,7 +25,7 @@ safe Tag path e = grind (arith, both_true)
 place : (kind : Kind) (path : List ℕ) → may_name kind path ≡ true → MayName kind path
 place Payload path e = e
 place Tag path e =
-    let (outside, other) = both_true (is_path path && not (is_payload_path path)) (not (is_tag_manifest path)) e in (
+    let (outside, other) = both_true (is_path path && not (is_payload_path path)) (not (is_manifest_name Tag path)) e in (
       not_true _ (both_true (is_path path) (not (is_payload_path path)) outside).1,
       not_named Tag path (not_true _ other),
     )

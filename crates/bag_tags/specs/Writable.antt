@@ -32,13 +32,10 @@ is_some_mark (Some c) = is_blank c || c == byte "*"
 abbrev pub begins_with_mark : List ℕ → Bool
 begins_with_mark t = is_some_mark (slice_get t 0)
 
-abbrev pub is_tag_manifest : List ℕ → Bool
-is_tag_manifest t = is_manifest_name Tag t
-
 -- a payload manifest names payload files, and a tag manifest other files, but no tag manifest
 abbrev pub may_name : Kind → List ℕ → Bool
 may_name Payload t = is_payload_path t
-may_name Tag t = is_path t && not (is_payload_path t) && not (is_tag_manifest t)
+may_name Tag t = is_path t && not (is_payload_path t) && not (is_manifest_name Tag t)
 
 -- a path that no line names as it is written: it can't be spelled, or a reader drops its front
 abbrev pub is_unnameable : Rules → List ℕ → Bool

@@ -8,7 +8,8 @@ use bag_read::TagName;
 use bag_text::Items;
 use std::alloc::{AllocError, Global};
 
-const DECLARATION: &str = "BagIt-Version: 1.0\nTag-File-Character-Encoding: UTF-8\n";
+/// The text of `bagit.txt`: version 1.0 and UTF-8.
+pub const DECLARATION_TEXT: &str = "BagIt-Version: 1.0\nTag-File-Character-Encoding: UTF-8\n";
 
 /// The bytes of `bagit.txt`: version 1.0 and UTF-8 (RFC 8493, 2.1.1). Fails only where
 /// memory runs out.
@@ -16,7 +17,7 @@ pub fn write_declaration(alloc: Global) -> Result<Vec<u8>, WriteFault>
     ensures text { IfOk result (λ bytes. bytes.items ≡ declaration_text) }
     ensures never_bad { IsErrOf result WriteFault.BadValue → ⊥ }
 {
-    Ok(Vec::from_slice(alloc, DECLARATION.as_bytes())?)
+    Ok(Vec::from_slice(alloc, DECLARATION_TEXT.as_bytes())?)
 }
 
 /// `bagit.txt`, with its name. Fails only where memory runs out.

@@ -9,9 +9,6 @@ ghost use Rattle.bag_tags.specs.Element as spec;
 use bag_text::{BYTE_ORDER_MARK, Text, trim};
 use std::alloc::{AllocError, Global};
 
-/// The label of the element that is computed.
-pub const OXUM_LABEL: &str = "Payload-Oxum";
-
 /// The value of `Payload-Oxum`: how many bytes the payload has, a dot, and how many files.
 pub fn oxum_value(alloc: Global, octets: u128, streams: u64) -> Result<Text, AllocError>
     ensures { IfOk result (λ text.

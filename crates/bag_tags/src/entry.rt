@@ -4,7 +4,7 @@ ghost use Rattle.std.specs.List.{list_all};
 ghost use Rattle.bag_tags.specs.Writable as spec;
 
 use crate::spelling::is_unnameable;
-use bag_read::{Kind, manifest_alg};
+use bag_read::{Kind, is_manifest_name};
 use bag_text::{Alg, Rules, Text, check_path, is_payload};
 
 /// Whether a digest and its path would not be read again as they are, by the rules of a version.
@@ -40,12 +40,8 @@ fn may_name(kind: Kind, path: &str) -> bool
 {
     match kind {
         Kind::Payload => is_payload(path),
-        Kind::Tag => check_path(path).is_ok() && !is_payload(path) && !is_tag_manifest(path),
+        Kind::Tag => check_path(path).is_ok()
+            && !is_payload(path)
+            && !is_manifest_name(Kind::Tag, path),
     }
-}
-
-fn is_tag_manifest(path: &str) -> bool
-    ensures { result ≡ spec.is_tag_manifest path.now }
-{
-    manifest_alg(Kind::Tag, path).is_some()
 }

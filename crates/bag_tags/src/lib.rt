@@ -33,12 +33,12 @@ mod summed;
 mod tag_file;
 
 pub use bag_read::{
-    Declaration, Digest, Element, FetchEntry, Kind, LineFault, ManifestEntry, Oxum, Parsed,
-    TagName, declared_rules, manifest_alg, oxum_of, read_declaration, read_fetch, read_info,
-    read_manifest,
+    Declaration, Digest, Element, FetchEntry, Kind, LineFault, ManifestEntry, OXUM_LABEL, Oxum,
+    Parsed, TagName, declared_rules, manifest_alg, oxum_of, read_declaration, read_fetch,
+    read_info, read_manifest,
 };
-pub use declaration::{declaration_file, write_declaration};
-pub use element::{OXUM_LABEL, are_texts, is_bad_element, oxum_value};
+pub use declaration::{DECLARATION_TEXT, declaration_file, write_declaration};
+pub use element::{are_texts, is_bad_element, oxum_value};
 pub use fault::WriteFault;
 pub use info::write_info;
 pub use long_info::{is_bad_long_element, write_long_info};

@@ -1,5 +1,4 @@
-//! Texts, lines and paths of bags, the algorithms and fault codes by their names, and the program's
-//! own texts.
+//! Texts, lines and paths of bags, and the algorithms and fault codes by their names.
 //!
 //! ```
 //! for (number, line) in lines(text_of(&bytes)?) {

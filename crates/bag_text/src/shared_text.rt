@@ -1,5 +1,7 @@
 //! A part of a text that has more than one owner.
-ghost use Rattle.std.specs.Prelude.{◌≡◌, IfOk, IfSome};
+ghost use Rattle.std.specs.Prelude.{◌≡◌, IfOk};
+ghost use Rattle.std.specs.Rc.{rc_str_bytes};
+ghost use Rattle.bag_text.specs.PartOf.{IsPartOf};
 
 use std::alloc::AllocError;
 use std::marker::Model;
@@ -28,22 +30,27 @@ impl Model for SharedText {
 }
 
 impl SharedText {
-    /// The part that stands at a place, where this text does.
-    pub(crate) fn of(whole: &RcStr, place: usize, text: &str) -> Option<SharedText>
-        ensures { IfSome result (λ part. part ≡ text.now) }
+    /// The part that stands at a place, in bytes, where this text does; `None` where it doesn't, or
+    /// ends past 4 GiB.
+    pub(crate) fn of(
+        whole: &RcStr,
+        place: usize,
+        text: &str,
+    ) -> Result<Option<SharedText>, AllocError>
+        ensures { IfOk result (λ part. IsPartOf (rc_str_bytes whole.now) place text.now part) }
     {
-        let end = place.checked_add(text.len())?;
+        let Some(end) = place.checked_add(text.len()) else {
+            return Ok(None);
+        };
         let all = whole.as_str();
         if !all.is_char_boundary(place) || !all.is_char_boundary(end) || &all[place..end] != text {
-            return None;
+            return Ok(None);
         }
         let (Ok(start), Ok(end)) = (u32::try_from(place), u32::try_from(end)) else {
-            return None;
+            return Ok(None);
         };
-        let Ok(whole) = whole.clone() else {
-            return None;
-        };
-        Some(SharedText { whole, start, end })
+        let whole = whole.clone()?;
+        Ok(Some(SharedText { whole, start, end }))
     }
 
     /// The part, to look at.

@@ -71,6 +71,18 @@ pub cut_third : (old new : Option (List ℕ)) (first second third : List ℕ) �
 cut_third old new first second third cut =
     subst (IsCut old new) (append_assoc first second third) (IsCut-append old new (first ++ second) third cut)
 
+-- a text is written in two parts: the first was taken
+pub after_part : (old mid new : OutState) (first second text : List ℕ) (result : Result (Unit {0}) Refused)
+    → first ++ second ≡ text → Appends old.taken mid.taken first → Writes mid new second result
+    → Writes old new text result
+after_part old mid new first second text result is taken w =
+    subst (λ t. Writes old new t result) is (writes_after old mid new first second result w taken)
+
+-- of the first not all was taken
+pub cut_part : (old new : Option (List ℕ)) (first second text : List ℕ) → first ++ second ≡ text
+    → IsCut old new first → IsCut old new text
+cut_part old new first second text is cut = subst (IsCut old new) is (IsCut-append old new first second cut)
+
 -- the pieces before one, that piece, and the others
 text_split : (pieces : List (Bor (List ℕ))) (i : ℕ) (d : Bor (List ℕ)) → i < length pieces
     → joined_pieces pieces

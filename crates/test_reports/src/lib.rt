@@ -1,8 +1,8 @@
 //! What trees, runs, walks, makings and readers do that no words of the command line and no case file
 //! can ask for: disks that a test makes up, and real folders, listed, read and changed step by step; how
 //! often a file is read for its digests; the order of faults and their copies, faults that are taken
-//! one at a time, lists and sizes that are not the bag's, and requests that words can't give; and the
-//! program over honest disks.
+//! one at a time, lists and sizes that are not the bag's, and requests that words can't give; parts
+//! of longer texts; and the program over honest disks.
 #![tactic(auto)]
 
 mod same_disks;
@@ -33,6 +33,8 @@ mod segments;
 mod shown;
 #[cfg(test)]
 mod steps;
+#[cfg(test)]
+mod texts;
 #[cfg(test)]
 mod trials;
 #[cfg(test)]

@@ -1,11 +1,12 @@
 //! The texts that refusals and codes show themselves as, to users and in logs.
+use crate::held::text_of;
 use bag_arguments::{CheckOption, Usage};
 use bag_cli::ProfileRefusal;
 use bag_disk::{DiskFault, Refusal};
 use bag_make::MakeFault;
 use bag_profile::{Key, ProfileFault};
 use bag_store::{Stop, TreeFault};
-use bag_text::{Code, Text};
+use bag_text::Code;
 use std::alloc::Global;
 use std::fmt::{Debug, Display};
 use std::process::Abort;
@@ -21,10 +22,6 @@ fn try_shown<T: Display + Debug>(
     assert!(stop; found.as_str() == shown, "{found}");
     let found = format!(in alloc; "{refusal:?}").expect(stop, "succeeds");
     assert!(stop; found.as_str() == logged, "{found}");
-}
-
-fn text_of(stop: &impl Abort, alloc: Global, text: &str) -> Text {
-    Text::from_str(alloc, text).expect(stop, "succeeds")
 }
 
 /// The refusal to read a file.

@@ -4,8 +4,6 @@ use Rattle.bag_cli.proofs.profile_file.sha256_of.Goals as goal
 
 pub returns-in-Ok : goal.returns-in-Ok
 returns-in-Ok c =
-    let algs = c.with.result in
-    let sums = c.finish.ensures algs c.args.bytes.now (c.update.ensures algs [] c.new-digests.ensures) in
     let has = (c.with.ensures.members Sha256).1 (inr refl) in
     c.from_string.ensures
-    ∙ ap (λ (sum : Option (List ℕ)). unwrap_or sum []) (sym c.in-Ok.ensures.text ∙ sums.each Sha256 has)
+    ∙ ap (λ (sum : Option (List ℕ)). unwrap_or sum []) (sym c.in-Ok.ensures.text ∙ c.sums_of.ensures.each Sha256 has)

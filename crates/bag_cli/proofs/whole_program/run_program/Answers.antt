@@ -1,6 +1,6 @@
 use Rattle.bag_cli.proofs.Common.{inl, inr, [], refl, sym, ap, ◌∙◌, append-nil, disks_of, Err, visits_of}
-use Rattle.bag_arguments.specs.Plan.{usage_status}
 use Rattle.bag_program.proofs.Runs.{words_run}
+use Rattle.bag_program.specs.NoWords.{no_words_status}
 use Rattle.bag_cli.specs.Program.{IsProgram}
 use Rattle.bag_cli.proofs.whole_program.run_program.Goals as goal
 
@@ -9,8 +9,8 @@ returns-in-Err g c = (
   [],
   sym (append-nil (visits_of c.args.visits.now)),
   elim c.in-Err.ensures [
-    | inl answered ↦ inr (Err c.in-Err.usage, answered, (c.refuse_words.ensures.status, refl, refl))
-    | inr memory ↦ inl (c.refuse_words.ensures.status ∙ ap usage_status memory, refl, refl)
+    | inl answered ↦ inr (Err c.in-Err.why, answered, (c.tell.ensures.status, refl, refl))
+    | inr memory ↦ inl (c.tell.ensures.status ∙ ap no_words_status memory, refl, refl)
   ],
 )
 
@@ -29,5 +29,5 @@ pub returns : goal.returns
 returns g c = (
   [],
   sym (append-nil (visits_of c.args.visits.now)),
-  inl (c.refuse_words-in-Err-texts_of.ensures.status, refl, refl),
+  inl (c.tell-in-Err-texts_of.ensures.status, refl, refl),
 )

@@ -1,6 +1,6 @@
 use Rattle.bag_renew_cli.proofs.Common.{◌++◌, codes, field, refl}
 use Rattle.std.proofs.Common.{append-nil}
-use Rattle.bag_renew_cli.proofs.Lines.{after_part}
+use Rattle.bag_tree.proofs.Writing.{after_part}
 use Rattle.bag_renew_cli.proofs.planned_lines.put_file.Goals as goal
 
 pub returns : goal.returns

@@ -1,5 +1,6 @@
 use Rattle.bag_renew_cli.proofs.Common.{◌++◌, codes, err_from_is_err_and, field}
-use Rattle.bag_renew_cli.proofs.Lines.{after_part, cut_part, path_line}
+use Rattle.bag_tree.proofs.Writing.{after_part, cut_part}
+use Rattle.bag_renew_cli.proofs.Lines.{path_line}
 use Rattle.bag_renew_cli.proofs.renewal_line.put_path.Goals as goal
 
 pub returns-in_err-put_line : goal.returns-in_err-put_line

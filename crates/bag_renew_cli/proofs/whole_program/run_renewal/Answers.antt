@@ -1,7 +1,7 @@
 use Rattle.bag_renew_cli.proofs.Common.{inl, inr, [], refl, sym, ap, ◌∙◌, append-nil, Err}
 use Rattle.bag_program.specs.Folders.{disks_of, visits_of}
-use Rattle.bag_arguments.specs.Plan.{usage_status}
 use Rattle.bag_program.proofs.Runs.{words_run}
+use Rattle.bag_program.specs.NoWords.{no_words_status}
 use Rattle.bag_renew_cli.specs.Program.{IsProgram}
 use Rattle.bag_renew_cli.proofs.whole_program.run_renewal.Goals as goal
 
@@ -10,18 +10,8 @@ returns-in-Err g c = (
   [],
   sym (append-nil (visits_of c.args.visits.now)),
   elim c.in-Err.ensures [
-    | inl answered ↦ inr (
-      Err c.in-Err.usage,
-      answered,
-      (elim c.usage_without_words.ensures.status [
-        | inl same ↦ inl (c.refuse_words.ensures.status ∙ same, refl, refl)
-        | inr memory ↦ inr (c.refuse_words.ensures.status ∙ memory, refl, refl)
-      ]),
-    )
-    | inr memory ↦ elim c.usage_without_words.ensures.status [
-      | inl same ↦ inl (c.refuse_words.ensures.status ∙ same ∙ ap usage_status memory, refl, refl)
-      | inr three ↦ inl (c.refuse_words.ensures.status ∙ three, refl, refl)
-    ]
+    | inl answered ↦ inr (Err c.in-Err.why, answered, (c.tell.ensures.status, refl, refl))
+    | inr memory ↦ inl (c.tell.ensures.status ∙ ap no_words_status memory, refl, refl)
   ],
 )
 
@@ -39,5 +29,5 @@ pub returns : goal.returns
 returns g c = (
   [],
   sym (append-nil (visits_of c.args.visits.now)),
-  inl (c.refuse_words-in-Err-texts_of.ensures.status, refl, refl),
+  inl (c.tell-in-Err-texts_of.ensures.status, refl, refl),
 )

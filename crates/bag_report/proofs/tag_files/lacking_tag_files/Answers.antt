@@ -1,4 +1,4 @@
-use Rattle.bag_report.proofs.Conforming.{inl, inr, refl}
+use Rattle.bag_report.proofs.Conforming.{inl, inr, refl, sym, ◌∙◌}
 use Rattle.std.proofs.lemmas.Bool.{both_ways}
 use Rattle.bag_report.proofs.FaultSets.{all_items, one_next}
 use Rattle.bag_report.proofs.TagFiles.{lacking_all, lacking_fault, IsLacking}
@@ -21,9 +21,9 @@ loop-path-preserved c = λ bag facts.
             rw w.faults-is w.in_ok-push.ensures.items,
             fault.ensures,
             λ has.
-                both_ways _ w.if-not-has_file.true (tells.1 has),
+                both_ways _ w.if-not-has_file.true (tells ∙ has),
           )
-      | else-not-has_file w ↦ inr (rw w.faults-is refl, λ lacks. lacks (tells.0 w.if-not-has_file.false))
+      | else-not-has_file w ↦ inr (rw w.faults-is refl, λ lacks. lacks (sym tells ∙ w.if-not-has_file.false))
     ])
 
 pub returns : goal.returns

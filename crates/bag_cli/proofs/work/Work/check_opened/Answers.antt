@@ -10,7 +10,7 @@ returns g c =
     let name = c.args.name.now in
     let checked = c.check_tree-tree.result.1 in (
       _,
-      added _ _ _ (Entered name ∷ []) (Left _ ∷ []) c.enter_tree.ensures c.leave_tree.ensures,
+      added _ _ _ (Entered name ∷ []) (Left _ ∷ []) c.enter_tree.ensures c.leave.ensures,
       check_by_status plan profile _ name _ _ _ checked c.whole_status.result c.whole_status.ensures
           (next_check plan profile _ name _ _ _ checked
           (visited_check plan profile _ _ _ name _ _ checked refl c.check_tree-tree.ensures)),

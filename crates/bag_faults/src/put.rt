@@ -1,37 +1,40 @@
 //! The line of a fault, written without memory.
-ghost use Rattle.std.specs.Prelude.{◌≡◌, ◌++◌, codes};
-ghost use Rattle.bag_faults.specs.FaultLine.{alg_field, fault_line, line_field};
-ghost use Rattle.bag_renew_cli.specs.FaultParts as spec;
+ghost use Rattle.std.specs.Prelude.{◌++◌, codes};
+ghost use Rattle.bag_faults.specs.FaultLine.{fault_line, line_field};
+ghost use Rattle.bag_faults.specs.FaultParts as spec;
 ghost use Rattle.bag_tree.specs.Pieces.{Writes};
 
-use bag_faults::{Fault, put_line};
-use bag_text::Alg;
+use crate::Fault;
+use crate::fault::alg_name;
+use crate::field::put_line;
 use bag_tree::{Out, Refused, put_pieces};
 use itoa::Buffer;
 
-/// Hands the line of a fault to the output, with its end.
-pub(crate) fn put_fault<W: Out>(fault: &Fault, out: &mut W) -> Result<(), Refused>
-    ensures { Writes (W.state out.old) (W.state out.new)
-        (fault_line fault.now ++ codes "\n") result }
-{
-    let mut digits = Buffer::new();
-    put_pieces(
-        out,
-        &[
-            digits.format(fault.code.number()),
-            " ",
-            fault.code.word(),
-            " ",
-        ],
-    )?;
-    put_place(fault, out)
+impl Fault {
+    /// Hands the fault's line to the output, with its end. It takes no memory.
+    pub fn put<W: Out>(&self, out: &mut W) -> Result<(), Refused>
+        ensures { Writes (W.state out.old) (W.state out.new)
+            (fault_line self.now ++ codes "\n") result }
+    {
+        let mut digits = Buffer::new();
+        put_pieces(
+            out,
+            &[
+                digits.format(self.code.number()),
+                " ",
+                self.code.word(),
+                " ",
+            ],
+        )?;
+        put_place(self, out)
+    }
 }
 
 /// The path, the algorithm, the line and the detail.
 fn put_place<W: Out>(fault: &Fault, out: &mut W) -> Result<(), Refused>
     ensures { Writes (W.state out.old) (W.state out.new) (spec.place fault.now) result }
 {
-    put_line(fault.path.as_str(), &[" ", alg_word(fault.alg), " "], out)?;
+    put_line(fault.path.as_str(), &[" ", alg_name(fault.alg), " "], out)?;
     put_end(fault, out)
 }
 
@@ -52,14 +55,4 @@ fn put_line_number<W: Out>(line: u64, out: &mut W) -> Result<(), Refused>
     }
     let mut digits = Buffer::new();
     put_pieces(out, &[digits.format(line), " "])
-}
-
-/// The field of an algorithm.
-fn alg_word(alg: Option<Alg>) -> &'static str
-    ensures { result.now ≡ alg_field alg }
-{
-    match alg {
-        None => "-",
-        Some(alg) => alg.name(),
-    }
 }

@@ -1,6 +1,6 @@
-use Rattle.bag_renew_cli.proofs.Common.{◌++◌, codes, append_assoc, err_from_is_err_and, field, line_field}
-use Rattle.bag_renew_cli.proofs.Lines.{after_part, cut_part}
-use Rattle.bag_renew_cli.proofs.fault_line.put_end.Goals as goal
+use Rattle.bag_faults.proofs.Common.{◌++◌, codes, append_assoc, err_from_is_err_and, field, line_field}
+use Rattle.bag_tree.proofs.Writing.{after_part, cut_part}
+use Rattle.bag_faults.proofs.put.put_end.Goals as goal
 
 pub returns-in_err-put_line_number : goal.returns-in_err-put_line_number
 returns-in_err-put_line_number g c =

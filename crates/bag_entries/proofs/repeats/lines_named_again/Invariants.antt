@@ -1,6 +1,6 @@
 use Rattle.bag_entries.proofs.Common.{ℕ, List, ◌↔◌, IsTrue, contains, contains_by, nat_cmp, text_cmp, NamesBelow}
 use Rattle.bag_entries.proofs.Common.{RepeatsBelow}
-use Rattle.bag_entries.proofs.repeats.repeated_lines.Given as goal
+use Rattle.bag_entries.proofs.repeats.lines_named_again.Given as goal
 
 abbrev pub invariant-loop-entry : goal.invariant-loop-entry
 invariant-loop-entry l = record {
