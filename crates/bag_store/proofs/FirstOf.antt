@@ -2,7 +2,7 @@
 use Rattle.std.proofs.Common.{◌≡◌, ◌++◌, ◌∷◌, ◌∙◌, inl, inr, ℕ, IsTrue, List, [], Ok, Err, OnErr, map, refl, sym}
 use Rattle.std.proofs.Common.{ap, subst, append-nil, append_assoc}
 use Rattle.std.specs.Prelude.{Result}
-use Rattle.bag_tree.proofs.Runs.{first_change_nothing, front_of_two, syncs_alone}
+use Rattle.bag_tree.proofs.Runs.{both_nothing, first_change_nothing, front_of_map, front_of_two, syncs_alone}
 use Rattle.bag_tree.specs.Asked.{Adds, Asking, AsksFile, ChangeNothing, MayBegin}
 use Rattle.bag_tree.specs.FileChanges.{AsksFirstOf, AsksPut, AsksRemove}
 use Rattle.bag_tree.specs.declared.event.DeviceEvent.{DeviceEvent}
@@ -44,20 +44,6 @@ first_of_longer P Q b c e tail now longer some = record {
   are_refused = some.are_refused;
   is = ap (λ (xs : List DeviceEvent). e ∷ xs) some.is;
 }
-
-both_nothing : (xs ys : List DeviceEvent) → ChangeNothing xs → ChangeNothing ys → ChangeNothing (xs ++ ys)
-both_nothing [] ys one two = two
-both_nothing (x ∷ xs) ys one two = (one.0, both_nothing xs ys one.1 two)
-
--- the first of some writes are writes
-front_of_map : {A : Type 0} (f : A → DeviceEvent) (xs : List A) (front rest : List DeviceEvent)
-    → map f xs ≡ front ++ rest → (ys : List A) × (front ≡ map f ys)
-front_of_map f xs [] rest is = ([], refl)
-front_of_map f [] (e ∷ front) rest is = cc
-front_of_map f (x ∷ xs) (e ∷ front) rest is =
-    let same : e ≡ f x = cc in
-    let rest_is : map f xs ≡ front ++ rest = cc in
-    let more = front_of_map f xs front rest rest_is in (x ∷ more.0, λ i. same i ∷ more.1 i)
 
 -- the first of what the making of a file asks: syncs, or a file that is begun
 module _ (name bytes : List ℕ) (before now : List DeviceEvent) (some : AsksFirstOf (AsksFile name bytes) before now)

@@ -6,7 +6,8 @@ use Rattle.bag_tree.proofs.Events.{synced_after}
 use Rattle.bag_tree.proofs.FileChanges.{changes_are_durable}
 use Rattle.bag_tree.proofs.PutFile.{no_content, no_file, not_held, written_again}
 use Rattle.bag_tree.proofs.Resumed.{IsLike, at_sync, begins_with, made_alike}
-use Rattle.bag_tree.proofs.Runs.{first_change_nothing, front_of_two, left_between, nothing_left, syncs_alone}
+use Rattle.bag_tree.proofs.Runs.{both_nothing, first_change_nothing, front_of_map, front_of_two, left_between}
+use Rattle.bag_tree.proofs.Runs.{nothing_left, syncs_alone}
 use Rattle.bag_tree.proofs.Within.{itself_within}
 use Rattle.bag_tree.specs.Asked.{AreSyncs, ChangeNothing}
 use Rattle.bag_tree.specs.Bag.{Bag, has_file}
@@ -37,20 +38,6 @@ after_both (e ∷ es) fs bag = after_both es fs (done e bag)
 
 after_nothing : (es : List DeviceEvent) (bag : Bag) → ChangeNothing es → after_events es bag ≡ bag
 after_nothing es bag are = nothing_left es bag (after_events es bag) are (all_may es bag)
-
-both_nothing : (es fs : List DeviceEvent) → ChangeNothing es → ChangeNothing fs → ChangeNothing (es ++ fs)
-both_nothing [] fs one two = two
-both_nothing (e ∷ es) fs one two = (one.0, both_nothing es fs one.1 two)
-
--- the first of some writes are writes
-front_of_map : {A : Type 0} (f : A → DeviceEvent) (xs : List A) (front rest : List DeviceEvent)
-    → map f xs ≡ front ++ rest → (ys : List A) × (front ≡ map f ys)
-front_of_map f xs [] rest is = ([], refl)
-front_of_map f [] (e ∷ front) rest is = cc
-front_of_map f (x ∷ xs) (e ∷ front) rest is =
-    let same : e ≡ f x = cc in
-    let rest_is : map f xs ≡ front ++ rest = cc in
-    let more = front_of_map f xs front rest rest_is in (x ∷ more.0, λ i. same i ∷ more.1 i)
 
 module _ (beside : List ℕ) (beside_is : is_base_name beside ≡ true) where
   -- ---- a change that is whole

@@ -1,6 +1,6 @@
 -- How a run of events goes on.
 use Rattle.std.proofs.Common.{◌≡◌, ◌++◌, inl, inr, ⊎_elim, false, List, [], ◌∷◌, ◌⊎◌, refl, sym, ◌∙◌, subst, append-nil}
-use Rattle.std.proofs.Common.{append_assoc}
+use Rattle.std.proofs.Common.{append_assoc, map}
 use Rattle.std.proofs.lemmas.Bool.{false_from_ne_true, false≢true}
 use Rattle.bag_tree.proofs.Events.{done_nothing, durable_front, nothing_is_lost, nothing_undone, sync_alone}
 use Rattle.bag_tree.specs.Asked.{AreSyncs, ChangeNothing}
@@ -35,6 +35,20 @@ split_last (y ∷ trail) (x ∷ before) after e is =
     let rest_is : trail ++ e ∷ [] ≡ before ++ after = cc in
     ⊎_elim (λ all. inl (λ i. same i ∷ all i)) (λ front. inr (front.0, λ i. sym same i ∷ front.1 i))
     (split_last trail before after e rest_is)
+
+pub both_nothing : (es fs : List DeviceEvent) → ChangeNothing es → ChangeNothing fs → ChangeNothing (es ++ fs)
+both_nothing [] fs one two = two
+both_nothing (e ∷ es) fs one two = (one.0, both_nothing es fs one.1 two)
+
+-- the first of some writes are writes
+pub front_of_map : {A : Type 0} (f : A → DeviceEvent) (xs : List A) (front rest : List DeviceEvent)
+    → map f xs ≡ front ++ rest → (ys : List A) × (front ≡ map f ys)
+front_of_map f xs [] rest is = ([], refl)
+front_of_map f [] (e ∷ front) rest is = cc
+front_of_map f (x ∷ xs) (e ∷ front) rest is =
+    let same : e ≡ f x = cc in
+    let rest_is : map f xs ≡ front ++ rest = cc in
+    let more = front_of_map f xs front rest rest_is in (x ∷ more.0, λ i. same i ∷ more.1 i)
 
 pub syncs_alone : (es : List DeviceEvent) → AreSyncs es → ChangeNothing es
 syncs_alone [] are = tt

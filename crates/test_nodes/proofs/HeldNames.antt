@@ -17,15 +17,11 @@ use Rattle.std.specs.Ordering.{eq_by_cmp}
 use Rattle.bag_text.specs.Text.{text_cmp, after_prefix}
 use Rattle.bag_text.specs.Path.{slash, under}
 use Rattle.bag_tree.proofs.SameText.{one_text, text_itself}
+use Rattle.bag_tree.proofs.Within.{prefix_test}
 use Rattle.bag_disk.specs.Disk.{Node}
 use Rattle.bag_disk.specs.DiskNodes.{AreNamesIn, HasUnnamed, IsName}
 use Rattle.bag_disk.specs.Location.{path_in}
 use Rattle.test_nodes.specs.Held.{Held, entries_of, nodes_of, node_of, name_in, names_in, as_name, after_folder}
-
-prefix_test : (p t : List ℕ)
-    → (starts_with nat_eq t p ≡ true → t ≡ p ++ drop (length p) t)
-    × ((rest : List ℕ) → t ≡ p ++ rest → starts_with nat_eq t p ≡ true)
-prefix_test p t = starts_is Decides-eqb t p (starts_with nat_eq t p) refl
 
 after_test : (p t rest : List ℕ) (b : Bool) → starts_with nat_eq t p ≡ b
     → cond b (Some (drop (length p) t)) None ≡ Some rest → t ≡ p ++ rest
