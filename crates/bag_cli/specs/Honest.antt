@@ -25,7 +25,7 @@ pub record IsReportedMade (name : List ℕ) (algs : List Alg) (info : List NewEl
   pub valid : HasKnownSize old.bag → HasNoFault new.bag
   pub any_moment : OutlastsCuts old new
   pub lasting : IsTrue old.noted → LeavesOnly old.trail new.trail old.bag new.bag
-  pub said : Appends before.taken after.taken (if quiet then [] else made_line name)
+  pub said : Appends before.taken after.taken (made_line name quiet)
 
 -- The bag wasn't made. The reason was said, which comes only where it is so, and tells what is
 -- left.

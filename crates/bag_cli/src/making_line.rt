@@ -1,14 +1,14 @@
 //! The line that says how making a bag went. Writing it takes no memory.
-ghost use Rattle.std.specs.Prelude.{◌++◌, codes};
 ghost use Rattle.bag_cli.specs.MakingLine as spec;
 ghost use Rattle.bag_tree.specs.Pieces.{Writes};
 
 use crate::said::{MADE, NOT_MADE};
 use bag_faults::put_line;
 use bag_make::{MakeFault, said};
+use bag_program::{put_done, put_not_done, put_refused};
 use bag_tags::said::{BAD_VALUE, NO_ALGORITHM};
 use bag_text::said::OUT_OF_MEMORY;
-use bag_tree::{Out, Refused, Stop, TreeFault};
+use bag_tree::{Out, Refused, TreeFault};
 use itoa::Buffer;
 
 /// Hands the line about a folder of this name to the output, or nothing where the bag was made and
@@ -23,13 +23,7 @@ pub fn put_making<W: Out>(
         (spec.line name.now made.now quiet) result }
 {
     match made {
-        Ok(()) => {
-            if quiet {
-                Ok(())
-            } else {
-                put_line(name, &[MADE, "\n"], out)
-            }
-        }
+        Ok(()) => put_done(name, MADE, quiet, out),
         Err(fault) => put_not_made(name, fault, out),
     }
 }
@@ -39,35 +33,16 @@ fn put_not_made<W: Out>(name: &str, fault: &MakeFault, out: &mut W) -> Result<()
         (spec.not_made_line name.now (spec.reason fault.now)) result }
 {
     match fault {
-        MakeFault::NoAlgorithm => put_reason(name, NO_ALGORITHM, out),
-        MakeFault::InTheWay => put_reason(name, said::IN_THE_WAY, out),
-        MakeFault::BadValue => put_reason(name, BAD_VALUE, out),
-        MakeFault::ReadStopped(stop) => put_unread(name, stop, out),
-        MakeFault::Memory => put_reason(name, OUT_OF_MEMORY, out),
+        MakeFault::NoAlgorithm => put_not_done(name, NOT_MADE, NO_ALGORITHM, out),
+        MakeFault::InTheWay => put_not_done(name, NOT_MADE, said::IN_THE_WAY, out),
+        MakeFault::BadValue => put_not_done(name, NOT_MADE, BAD_VALUE, out),
+        MakeFault::ReadStopped(stop) => {
+            let path = stop.path.as_str();
+            put_refused(name, NOT_MADE, said::READ, path, stop.cause, out)
+        }
+        MakeFault::Memory => put_not_done(name, NOT_MADE, OUT_OF_MEMORY, out),
         MakeFault::StepRefused(place, cause) => put_step(name, *place, *cause, out),
     }
-}
-
-fn put_reason<W: Out>(name: &str, reason: &str, out: &mut W) -> Result<(), Refused>
-    ensures { Writes (W.state out.old) (W.state out.new) (spec.not_made_line name.now reason.now)
-        result }
-{
-    put_line(name, &[NOT_MADE, reason, "\n"], out)
-}
-
-fn put_unread<W: Out>(name: &str, stop: &Stop, out: &mut W) -> Result<(), Refused>
-    ensures { Writes (W.state out.old) (W.state out.new)
-        (spec.not_made_line name.now (spec.unread stop.now)) result }
-{
-    put_line(name, &[NOT_MADE, said::READ], out)?;
-    put_cause(stop, out)
-}
-
-fn put_cause<W: Out>(stop: &Stop, out: &mut W) -> Result<(), Refused>
-    ensures { Writes (W.state out.old) (W.state out.new)
-        (spec.unread_file stop.now ++ codes "\n") result }
-{
-    put_line(stop.path.as_str(), &[" ", stop.cause.word(), "\n"], out)
 }
 
 fn put_step<W: Out>(name: &str, place: u64, cause: TreeFault, out: &mut W) -> Result<(), Refused>

@@ -23,7 +23,7 @@ pub enum MakeFault {
     #[error("{why}", why = BAD_VALUE)]
     BadValue,
     /// The tree refused to list its files, or to read one. The cause isn't out of memory.
-    #[error("{read}{0}", read = said::READ)]
+    #[error("{read} {0}", read = said::READ)]
     ReadStopped(Stop),
     /// Memory ran out.
     #[error("{why}", why = OUT_OF_MEMORY)]

@@ -3,8 +3,8 @@
 /// A file stands where the files are held while they are moved.
 pub const IN_THE_WAY: &str = ".bagit-new is there";
 
-/// Before the file of a making that couldn't be read, and before the place of a step that was
-/// refused.
-pub const READ: &str = "read ";
+/// Before the file of a making that couldn't be read.
+pub const READ: &str = "read";
 
+/// Before the place of a step that was refused.
 pub const STEP: &str = "step ";

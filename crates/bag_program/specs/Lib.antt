@@ -1,4 +1,5 @@
 pub mod Deeds
+pub mod EndedLine
 pub mod FolderDeeds
 pub mod Folders
 pub mod Halt

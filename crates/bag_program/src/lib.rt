@@ -17,6 +17,7 @@
 #![tactic(auto)]
 
 mod disks;
+mod ended_line;
 mod file_trouble;
 mod folder_deed;
 mod folders;
@@ -36,6 +37,7 @@ mod visits;
 mod words;
 
 pub use disks::Disks;
+pub use ended_line::{put_done, put_not_done, put_refused};
 pub use file_trouble::{FileTrouble, say_file_trouble};
 pub use folder_deed::{FolderDeed, InFolders};
 pub use folders::Folders;

@@ -1,20 +1,15 @@
 -- The line that says how renewing a bag went, and the exit status.
-use Rattle.std.specs.Prelude.{ℕ, Bool, List, [], ◌++◌, Result, codes, if◌then◌else◌}
+use Rattle.std.specs.Prelude.{ℕ, Bool, List, ◌++◌, Result, codes}
 use Rattle.std.specs.declared.result.Result.TheVariants.{Ok, Err}
 use Rattle.bag_faults.specs.FaultLine.{fault_line, field}
 use Rattle.bag_faults.specs.declared.fault.Fault.{Fault}
-use Rattle.bag_tree.specs.Tree.{cause_word}
-use Rattle.bag_tree.specs.declared.tree_fault.TreeFault.{TreeFault}
 use Rattle.bag_changes.specs.declared.fault.RenewFault.{RenewFault}
 use Rattle.bag_changes.specs.declared.fault.RenewFault.TheVariants as why
+use Rattle.bag_program.specs.EndedLine.{done_line, not_done_line, refusal}
 
 -- what is said of a path
 abbrev pub about_path : List ℕ → List ℕ → List ℕ
 about_path path said = field path ++ said
-
--- what was refused of a file, none where it is the listing, and the cause
-abbrev pub refusal : List ℕ → List ℕ → TreeFault → List ℕ
-refusal what path cause = what ++ (codes " " ++ (field path ++ (codes " " ++ cause_word cause)))
 
 -- the bag has this fault
 abbrev pub faulty : Fault → List ℕ
@@ -35,17 +30,13 @@ reason why.Memory = codes "out of memory"
 reason (why.PutRefused file cause) = refusal (codes "put") file cause
 reason (why.RemoveRefused file cause) = refusal (codes "remove") file cause
 
--- the bag of this name was renewed
-abbrev pub renewed_line : List ℕ → List ℕ
-renewed_line name = field name ++ codes " renewed\n"
-
 -- the bag of this name wasn't renewed, for this reason
 abbrev pub not_renewed_line : List ℕ → List ℕ → List ℕ
-not_renewed_line name reason = field name ++ (codes " not renewed: " ++ (reason ++ codes "\n"))
+not_renewed_line name why = not_done_line name (codes " not renewed: ") why
 
--- the line with its end; of a quiet renewal nothing where the bag was renewed
+-- the line with its end; nothing of a quiet renewal where the bag was renewed
 abbrev pub line : List ℕ → Result (Unit {0}) RenewFault → Bool → List ℕ
-line name (Ok _) quiet = if quiet then [] else renewed_line name
+line name (Ok _) quiet = done_line name (codes " renewed") quiet
 line name (Err fault) quiet = not_renewed_line name (reason fault)
 
 -- the exit status, also of what would be done

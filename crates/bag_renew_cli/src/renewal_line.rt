@@ -8,10 +8,11 @@ use crate::said::{
     REMOVE, RENEWED,
 };
 use bag_faults::{Fault, put_line};
+use bag_program::{put_done, put_not_done, put_refused};
 use bag_renew::RenewFault;
 use bag_tags::said::{BAD_VALUE, NO_ALGORITHM};
 use bag_text::said::OUT_OF_MEMORY;
-use bag_tree::{Out, Refused, TreeFault};
+use bag_tree::{Out, Refused};
 
 /// Hands the line about a bag of this name to the output, or nothing where the bag was renewed and
 /// the renewal is quiet. The name and paths are written as fields of a line.
@@ -25,13 +26,7 @@ pub fn put_renewal<W: Out>(
         (spec.line name.now renewed.now quiet) result }
 {
     match renewed {
-        Ok(()) => {
-            if quiet {
-                Ok(())
-            } else {
-                put_line(name, &[RENEWED, "\n"], out)
-            }
-        }
+        Ok(()) => put_done(name, RENEWED, quiet, out),
         Err(fault) => put_not_renewed(name, fault, out),
     }
 }
@@ -58,37 +53,24 @@ pub(crate) fn put_not_renewed<W: Out>(
 {
     match fault {
         RenewFault::Faulty(fault) => put_faulty(name, fault, out),
-        RenewFault::BadValue => put_reason(name, BAD_VALUE, out),
-        RenewFault::NoAlgorithm => put_reason(name, NO_ALGORITHM, out),
+        RenewFault::BadValue => put_not_done(name, NOT_RENEWED, BAD_VALUE, out),
+        RenewFault::NoAlgorithm => put_not_done(name, NOT_RENEWED, NO_ALGORITHM, out),
         RenewFault::InTheWay(path) => put_path(name, path.as_str(), IN_THE_WAY, out),
         RenewFault::Unnameable(path) => put_path(name, path.as_str(), CANT_BE_NAMED, out),
         RenewFault::Outdated(path) => put_path(name, path.as_str(), OUT_OF_DATE, out),
         RenewFault::Unlisted(path) => put_path(name, path.as_str(), IN_NO_MANIFEST, out),
-        RenewFault::Fetch => put_reason(name, FETCH, out),
-        RenewFault::ReadStopped(stop) => put_refusal(
-            name,
-            READ,
-            stop.path.as_str(),
-            stop.cause,
-            out,
-        ),
-        RenewFault::Memory => put_reason(name, OUT_OF_MEMORY, out),
-        RenewFault::PutRefused(file, cause) => put_refusal(name, PUT, file.as_str(), *cause, out),
-        RenewFault::RemoveRefused(file, cause) => put_refusal(
-            name,
-            REMOVE,
-            file.as_str(),
-            *cause,
-            out,
-        ),
+        RenewFault::Fetch => put_not_done(name, NOT_RENEWED, FETCH, out),
+        RenewFault::ReadStopped(stop) => {
+            put_refused(name, NOT_RENEWED, READ, stop.path.as_str(), stop.cause, out)
+        }
+        RenewFault::Memory => put_not_done(name, NOT_RENEWED, OUT_OF_MEMORY, out),
+        RenewFault::PutRefused(file, cause) => {
+            put_refused(name, NOT_RENEWED, PUT, file.as_str(), *cause, out)
+        }
+        RenewFault::RemoveRefused(file, cause) => {
+            put_refused(name, NOT_RENEWED, REMOVE, file.as_str(), *cause, out)
+        }
     }
-}
-
-fn put_reason<W: Out>(name: &str, reason: &str, out: &mut W) -> Result<(), Refused>
-    ensures { Writes (W.state out.old) (W.state out.new)
-        (spec.not_renewed_line name.now reason.now) result }
-{
-    put_line(name, &[NOT_RENEWED, reason, "\n"], out)
 }
 
 /// The line with a path, and what is said of it.
@@ -98,21 +80,6 @@ fn put_path<W: Out>(name: &str, path: &str, said: &str, out: &mut W) -> Result<(
 {
     put_line(name, &[NOT_RENEWED], out)?;
     put_line(path, &[said, "\n"], out)
-}
-
-/// The line with what was refused of a file, and the cause.
-fn put_refusal<W: Out>(
-    name: &str,
-    what: &str,
-    path: &str,
-    cause: TreeFault,
-    out: &mut W,
-) -> Result<(), Refused>
-    ensures { Writes (W.state out.old) (W.state out.new)
-        (spec.not_renewed_line name.now (spec.refusal what.now path.now cause)) result }
-{
-    put_line(name, &[NOT_RENEWED, what, " "], out)?;
-    put_line(path, &[" ", cause.word(), "\n"], out)
 }
 
 /// The line with a fault's line.

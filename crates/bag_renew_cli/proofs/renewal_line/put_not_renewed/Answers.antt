@@ -1,7 +1,7 @@
 use Rattle.bag_renew_cli.proofs.renewal_line.put_not_renewed.Goals as goal
 
 pub returns-in-NoAlgorithm : goal.returns-in-NoAlgorithm
-returns-in-NoAlgorithm g c = rw c.in-NoAlgorithm.is c.put_reason-in-NoAlgorithm.ensures
+returns-in-NoAlgorithm g c = rw c.in-NoAlgorithm.is c.put_not_done-in-NoAlgorithm.ensures
 
 pub returns-in-InTheWay : goal.returns-in-InTheWay
 returns-in-InTheWay g c = rw c.in-InTheWay.is (rw c.as_str.ensures at c.put_path.ensures)
