@@ -1,11 +1,11 @@
 -- Each change of a renewal can be made after those before it.
 use Rattle.bag_renew.proofs.Common.{◌≡◌, ◌≢◌, ◌++◌, ◌∷◌, inl, inr, ℕ, Bool, true, false, cond, List, [], Option}
-use Rattle.bag_renew.proofs.Common.{None, Some, is_some, map, refl, sym, ap, ◌∙◌, false_from_ne_true, false≢true}
+use Rattle.bag_renew.proofs.Common.{None, Some, is_some, refl, sym, ap, ◌∙◌, false_from_ne_true, false≢true}
 use Rattle.bag_renew.proofs.Common.{AllByRecursion, eq_by_cmp, text_cmp, from_any, one_text, text_itself}
 use Rattle.bag_renew.proofs.Common.{is_base_name, tag_path, TagName, Manifest, Tag, Alg, Bag, IsBag, file}
 use Rattle.bag_renew.proofs.Common.{files_of, has_file, is_within, within_cases, in_base, after_changes, changed}
 use Rattle.bag_renew.proofs.Common.{FileChange, Put, Remove, begun_file, changes, clearing, opening, algs_where}
-use Rattle.bag_renew.proofs.Common.{has_tag_manifest, IsOutOfTheWay, Renewal}
+use Rattle.bag_renew.proofs.Common.{has_tag_manifest, IsOutOfTheWay, Renewal, removals_of}
 use Rattle.std.specs.FinSet as set
 use Rattle.bag_tree.proofs.Within.{IsWithin}
 use Rattle.bag_tree.specs.Steps.{has_within}
@@ -102,7 +102,7 @@ module _ (bag : Bag) (renewal : Renewal) (is : IsBag bag) (way : IsOutOfTheWay b
       of_removes bag renewal (λ n. begun_file ≢ n) (λ tag written. no_begun tag) Tag
       (algs_where (has_tag_manifest bag))
 
-  removals : (some : List Alg) → AllByRecursion IsRemoval (map (λ alg. Remove (tag_path (Manifest Tag alg))) some)
+  removals : (some : List Alg) → AllByRecursion IsRemoval (removals_of Tag some)
   removals [] = tt
   removals (alg ∷ some) = (in_base (Manifest Tag alg), removals some)
 
