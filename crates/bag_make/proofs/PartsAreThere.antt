@@ -41,7 +41,7 @@ module _ (bag : Bag) (algs : List Alg) (info : List NewElement) where
       unfolding PartHolds
       by_code NoPayloadFolder (at, lacks) = (let clash : true ≡ false = sym has_data ∙ lacks in cc)
       by_code NoPayloadManifest (at, none) =
-          let m = some_member algs can.some_alg in
+          let m = some_member algs can.asked.0 in
           none (name m.0) (name_is_text m.0, ap is_some (tag_there bag algs info (Manifest Payload m.0) _ (m.1, refl)))
       by_code AlgorithmUnsupported (kind, alg, at, has, none) = grind (arith, manifest_is, name_named)
       by_code NotUtf8 (at, ((tag, other, same), (bytes, held, bad))) =
