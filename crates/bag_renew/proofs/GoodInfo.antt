@@ -39,7 +39,7 @@ use Rattle.bag_renewed.specs.declared.renewal.ElementChanges.{ElementChanges}
 use Rattle.bag_changes.proofs.Contents.{these_files}
 use Rattle.bag_renew.proofs.KeptInfo.{kept_is_good}
 use Rattle.bag_tags.proofs.OxumReads.{oxum_reads}
-use Rattle.bag_renew.proofs.Places.{place_of}
+use Rattle.bag_facts.proofs.Mapped.{place_of}
 use Rattle.bag_renew.proofs.RenewedNames.{by_new_rules, same_payload}
 
 -- ---- one Payload-Oxum
