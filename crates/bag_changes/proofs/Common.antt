@@ -34,7 +34,7 @@ pub use Rattle.bag_tree.proofs.SameText.{exact_texts}
 pub use Rattle.bag_tree.specs.Bag.{Bag, HasFile, IsBag, file, files_of, has_file, has_folder}
 pub use Rattle.bag_tree.specs.declared.file_change.FileChange.{FileChange}
 pub use Rattle.bag_tree.specs.declared.file_change.FileChange.TheVariants.{Put, Remove}
-pub use Rattle.bag_changes.specs.Changes.{changes, clearing, dropping, opening, put, unkept}
+pub use Rattle.bag_changes.specs.Changes.{changes, clearing, dropping, last_files, opening, put, removals_of, unkept, written_info}
 pub use Rattle.bag_renewed.specs.Renewed.{algs_where, begun_file, declaration_file, has_payload_manifest}
 pub use Rattle.bag_renewed.specs.Renewed.{info_files, is_kept, is_kept_alg, is_new_alg, keeps}
 pub use Rattle.bag_renewed.specs.Renewed.{kept_or, kept_tag_files, named_tag_files, new_algs, new_elements, new_rules}

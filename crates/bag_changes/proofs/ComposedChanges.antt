@@ -1,18 +1,18 @@
 -- The changes of a renewal, and what they are composed of.
-use Rattle.bag_changes.proofs.Common.{◌≡◌, ◌++◌, ◌∙◌, ℕ, Bool, true, false, not, List, Option, None, Some, map}
-use Rattle.bag_changes.proofs.Common.{filter, is_some, sym, ap, subst, append_assoc, map-append}
+use Rattle.bag_changes.proofs.Common.{◌≡◌, ◌++◌, ◌∙◌, ℕ, List, Option, map}
+use Rattle.bag_changes.proofs.Common.{filter, sym, ap, subst, append_assoc, map-append}
 use Rattle.bag_changes.proofs.Common.{or_right, Tag, Manifest, tag_path, Bag, files_of, File, FileChange, changes}
-use Rattle.bag_changes.proofs.Common.{clearing, cond, dropping, opening, put, info_files, manifest_by}
-use Rattle.bag_changes.proofs.Common.{named_tag_files, new_algs, new_rules, payload_manifests, unkept}
-use Rattle.bag_changes.proofs.Common.{writes_info, Alg, Info, Payload, Renewal, [], is_payload_path}
+use Rattle.bag_changes.proofs.Common.{clearing, dropping, last_files, opening, put, manifest_by}
+use Rattle.bag_changes.proofs.Common.{named_tag_files, new_algs, new_rules, payload_manifests, unkept, written_info}
+use Rattle.bag_changes.proofs.Common.{Alg, Info, Payload, Renewal, is_payload_path}
 use Rattle.bag_checked.proofs.CheckedBag.{manifests_some}
 use Rattle.bag_changes.proofs.NamedFiles.{all_named, old_files}
 use Rattle.bag_changes.proofs.SummedFiles.{filter_within, passing_summed}
 use Rattle.bag_changes.proofs.WrittenManifests.{info_put, manifests_put, tag_manifests_are, written_is_new}
 use Rattle.bag_changes.specs.Composing.{AreInPathOrder, first_files, is_tag_file, is_tag_path}
-use Rattle.bag_changes.specs.Composing.{keeps_bytes, kept_names, last_files, of_path, tag_manifests_of}
+use Rattle.bag_changes.specs.Composing.{keeps_bytes, kept_names, of_path, tag_manifests_of}
 use Rattle.bag_renewed.specs.Target.{written_algs}
-use Rattle.bag_changes.specs.NewInfo.{IsInfoAfter, IsNewInfo}
+use Rattle.bag_changes.specs.NewInfo.{IsNewInfo}
 use Rattle.bag_text.specs.declared.rules.Rules.{Rules}
 use Rattle.bag_tags.specs.Summed.{manifests_by}
 use Rattle.bag_changes.specs.Planned.{changes_from, first_from, kept_from, named_from, tag_manifests_from}
@@ -99,15 +99,12 @@ module _ (bag : Bag) (renewal : Renewal) where
     named_of_bag =
         (λ i. in_path_order (kept_of_bag i ++ (first_of_bag i ++ last_files bag renewal))) ∙ all_named bag renewal
 
-    abbrev written : List File
-    written = cond (writes_info bag renewal) (info_files bag renewal) []
-
     pub changes_of_bag : changes_from bag renewal read_files info ≡ changes bag renewal
     changes_of_bag =
         let manifests = unkept bag renewal (payload_manifests bag renewal) in λ i.
         opening bag renewal
         ++ (clearing bag renewal
-        ++ ((ap (map put) first_of_bag ∙ map-append put written manifests) i
+        ++ ((ap (map put) first_of_bag ∙ map-append put (written_info bag renewal) manifests) i
         ++ (dropping bag renewal
         ++ (map put (last_files bag renewal)
         ++ map put (map (λ (alg : Alg). (tag_path (Manifest Tag alg), manifest_by (new_rules bag renewal) alg (named_of_bag i)))

@@ -9,7 +9,7 @@ use Rattle.bag_changes.proofs.Common.{tag_path, TagName, Declaration, Info, Mani
 use Rattle.bag_changes.proofs.Common.{payload, File, declaration_file, info_files, is_kept, is_new_alg, kept_or}
 use Rattle.bag_changes.proofs.Common.{kept_tag_files, manifest_by, named_tag_files, new_algs, new_elements, new_rules, new_tag_files}
 use Rattle.bag_changes.proofs.Common.{payload_manifest, payload_manifests, stays, tag_manifests, unkept, writes_info}
-use Rattle.bag_changes.proofs.Common.{Renewal}
+use Rattle.bag_changes.proofs.Common.{last_files, written_info, Renewal}
 use Rattle.std.specs.FinMap as fin
 use Rattle.bag_facts.proofs.Mapped.{kept, passed}
 use Rattle.bag_tags.specs.Declaration.{declaration_text}
@@ -21,7 +21,7 @@ use Rattle.bag_changes.proofs.KeptOr.{kept_or_written}
 use Rattle.bag_changes.proofs.Members.{from_all, info_listed, of_one}
 use Rattle.bag_changes.proofs.NoPayload.{no_payload_tag}
 use Rattle.bag_changes.proofs.StaysSo.{stays_so}
-use Rattle.bag_changes.specs.Composing.{first_files, is_tag_file, keeps_bytes, kept_names, last_files}
+use Rattle.bag_changes.specs.Composing.{first_files, is_tag_file, keeps_bytes, kept_names}
 use Rattle.bag_changes.specs.Contents.{Stands}
 use Rattle.bag_renewed.specs.Renewed.{algs_where, in_path_order, is_kept_alg}
 
@@ -248,9 +248,8 @@ module _ (bag : Bag) (renewal : Renewal) where
 
   put_named : (e : File) → Contains put_files e → Contains named e
   put_named e h =
-      let info_put = cond (writes_info bag renewal) (info_files bag renewal) [] in
       elim (contains_either (first_files bag renewal) (last_files bag renewal) e h) [
-        | inl first ↦ elim (contains_either info_put (unkept bag renewal (payload_manifests bag renewal)) e first) [
+        | inl first ↦ elim (contains_either (written_info bag renewal) (unkept bag renewal (payload_manifests bag renewal)) e first) [
           | inl info ↦ info_named e (info_put_by (writes_info bag renewal) e info)
           | inr own ↦ manifest_named e
               (kept (λ (x : File). not (is_kept bag renewal x.0)) (payload_manifests bag renewal) e own).1
@@ -283,13 +282,10 @@ module _ (bag : Bag) (renewal : Renewal) where
         (ap not written.0) (contains_first (declaration_file bag renewal) [])))
   ]
 
-  abbrev info_put : List File
-  info_put = cond (writes_info bag renewal) (info_files bag renewal) []
-
   info_there_by : (b : Bool) → writes_info bag renewal ≡ b → (q c : List ℕ) → Contains (info_files bag renewal) (q, c)
       → Contains all_of (q, c)
   info_there_by true is q c h =
-      in_first (q, c) (contains_front info_put (unkept bag renewal (payload_manifests bag renewal)) (q, c)
+      in_first (q, c) (contains_front (written_info bag renewal) (unkept bag renewal (payload_manifests bag renewal)) (q, c)
       (subst (λ b. Contains (cond b (info_files bag renewal) []) (q, c)) (sym is) h))
   info_there_by false is q c h =
       let text : List ℕ = text_on_lines (new_elements bag renewal) in
@@ -309,7 +305,7 @@ module _ (bag : Bag) (renewal : Renewal) where
             (manifest_name_in alg (and_from (is_new_alg bag renewal alg) (is_kept bag renewal path)
             (passes (is_new_alg bag renewal) alg has) was.0)) was.1)
         | inr written ↦ in_first one
-            (contains_back info_put (unkept bag renewal (payload_manifests bag renewal)) one
+            (contains_back (written_info bag renewal) (unkept bag renewal (payload_manifests bag renewal)) one
             (passed (λ (x : File). not (is_kept bag renewal x.0)) (payload_manifests bag renewal) one (ap not written.0)
             (mapped_contains {B = File} (payload_manifest bag renewal) (new_algs bag renewal) alg has)))
       ]

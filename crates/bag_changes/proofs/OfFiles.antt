@@ -2,12 +2,12 @@
 use Rattle.bag_changes.proofs.Common.{◌≡◌, ◌++◌, ◌∷◌, ◌∙◌, ℕ, Bool, true, false, cond, List, [], Option, None, Some}
 use Rattle.bag_changes.proofs.Common.{map, refl, sym, subst, All-append, All-cons, All-nil, map-append}
 use Rattle.bag_changes.proofs.Common.{in_base, Info, Declaration, Manifest, Payload, Tag, TagName, Kind, tag_path, Alg}
-use Rattle.bag_changes.proofs.Common.{File, FileChange, Put, Remove, begun_file, put, with_path}
+use Rattle.bag_changes.proofs.Common.{File, FileChange, Put, Remove, begun_file, put, removals_of, with_path}
 use Rattle.bag_text.specs.declared.rules.Rules.{Rules}
 use Rattle.bag_tags.specs.Entry.{manifest_text_by}
 use Rattle.bag_tags.specs.Summed.{manifests_by, summed_entry}
 use Rattle.bag_tree.specs.ChangeFiles.{IsOfFile}
-use Rattle.bag_changes.specs.Composing.{AreOfFiles, removals_of, tag_manifests_of}
+use Rattle.bag_changes.specs.Composing.{AreOfFiles, tag_manifests_of}
 use Rattle.bag_tags.specs.declared.summed.SummedFile.{SummedFile}
 use Rattle.bag_changes.proofs.Staying.{no_begun}
 

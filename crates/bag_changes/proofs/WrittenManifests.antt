@@ -5,7 +5,7 @@ use Rattle.bag_changes.proofs.Common.{contains_behind, contains_first, any_from,
 use Rattle.bag_changes.proofs.Common.{and_parts, false≢true, or_left, tag_path, Payload, Tag, Info, Manifest, Alg, Bag, file}
 use Rattle.bag_changes.proofs.Common.{files_of, payload, File, is_kept, is_new_alg, info_files, manifest_by, new_algs}
 use Rattle.bag_changes.proofs.Common.{new_rules}
-use Rattle.bag_changes.proofs.Common.{new_elements, payload_manifest, payload_manifests, unkept, with_path, writes_info}
+use Rattle.bag_changes.proofs.Common.{new_elements, payload_manifest, payload_manifests, unkept, with_path, written_info}
 use Rattle.bag_changes.proofs.Common.{Renewal}
 use Rattle.bag_text.proofs.AlgSets.{each_is_listed}
 use Rattle.bag_text.specs.declared.rules.Rules.{Rules}
@@ -154,7 +154,7 @@ module _ (bag : Bag) (renewal : Renewal) where
   info_text = text_on_lines (new_elements bag renewal)
 
   pub info_put : (info : Option (List ℕ)) → IsNewInfo bag renewal info
-      → with_path (tag_path Info) info ≡ cond (writes_info bag renewal) (info_files bag renewal) []
+      → with_path (tag_path Info) info ≡ written_info bag renewal
   info_put None other = sym (ap (λ b. cond b (info_files bag renewal) []) other)
   info_put (Some text) (writes, good, same) =
       (λ i. (tag_path Info, same i) ∷ [])

@@ -1,8 +1,8 @@
 -- What the changes of a renewal are composed of.
 use Rattle.std.specs.Prelude.{ℕ, ◌≡◌, List, Option, map}
 use Rattle.bag_tree.specs.Bag.{Bag}
-use Rattle.bag_changes.specs.Changes.{put}
-use Rattle.bag_changes.specs.Composing.{AreOfFiles, last_files}
+use Rattle.bag_changes.specs.Changes.{last_files, put}
+use Rattle.bag_changes.specs.Composing.{AreOfFiles}
 use Rattle.bag_changes.specs.Planned.{first_from, named_from}
 use Rattle.bag_renewed.specs.Renewed.{new_algs}
 use Rattle.bag_tags.specs.Summed.{File}

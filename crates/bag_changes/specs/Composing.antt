@@ -7,7 +7,6 @@ use Rattle.bag_text.specs.Path.{is_payload_path}
 use Rattle.bag_text.specs.declared.alg.Alg.{Alg}
 use Rattle.bag_text.specs.declared.rules.Rules.{Rules}
 use Rattle.bag_read.specs.ManifestName.{tag_path}
-use Rattle.bag_read.specs.declared.kind.Kind.{Kind}
 use Rattle.bag_read.specs.declared.kind.Kind.TheVariants.{Payload, Tag}
 use Rattle.bag_read.specs.declared.tag_name.TagName.{TagName}
 use Rattle.bag_read.specs.declared.tag_name.TagName.TheVariants.{Declaration, Info, Manifest}
@@ -15,11 +14,9 @@ use Rattle.bag_tags.specs.Summed.{manifests_by, File}
 use Rattle.bag_tree.specs.Bag.{Bag}
 use Rattle.bag_tree.specs.ChangeFiles.{IsOfFile}
 use Rattle.bag_tree.specs.declared.file_change.FileChange.{FileChange}
-use Rattle.bag_tree.specs.declared.file_change.FileChange.TheVariants.{Remove}
-use Rattle.bag_changes.specs.Changes.{put, unkept}
-use Rattle.bag_renewed.specs.Renewed.{algs_where, begun_file, declaration_file, in_path_order}
-use Rattle.bag_renewed.specs.Renewed.{info_files, is_kept, is_kept_alg, payload_manifests, stays}
-use Rattle.bag_renewed.specs.Renewed.{writes_info}
+use Rattle.bag_changes.specs.Changes.{put, unkept, written_info}
+use Rattle.bag_renewed.specs.Renewed.{algs_where, begun_file, in_path_order}
+use Rattle.bag_renewed.specs.Renewed.{is_kept, is_kept_alg, payload_manifests, stays, writes_info}
 use Rattle.bag_checked.specs.Summed.{AreSummedBy}
 use Rattle.bag_renewed.specs.declared.renewal.Renewal.{Renewal}
 use Rattle.bag_tags.specs.declared.summed.SummedFile.{SummedFile}
@@ -43,10 +40,6 @@ is_tag_path path = not (is_payload_path path)
 abbrev pub AreInPathOrder : List Alg → List File → List SummedFile → Type 0
 AreInPathOrder algs files summed = AreSummedBy algs (in_path_order files) summed
 
--- the manifests of these algorithms are removed
-abbrev pub removals_of : Kind → List Alg → List FileChange
-removals_of kind algs = map (λ alg. Remove (tag_path (Manifest kind alg))) algs
-
 -- each change is of a file of the base folder, and puts none of the name that a file has while it
 -- is written
 abbrev pub AreOfFiles : List FileChange → Type 0
@@ -60,10 +53,6 @@ tag_manifests_of rules algs files = map put (manifests_by rules Tag algs files)
 abbrev pub keeps_bytes : List TagName → Path → Bool
 keeps_bytes kept path = stays path || list_any (λ name. bytes_eq (tag_path name) path) kept
 
--- the declaration, where it is put, which is after manifests are dropped
-abbrev pub last_files : Bag → Renewal → List File
-last_files bag renewal = unkept bag renewal (declaration_file bag renewal ∷ [])
-
 module _ (bag : Bag) (renewal : Renewal) where
   -- the tag files whose names a renewal writes, and that are kept
   abbrev pub kept_names : List TagName
@@ -74,6 +63,4 @@ module _ (bag : Bag) (renewal : Renewal) where
 
   -- the tag files that are put before manifests are dropped
   abbrev pub first_files : List File
-  first_files =
-      (if writes_info bag renewal then info_files bag renewal else [])
-      ++ unkept bag renewal (payload_manifests bag renewal)
+  first_files = written_info bag renewal ++ unkept bag renewal (payload_manifests bag renewal)

@@ -100,11 +100,14 @@ pub record IsFreeToChange (bag : Bag) (renewal : Renewal) : Type 0 where
   pub own : ¬ (IsNamedAsTag bag begun_file)
   pub none_outdated : first_outdated bag ≡ None
 
+-- no path of the bag has a %
+abbrev pub HasNoPercent : Bag → Type 0
+HasNoPercent bag = (path : Path) → HasFile bag path → has_percent path ≡ false
+
 -- manifests of the renewed bag can name its files, and name its payload
 pub record CanNameFiles (bag : Bag) (renewal : Renewal) : Type 0 where
   pub nameable : AreNameable (new_rules bag renewal) bag
-  pub spelled : (keeps bag renewal ≡ true)
-      ⊎ ((path : Path) → HasFile bag path → has_percent path ≡ false)
+  pub spelled : (keeps bag renewal ≡ true) ⊎ HasNoPercent bag
   pub listed : AreStillListed bag renewal
 
 -- nothing keeps the bag from being renewed

@@ -7,9 +7,9 @@ use Rattle.bag_read.specs.declared.tag_name.TagName.TheVariants.{Info, Manifest}
 use Rattle.bag_tree.specs.Bag.{Bag}
 use Rattle.bag_tree.specs.Tree.{TreeState}
 use Rattle.bag_tree.specs.declared.file_change.FileChange.{FileChange}
-use Rattle.bag_changes.specs.Changes.{clearing, dropping, opening, put}
+use Rattle.bag_changes.specs.Changes.{clearing, dropping, last_files, opening, put}
 use Rattle.bag_checked.specs.Compared.{AreCompared}
-use Rattle.bag_changes.specs.Composing.{is_tag_file, keeps_bytes, kept_names, last_files}
+use Rattle.bag_changes.specs.Composing.{is_tag_file, keeps_bytes, kept_names}
 use Rattle.bag_renewed.specs.Target.{written_algs}
 use Rattle.bag_changes.specs.NewInfo.{IsInfoAfter}
 use Rattle.bag_checked.specs.NewManifests.{manifests_for}

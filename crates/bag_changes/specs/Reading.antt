@@ -1,5 +1,5 @@
 -- How a bag is read that is to be renewed.
-use Rattle.std.specs.Prelude.{ℕ, ◌≡◌, ◌≢◌, ◌⊎◌, ◌<◌, ◌^◌, true, Contains, IsTrue, List}
+use Rattle.std.specs.Prelude.{ℕ, ◌≡◌, ◌≢◌, ◌⊎◌, true, Contains, IsTrue, List}
 use Rattle.std.specs.List.{list_any}
 use Rattle.bag_text.specs.Code.{stage}
 use Rattle.bag_text.specs.Lines.{lines_of_file}
@@ -10,7 +10,6 @@ use Rattle.bag_facts.specs.Wanted.{ForListing}
 use Rattle.bag_facts.specs.declared.facts.Facts.{Facts}
 use Rattle.bag_faults.specs.declared.options.Depth.TheVariants.{Declaration}
 use Rattle.bag_stages.specs.MetadataStage.{bag_info_txt}
-use Rattle.bag_stages.specs.Payload.{oxum}
 use Rattle.bag_stages.specs.TagFiles.{lines_in}
 use Rattle.bag_tags.specs.OnLines.{is_bad_long_element}
 use Rattle.bag_tree.specs.Bag.{Bag, IsBag, files_of}
@@ -33,7 +32,7 @@ use Rattle.bag_changes.specs.Reserved.{IsOutOfTheWay, reserved_names}
 use Rattle.bag_checked.specs.Stops.{IsOfFile}
 use Rattle.bag_checked.specs.Summed.{AreSummedBy, IsInfoAmong, files_to_read}
 use Rattle.bag_renewed.specs.Target.{IsTargetFor}
-use Rattle.bag_changes.specs.Valid.{CanRenew, HasGoodElements}
+use Rattle.bag_changes.specs.Valid.{CanRenew, HasGoodElements, HasKnownSize}
 use Rattle.bag_checked.specs.declared.checked.Unchecked.{Unchecked}
 use Rattle.bag_checked.specs.declared.checked.Unchecked.TheVariants as checked
 use Rattle.bag_changes.specs.declared.fault.RenewFault.{RenewFault}
@@ -41,11 +40,6 @@ use Rattle.bag_changes.specs.declared.fault.RenewFault.TheVariants as why
 use Rattle.bag_renewed.specs.declared.renewal.Renewal.{Renewal}
 use Rattle.bag_renewed.specs.declared.target.Target.{Target}
 use Rattle.bag_tags.specs.declared.summed.SummedFile.{SummedFile}
-
--- the number of the payload's files and of their bytes can be written
-pub record HasKnownSize (bag : Bag) : Type 0 where
-  pub count : (oxum bag).streams < 2 ^ 64
-  pub size : (oxum bag).octets < 2 ^ 64
 
 -- A bag was read that can be renewed. It has no fault where its payload was read.
 pub record IsReadBag (renewal : Renewal) (old new : TreeState) : Type 0 where

@@ -1,5 +1,5 @@
 -- When a renewed bag has no fault.
-use Rattle.std.specs.Prelude.{◌⊎◌, ◌<◌, ◌^◌, ◌≡◌, ◌≢◌, All, false, true, [], Some}
+use Rattle.std.specs.Prelude.{◌⊎◌, ◌<◌, ◌^◌, ◌≡◌, ◌≢◌, false, true, [], Some}
 use Rattle.std.specs.List.{list_any}
 use Rattle.bag_text.specs.Bytes.{Content}
 use Rattle.bag_text.specs.Text.{IsText}
@@ -11,12 +11,12 @@ use Rattle.bag_report.specs.Report.{asks}
 use Rattle.bag_report.specs.Valid.{HasNoFault, IsFaultOf, full}
 use Rattle.bag_stages.specs.MetadataStage.{IsOfMetadata, oxum_label}
 use Rattle.bag_stages.specs.Payload.{oxum}
-use Rattle.bag_tags.specs.OnLines.{is_bad_long_element}
 use Rattle.bag_tree.specs.Bag.{Bag, IsBag, LacksFile, file}
 use Rattle.bag_renewed.specs.Elements.{has_label}
 use Rattle.bag_checked.specs.FirstFaults.{IsDamage}
 use Rattle.bag_renewed.specs.Renewed.{is_dropped_alg, is_kept_alg, keeps, new_algs, new_elements}
 use Rattle.bag_renewed.specs.Renewed.{new_rules, renewed, writes_info}
+use Rattle.bag_changes.specs.NewInfo.{CanBeWritten}
 use Rattle.bag_changes.specs.Telling.{AreNameable, AreStillListed}
 use Rattle.bag_renewed.specs.declared.renewal.Renewal.{Renewal}
 
@@ -62,15 +62,17 @@ RenewedIsValid =
     (bag : Bag) (renewal : Renewal) → CanRenew bag renewal → HasGoodInfo bag renewal
     → HasNoFault bag → HasNoFault (renewed bag renewal)
 
--- The elements of the renewed bag can be written, and none that is given is Payload-Oxum. The
--- numbers of the payload's files and of their bytes stay below 2^64.
-pub record HasGoodElements (bag : Bag) (renewal : Renewal) : Type 0 where
-  pub texts : All (λ element. IsText element.0 × IsText element.1) (new_elements bag renewal)
-  pub good : list_any is_bad_long_element (new_elements bag renewal) ≡ false
-  pub set : list_any (has_label oxum_label) renewal.elements.set ≡ false
-  pub appended : list_any (has_label oxum_label) renewal.elements.appended ≡ false
+-- the number of the payload's files and of their bytes can be written
+pub record HasKnownSize (bag : Bag) : Type 0 where
   pub count : (oxum bag).streams < 2 ^ 64
   pub size : (oxum bag).octets < 2 ^ 64
+
+-- The elements of the renewed bag can be written, and none that is given is Payload-Oxum.
+pub record HasGoodElements (bag : Bag) (renewal : Renewal) : Type 0 where
+  pub written : CanBeWritten (new_elements bag renewal)
+  pub set : list_any (has_label oxum_label) renewal.elements.set ≡ false
+  pub appended : list_any (has_label oxum_label) renewal.elements.appended ≡ false
+  pub known : HasKnownSize bag
 
 -- the law: then the bag-info.txt that is written has no fault, and one that is kept has none
 abbrev pub GoodElementsAreGoodInfo : Type 0

@@ -2,7 +2,7 @@
 ghost use Rattle.std.specs.Prelude.{◌≡◌, ◌++◌, IfOk};
 ghost use Rattle.bag_facts.specs.FactsOfBag.{IfBagRead};
 ghost use Rattle.bag_changes.specs.Changes as spec;
-ghost use Rattle.bag_changes.specs.Composing.{AreOfFiles, removals_of};
+ghost use Rattle.bag_changes.specs.Composing.{AreOfFiles};
 ghost use Rattle.bag_renewed.specs.Target.{OfTarget};
 ghost use Rattle.bag_renewed.specs.declared.renewal.Renewal.{Renewal as Asked};
 
@@ -40,7 +40,7 @@ pub(crate) fn dropped(alloc: Global, target: &Target) -> Result<Vec<FileChange>,
 
 /// The manifests of these algorithms are removed.
 fn removals(alloc: Global, kind: Kind, algs: &[Alg]) -> Result<Vec<FileChange>, AllocError>
-    ensures { IfOk result (λ made. made.items ≡ removals_of kind algs.now) }
+    ensures { IfOk result (λ made. made.items ≡ spec.removals_of kind algs.now) }
 {
     let mut changes = Vec::with_capacity(alloc, algs.len())?;
     for alg in algs {

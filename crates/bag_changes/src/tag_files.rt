@@ -4,7 +4,7 @@ ghost use Rattle.bag_read.specs.ManifestName.{tag_path};
 ghost use Rattle.bag_read.specs.declared.kind.Kind.TheVariants as kind;
 ghost use Rattle.bag_read.specs.declared.tag_name.TagName.TheVariants as tag;
 ghost use Rattle.bag_tags.specs.Summed.{manifests_by};
-ghost use Rattle.bag_changes.specs.Changes.{put};
+ghost use Rattle.bag_changes.specs.Changes as changes;
 ghost use Rattle.bag_changes.specs.Composing as spec;
 ghost use Rattle.bag_renewed.specs.Renewed.{with_path};
 ghost use Rattle.bag_renewed.specs.Target.{OfTarget};
@@ -47,7 +47,7 @@ pub(crate) fn first_files(
     ensures texts { IfOk result (λ made. made.items
         ≡ with_path (tag_path tag.Info) info
         ++ manifests_by target.now.rules kind.Payload target.now.written payload.now) }
-    ensures files { IfOk result (λ made. spec.AreOfFiles (map put made.items)) }
+    ensures files { IfOk result (λ made. spec.AreOfFiles (map changes.put made.items)) }
 {
     let algs = target.written.members(alloc)?;
     let mut files = info_file(alloc, info)?;
@@ -71,8 +71,8 @@ fn info_file(alloc: Global, info: Option<Items<u8>>) -> Result<Vec<TagFile>, All
 /// The text of the declaration with its name, where it isn't kept.
 pub(crate) fn last_files(alloc: Global, target: &Target) -> Result<Vec<TagFile>, AllocError>
     ensures texts { IfOk result (λ made. OfTarget target.now (λ bag renewal.
-        made.items ≡ spec.last_files bag renewal)) }
-    ensures files { IfOk result (λ made. spec.AreOfFiles (map put made.items)) }
+        made.items ≡ changes.last_files bag renewal)) }
+    ensures files { IfOk result (λ made. spec.AreOfFiles (map changes.put made.items)) }
 {
     let mut files = Vec::new(alloc);
     let file = declaration_file(alloc)?;

@@ -57,7 +57,7 @@ use Rattle.bag_checked.proofs.GivenDigests.{are_compared, read_are}
 use Rattle.bag_checked.specs.Compared.{AreCompared}
 use Rattle.bag_checked.specs.FirstFaults.{HasNoneBefore, IsFaultBy, IsFirst, IsFoundFirst, IsLookedFor}
 use Rattle.bag_checked.specs.NewManifests.{AreOfSameBytes, HasChecked, HasCheckedAll, IsRefusedFor, OpensRead}
-use Rattle.bag_checked.specs.NewManifests.{OpensTwice, manifests_for}
+use Rattle.bag_checked.specs.NewManifests.{manifests_for}
 use Rattle.bag_checked.specs.Summed.{AreGivenAndChecked, AreSummedBy, IsDifferenceIn, IsFaultyFile, IsRight}
 use Rattle.bag_checked.specs.Summed.{files_to_read}
 use Rattle.bag_tree.specs.Listing.{entry_of_file}
@@ -461,13 +461,5 @@ module _ (rules : Rules) (algs : List Alg) (old new : TreeState) (summed : List 
     pub has_no_fault : HasNoFault old.bag
     has_no_fault = none_at_all all.0 true algs old new summed all.1 all.2 honest refl
 
-    pub opens_twice : OpensTwice old new
-    opens_twice =
-        let read = opens_read all.0 true algs old new summed all.1 all.2 honest in (
-          read.0,
-          read.1,
-          read.2,
-          read.3
-              ∙ ap (λ files. (old.openings ++ read.0) ++ map (λ (e : File). e.0) files)
-              (all_files (files_of old.bag)),
-        )
+    pub opens_all : OpensRead true old new
+    opens_all = opens_read all.0 true algs old new summed all.1 all.2 honest

@@ -135,13 +135,13 @@ module _ (facts : Facts) (files : List FileEntry) (i : ℕ) (entry : FileEntry) 
         info_of = info_more so_far.files info last kept so_far.info_of e.kept_of;
         listed =
             map-append entry_of_file so_far.files (last ∷ [])
-            ∙ (λ j. so_far.listed j ++ record { path = entry.path; size = e.size j } ∷ []) ∙ sym next;
+            ∙ (λ j. so_far.listed j ++ record { path = entry.path; size = e.read.size j } ∷ []) ∙ sym next;
         right = All-append (IsRight facts) so_far.files (last ∷ []) so_far.right
             (All-cons (IsRight facts) last [] e.right (All-nil (IsRight facts)));
         sums = summed_more algs so_far.files summed last one so_far.sums e.sums;
         honest = λ h. All-append (λ (x : File). file old.bag x.0 ≡ Some x.1) so_far.files (last ∷ []) (so_far.honest h)
             (All-cons (λ (x : File). file old.bag x.0 ≡ Some x.1) last []
-            (ap (λ bag. file bag entry.path) (sym before.keeps.bag) ∙ e.honest (before.keeps.honest ∙ h))
+            (ap (λ bag. file bag entry.path) (sym before.keeps.bag) ∙ e.read.honest (before.keeps.honest ∙ h))
             (All-nil (λ (x : File). file old.bag x.0 ≡ Some x.1)));
       }
 
@@ -162,7 +162,7 @@ module _ (facts : Facts) (files : List FileEntry) (i : ℕ) (entry : FileEntry) 
         opened = opened_more once.opened;
         listed = once.listed ∙ before.listed;
         checked = added one kept s;
-        gave = s.gave ∙ ap (λ so_far. so_far ++ (entry.path, s.content) ∷ []) before.gave
+        gave = s.read.gave ∙ ap (λ so_far. so_far ++ (entry.path, s.content) ∷ []) before.gave
             ∙ append_assoc old.gave before.checked.files ((entry.path, s.content) ∷ []);
       })
 

@@ -39,12 +39,6 @@ OpensRead with_payload old new =
     × (new.openings
     ≡ (old.openings ++ tags) ++ map (λ e. e.0) (files_to_read with_payload (files_of old.bag)))
 
--- the tag files that are read were opened, each once, and then each file of the bag once
-abbrev pub OpensTwice : TreeState → TreeState → Type 0
-OpensTwice old new =
-    (tags : List (List ℕ)) × IsStrictlySortedBy text_cmp tags × All (IsWanted full) tags
-    × (new.openings ≡ (old.openings ++ tags) ++ map (λ e. e.0) (files_of old.bag))
-
 -- Over any tree: these manifests give the digests of the very bytes that the tree gave of the files
 -- that it listed, and of which the digests were compared that its manifests, as it gave them first,
 -- give. They are written by the rules of the bag that has these tag files.

@@ -1,6 +1,6 @@
 -- Files of a bag that were checked, with the digests that manifests are to give.
 use Rattle.std.specs.Prelude.{◌≡◌, ◌≢◌, ◌∷◌, ◌++◌, [], ⊤, All, Contains, IsTrue, List, Some, filter}
-use Rattle.std.specs.Prelude.{◌||◌, ◌⊎◌, Bool, Option, length, map, not}
+use Rattle.std.specs.Prelude.{◌||◌, ◌⊎◌, Bool, Option, map, not}
 use Rattle.std.specs.List.Sorted.{IsStrictlySortedBy}
 use Rattle.bag_text.specs.Bytes.{Content, Path}
 use Rattle.bag_text.specs.Order.{IsListOf}
@@ -25,7 +25,7 @@ use Rattle.bag_stages.specs.Given.{AreNaming}
 use Rattle.bag_stages.specs.MetadataStage.{bag_info_txt}
 use Rattle.bag_stages.specs.SumFaults.{IsFaultOfFile, faults_of_bytes}
 use Rattle.bag_stages.specs.ValidityStage.{IsOfValidity}
-use Rattle.bag_checked.specs.Checked.{IsKeptOf}
+use Rattle.bag_checked.specs.Checked.{IsKeptOf, IsRead}
 use Rattle.bag_checked.specs.FirstFaults.{IsFirst}
 use Rattle.bag_tags.specs.Summed.{File}
 use Rattle.bag_checked.specs.declared.checked.Unchecked.{Unchecked}
@@ -76,10 +76,8 @@ AreSummedBy algs files summed = ⊥
 pub record IsCheckedFile (old new : TreeState) (facts : Facts) (entry : FileEntry)
     (algs : List Alg) (one : SummedFile) (kept : Option Content) : Type 0 where
   pub content : Content
-  pub gave : new.gave ≡ old.gave ++ (entry.path, content) ∷ []
+  pub read : IsRead old new entry content
   pub kept_of : IsKeptOf entry.path content kept
-  pub size : length content ≡ entry.size
-  pub honest : IsTrue old.honest → file old.bag entry.path ≡ Some content
   pub right : IsRight facts (entry.path, content)
   pub sums : HasSumsBy algs (entry.path, content) one
 

@@ -1,5 +1,5 @@
 //! The payload manifests of further algorithms, of a bag that has no fault.
-ghost use Rattle.std.specs.Prelude.{◌≡◌, IfOk, IfErr, IsTrue, OnOk, filter};
+ghost use Rattle.std.specs.Prelude.{◌≡◌, IfOk, IfErr, IsTrue, OnOk, filter, true};
 ghost use Rattle.bag_text.specs.Path.{is_payload_path};
 ghost use Rattle.bag_read.specs.declared.kind.Kind.TheVariants.{Payload};
 ghost use Rattle.bag_stages.specs.Payload.{payload};
@@ -8,7 +8,7 @@ ghost use Rattle.bag_tags.specs.Summed.{manifests_by};
 ghost use Rattle.bag_tree.specs.Tree.{Keeps, NothingFailed};
 ghost use Rattle.bag_report.specs.Valid.{HasNoFault};
 ghost use Rattle.bag_checked.specs.NewManifests.{AreOfSameBytes, HasCheckedAll, IsRefusedFor};
-ghost use Rattle.bag_checked.specs.NewManifests.{OpensTwice, manifests_for};
+ghost use Rattle.bag_checked.specs.NewManifests.{OpensRead, manifests_for};
 ghost use Rattle.bag_checked.specs.InTurn.{OpensAllInTurn, OpensBeforeFiles};
 ghost use Rattle.bag_checked.specs.Stops.{MayStopUnchecked};
 
@@ -44,7 +44,7 @@ pub fn new_manifests<T: Tree>(
     ensures keeps { Keeps (T.state tree.old) (T.state tree.new) }
     ensures no_failure { OnOk result ((T.state tree.new).failures ≡ (T.state tree.old).failures) }
     ensures opened { OnOk result
-        (IsTrue (T.state tree.old).honest → OpensTwice (T.state tree.old) (T.state tree.new)) }
+        (IsTrue (T.state tree.old).honest → OpensRead true (T.state tree.old) (T.state tree.new)) }
     ensures same_bytes { IfOk result (λ made.
         AreOfSameBytes algs (T.state tree.old) (T.state tree.new) made.items) }
     ensures valid { OnOk result

@@ -1,16 +1,19 @@
 -- Files in lists and in maps.
-use Rattle.bag_facts.proofs.Common.{arith, ◌≡◌, ◌∷◌, ℕ, true, List, [], map, Option, None, Some, is_some, refl}
-use Rattle.bag_facts.proofs.Common.{sym, ap, ◌∙◌, Contains, and_parts, find, eq_by_cmp, any_from, contains_behind}
+use Rattle.bag_facts.proofs.Common.{arith, ◌≡◌, ◌∷◌, ℕ, true, false, List, [], map, Option, None, Some, is_some, refl}
+use Rattle.bag_facts.proofs.Common.{sym, ap, ◌∙◌, Contains, and_parts, find, eq_by_cmp, any_from, contains_behind, from_any}
 use Rattle.bag_facts.proofs.Common.{contains_cases, contains_first, contains_nothing, text_cmp}
 use Rattle.bag_facts.proofs.Mapped.{mapped_contains}
+use Rattle.std.proofs.lemmas.Bool.{false_from_ne_true}
 use Rattle.std.specs.FinMap as fin
 use Rattle.std.specs.FinMap.{entries_sorted, get-entries, is_sorted}
 use Rattle.std.specs.FinMap.Entries.{below_all, is_some-find}
 use Rattle.bag_tree.proofs.PathEntries.{none_below, t_true}
 use Rattle.bag_tree.proofs.SameText.{one_text, text_itself}
-use Rattle.bag_tree.specs.Bag.{Bag, file}
+use Rattle.bag_tree.proofs.Within.{IsWithin, within_cases}
+use Rattle.bag_tree.specs.Bag.{Bag, file, files_of}
+use Rattle.bag_tree.specs.Moved.{is_within}
 use Rattle.bag_tree.specs.Listing.{entry_of_file}
-use Rattle.bag_tree.specs.Steps.{Files}
+use Rattle.bag_tree.specs.Steps.{Files, has_within}
 use Rattle.bag_tree.specs.declared.listing.FileEntry.{FileEntry}
 
 abbrev File : Type 0
@@ -49,6 +52,13 @@ listed files p c e = found p c (fin.entries files) (sym (get-entries files p) �
 
 pub held_at : (files : Files) (p c : List ℕ) → Contains (fin.entries files) (p, c) → fin.get files p ≡ Some c
 held_at files p c h = get-entries files p ∙ in_order p c (fin.entries files) (t_true _ (entries_sorted files)) h
+
+-- no file stands at a path or below it, where none that is there does
+pub none_there : (d : Bag) (path : List ℕ) → ((q c : List ℕ) → file d q ≡ Some c → IsWithin path q → ⊥)
+    → has_within d path ≡ false
+none_there d path none = false_from_ne_true _ (λ within.
+    let one = from_any (λ e. is_within path e.0) (files_of d) within in
+    none one.0.0 one.0.1 (held_at d.files one.0.0 one.0.1 one.1) (within_cases path one.0.0 one.2))
 
 pub same_option : (a b : Option (List ℕ)) → ((c : List ℕ) → a ≡ Some c → b ≡ Some c)
     → ((c : List ℕ) → b ≡ Some c → a ≡ Some c) → a ≡ b

@@ -1,9 +1,18 @@
--- Members of a mapped list, of a filtered one, and the first items of a list.
-use Rattle.bag_facts.proofs.Common.{◌≡◌, ◌<◌, ◌⊎◌, inl, inr, ℕ, zero, suc, ◌+◌, List, [], ◌∷◌, ◌++◌, map, length, take}
-use Rattle.bag_facts.proofs.Common.{get_or, Bool, true, false, Contains, refl, ap, sym, subst, cond, arith}
+-- Members of a list and their places, of a mapped list, of a filtered one, and the first items of a list.
+use Rattle.bag_facts.proofs.Common.{◌≡◌, ◌<◌, ◌⊎◌, inl, inr, ℕ, ◌+◌, List, [], ◌∷◌, map, length, take}
+use Rattle.bag_facts.proofs.Common.{get_or, Bool, true, false, Some, Contains, refl, ap, sym, subst, cond, arith}
 use Rattle.bag_facts.proofs.Common.{filter, contains_cases, contains_first, contains_behind, contains_nothing}
 use Rattle.bag_facts.proofs.Common.{contains_either}
+use Rattle.std.proofs.lemmas.Option.{get_or_from_slice_get, slice_get_read, slice_get_within}
+use Rattle.std.specs.List.{slice_get}
 pub use Rattle.bag_tree.proofs.OneMore.{take_one_more}
+
+-- the place of a member
+pub place_of : {A : Type 0} (xs : List A) (x : A) → Contains xs x → (k : ℕ) × (slice_get xs k ≡ Some x)
+place_of xs x (k, lt, at) = (k, slice_get_read xs (length xs) k x refl lt (sym at))
+
+pub at_place : {A : Type 0} (xs : List A) (k : ℕ) (x : A) → slice_get xs k ≡ Some x → Contains xs x
+at_place xs k x e = (k, slice_get_within xs k x e, get_or_from_slice_get xs k x x e)
 
 pub mapped_contains : {A B : Type 0} (g : A → B) (xs : List A) (x : A) → Contains xs x → Contains (map g xs) (g x)
 mapped_contains g [] x c = absurd (contains_nothing x c)

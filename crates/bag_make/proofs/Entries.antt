@@ -1,26 +1,19 @@
 -- What the manifests of a made bag name, with which digests.
-use Rattle.bag_make.proofs.Common.{◌≡◌, ℕ, ◌+◌, length, slice_get_read, ◌-◌, List, Option, Some, None, refl, sym, ap}
-use Rattle.bag_make.proofs.Common.{◌∙◌, subst, Contains, slice_get_within, get_or_from_slice_get, IsText, V10, Alg}
+use Rattle.bag_make.proofs.Common.{◌≡◌, ℕ, ◌+◌, ◌-◌, List, Option, Some, None, refl, sym, ap}
+use Rattle.bag_make.proofs.Common.{◌∙◌, subst, Contains, IsText, V10, Alg}
 use Rattle.bag_make.proofs.Common.{IsEntry, named, Kind, Payload, Tag, Manifest, Bag, file, files_of, digest, rules_in}
 use Rattle.bag_make.proofs.Common.{lines_or_none, manifest_of, Names, HasSupported, IsEntryIn, NewElement, NewEntry}
 use Rattle.bag_make.proofs.Common.{CanWrite, ManifestIsReadAgain, File, new_payload, entries_of, manifest}
 use Rattle.bag_make.proofs.Common.{named_tag_files, made, IsNewText, contains_mapped, mapped_contains}
 use Rattle.std.specs.Prelude.{All}
-use Rattle.std.specs.List.{slice_get}
 use Rattle.bag_text.specs.Lines.{lines_of_file}
 use Rattle.bag_entries.specs.declared.entry.ManifestEntry.{ManifestEntry}
 use Rattle.bag_read.proofs.ManifestEntries.{entry_named, named_has_entry}
 use Rattle.bag_make.proofs.FetchIsNotThere.{no_line}
 use Rattle.bag_facts.proofs.Found.{content_of}
+use Rattle.bag_facts.proofs.Mapped.{at_place, place_of}
 use Rattle.bag_make.proofs.Held.{tag_held}
 use Rattle.bag_make.proofs.MadeRules.{made_rules}
-
--- the place of a member
-pub place_of : {A : Type 0} (xs : List A) (x : A) → Contains xs x → (k : ℕ) × (slice_get xs k ≡ Some x)
-place_of xs x (k, lt, at) = (k, slice_get_read xs (length xs) k x refl lt (sym at))
-
-pub at_place : {A : Type 0} (xs : List A) (k : ℕ) (x : A) → slice_get xs k ≡ Some x → Contains xs x
-at_place xs k x e = (k, slice_get_within xs k x e, get_or_from_slice_get xs k x x e)
 
 module _ (bag : Bag) (algs : List Alg) (info : List NewElement) where
   -- what a manifest is to name

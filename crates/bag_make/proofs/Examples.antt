@@ -16,10 +16,10 @@ use Rattle.std.proofs.lemmas.List.Elements.{All-nil, All-cons}
 use Rattle.hex.specs.Hex.{encode_with}
 use Rattle.md5.specs.Md5.{md5, block_words, rounds, compress, hash_after, digest_bytes}
 use Rattle.bag_text.specs.Path.{under}
-use Rattle.bag_text.specs.Text.{text_cmp, IsText}
+use Rattle.bag_text.specs.Text.{text_cmp}
 use Rattle.bag_text.specs.declared.alg.Alg.TheVariants.{Md5, Sha256}
 use Rattle.bag_tree.specs.Bag.{Bag, IsBag, files_of}
-use Rattle.bag_tags.specs.Element.{NewElement, info_text}
+use Rattle.bag_tags.specs.Element.{AreTexts, NewElement, info_text}
 use Rattle.bag_make.specs.Made.{new_payload, new_elements, new_tag_files}
 use Rattle.bag_tags.specs.Summed.{File, manifest}
 use Rattle.bag_make.specs.Laws.{CanMake}
@@ -71,20 +71,19 @@ empty_is_bag = record {
 no_files : files_of empty_bag ≡ []
 no_files = nil_from_length (files_of empty_bag) (sym (len-entries empty_bag.files) ∙ len-empty text_cmp (List ℕ))
 
-info_texts : All (λ (e : NewElement). IsText e.0 × IsText e.1) info
+info_texts : All AreTexts info
 unfolding is_utf8 chars encode_utf8
-info_texts =
-    All-cons (λ (e : NewElement). IsText e.0 × IsText e.1) (codes "Contact-Name", codes "Ann") [] (refl, refl)
-    (All-nil (λ (e : NewElement). IsText e.0 × IsText e.1))
+info_texts = All-cons AreTexts (codes "Contact-Name", codes "Ann") [] (refl, refl) (All-nil AreTexts)
 
 empty_can_be_made : CanMake empty_bag (Md5 ∷ []) info
 unfolding IsStrictlySortedBy
 empty_can_be_made = record {
   is_bag = empty_is_bag;
-  some_alg = λ none. cc;
+  asked = (λ none. cc, refl);
   ascending = (tt, tt);
   texts = info_texts;
-  good = refl;
-  count = subst (λ (es : List File). length es < 2 ^ 64) (sym no_files) (omega arith);
-  size = subst (λ (es : List File). sum_by (λ e. length e.1) es < 2 ^ 64) (sym no_files) (omega arith);
+  known = record {
+    count = subst (λ (es : List File). length es < 2 ^ 64) (sym no_files) (omega arith);
+    size = subst (λ (es : List File). sum_by (λ e. length e.1) es < 2 ^ 64) (sym no_files) (omega arith);
+  };
 }

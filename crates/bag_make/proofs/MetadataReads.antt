@@ -5,7 +5,7 @@ use Rattle.bag_make.proofs.Common.{list_any-append, IsText, same_label, V10, Alg
 use Rattle.bag_make.proofs.Common.{OxumAgain, OxumDiffers, NoOxum, Oxum, Info, Bag, file, files_of, Fault, in_line}
 use Rattle.bag_make.proofs.Common.{oxum_label, oxum_of_files, oxum_text, lines_in, lines_or_none, NewElement, info_text}
 use Rattle.bag_make.proofs.Common.{is_bad_element, is_bad_label, is_bad_value, InfoIsReadAgain, new_payload}
-use Rattle.bag_make.proofs.Common.{new_elements, made, CanMake, is_refused}
+use Rattle.bag_make.proofs.Common.{new_elements, made, CanMake, is_refused, AreTexts}
 use Rattle.std.specs.Prelude.{All}
 use Rattle.std.specs.Char.{encode_utf8}
 use Rattle.std.specs.List.{slice_get}
@@ -46,10 +46,10 @@ module _ (bag : Bag) (algs : List Alg) (info : List NewElement) (can : CanMake b
   sums = oxum_of_files (new_payload (files_of bag))
 
   octets : sums.octets < 2 ^ 64
-  octets = subst (λ (s : Oxum). s.octets < 2 ^ 64) (sym (payload_size (files_of bag))) can.size
+  octets = subst (λ (s : Oxum). s.octets < 2 ^ 64) (sym (payload_size (files_of bag))) can.known.size
 
   streams : sums.streams < 2 ^ 64
-  streams = subst (λ (s : Oxum). s.streams < 2 ^ 64) (sym (payload_size (files_of bag))) can.count
+  streams = subst (λ (s : Oxum). s.streams < 2 ^ 64) (sym (payload_size (files_of bag))) can.known.count
 
   abbrev last : NewElement
   last = (oxum_label, oxum_text sums)
@@ -57,15 +57,13 @@ module _ (bag : Bag) (algs : List Alg) (info : List NewElement) (can : CanMake b
   abbrev pub elements : List NewElement
   elements = new_elements (files_of bag) algs info
 
-  pub elements_text : All (λ element. IsText element.0 × IsText element.1) elements
-  elements_text =
-      All-push (λ (element : NewElement). IsText element.0 × IsText element.1) info last can.texts
-      (label_text, oxum_is_text sums octets streams)
+  pub elements_text : All AreTexts elements
+  elements_text = All-push AreTexts info last can.texts (label_text, oxum_is_text sums octets streams)
 
   pub elements_good : list_any is_bad_element elements ≡ false
   elements_good =
       list_any-append is_bad_element info (last ∷ [])
-      ∙ or_from (list_any is_bad_element info) _ (none_bad info can.good)
+      ∙ or_from (list_any is_bad_element info) _ (none_bad info can.asked.1)
       (or_from (is_bad_element last) false
       (or_from (is_bad_label oxum_label) (is_bad_value (oxum_text sums)) refl (oxum_is_good sums octets streams))
       refl)
@@ -82,7 +80,7 @@ module _ (bag : Bag) (algs : List Alg) (info : List NewElement) (can : CanMake b
         (subst (λ o. IsElement V10 (lines_or_none o) e) in_text
         (subst (λ rules. IsElement rules (lines_in (made bag algs info) bag_info_txt) e)
         (made_rules bag algs info) is)) in
-        let only = only_last info last (e.label, e.value) place.0 can.good place.2 same in
+        let only = only_last info last (e.label, e.value) place.0 can.asked.1 place.2 same in
         (place.1 ∙ ap (λ k. k + 1) only.0, ap (λ (x : NewElement). x.1) only.1)
 
     -- it has the element

@@ -19,7 +19,8 @@ use Rattle.std.specs.Cmp.Lexicographic.{texts_ties}
 use Rattle.bag_make.proofs.Told.{IsKept}
 use Rattle.bag_make.proofs.Placed.{IsPlaced, IsTop, placed_by, moves_placed, all_under_data}
 use Rattle.bag_make.proofs.Phases as phase
-use Rattle.bag_make.proofs.Phases.{Reaches, AllIn, IsTagName, begun, none_there, IsMade, IsMoving, IsNamed, IsLast}
+use Rattle.bag_facts.proofs.Found.{none_there}
+use Rattle.bag_make.proofs.Phases.{Reaches, AllIn, IsTagName, begun, IsMade, IsMoving, IsNamed, IsLast}
 use Rattle.bag_make.proofs.Phases.{IsWriting}
 
 -- none of these names comes twice

@@ -1,10 +1,11 @@
 -- Stage 2: the parts of a made bag are there, and its algorithms are supported.
-use Rattle.bag_make.proofs.Common.{arith, ◌≡◌, ◌≢◌, ℕ, true, false, List, [], ◌∷◌, is_some, refl, sym, ap, ◌∙◌, subst}
-use Rattle.bag_make.proofs.Common.{Contains, nat_list_cmp_total, contains-insert, eq_by_cmp, or_left, name, text_cmp}
+use Rattle.bag_make.proofs.Common.{arith, ◌≡◌, ◌≢◌, ℕ, true, false, List, is_some, refl, sym, ap, ◌∙◌, subst}
+use Rattle.bag_make.proofs.Common.{nat_list_cmp_total, contains-insert, eq_by_cmp, or_left, name, text_cmp}
 use Rattle.bag_make.proofs.Common.{IsNoText, Alg, Code, NoPayloadFolder, NoPayloadManifest, AlgorithmUnsupported}
-use Rattle.bag_make.proofs.Common.{NotUtf8, contains_first, Payload, TagName, Declaration, Info, Fetch, Manifest}
+use Rattle.bag_make.proofs.Common.{NotUtf8, Payload, TagName, Declaration, Info, Fetch, Manifest}
 use Rattle.bag_make.proofs.Common.{name_named, name_is_text, Bag, file, has_folder, text_itself, Fault, NewElement}
 use Rattle.bag_make.proofs.Common.{InfoIsReadAgain, ManifestIsReadAgain, entries_of, data_folder, CanMake, IsNewText}
+use Rattle.bag_stages.proofs.LeftOut.{some_member}
 use Rattle.bag_stages.specs.PartsStage.{PartHolds, IsOfParts}
 use Rattle.bag_read.specs.LineFault.{not_utf8}
 use Rattle.bag_make.specs.Made.{made}
@@ -12,10 +13,6 @@ use Rattle.bag_make.proofs.Entries.{holds_manifest, listed}
 use Rattle.bag_make.proofs.Held.{tag_held, tag_there, manifest_is}
 use Rattle.bag_make.proofs.MetadataReads.{elements, elements_text, elements_good}
 use Rattle.bag_make.proofs.Writable.{writable}
-
-some_member : (algs : List Alg) → algs ≢ [] → (alg : Alg) × Contains algs alg
-some_member [] some = absurd (some refl)
-some_member (alg ∷ algs) some = (alg, contains_first alg algs)
 
 module _ (bag : Bag) (algs : List Alg) (info : List NewElement) where
   pub has_data : has_folder (made bag algs info) data_folder ≡ true
@@ -41,7 +38,7 @@ module _ (bag : Bag) (algs : List Alg) (info : List NewElement) where
       unfolding PartHolds
       by_code NoPayloadFolder (at, lacks) = (let clash : true ≡ false = sym has_data ∙ lacks in cc)
       by_code NoPayloadManifest (at, none) =
-          let m = some_member algs can.some_alg in
+          let m = some_member algs can.asked.0 in
           none (name m.0) (name_is_text m.0, ap is_some (tag_there bag algs info (Manifest Payload m.0) _ (m.1, refl)))
       by_code AlgorithmUnsupported (kind, alg, at, has, none) = grind (arith, manifest_is, name_named)
       by_code NotUtf8 (at, ((tag, other, same), (bytes, held, bad))) =

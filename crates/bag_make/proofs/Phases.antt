@@ -3,10 +3,10 @@ use Rattle.bag_make.proofs.Common.{arith, ◌≡◌, ◌≢◌, ◌++◌, ◌∷
 use Rattle.bag_make.proofs.Common.{List, [], Some, None, is_some, get_or, drop, map, refl, ap, sym, ◌∙◌, subst}
 use Rattle.bag_make.proofs.Common.{and_from, or_left, or_right, false≢true, false_from_ne_true, append-nil}
 use Rattle.bag_make.proofs.Common.{append_assoc, contains-insert, contains-remove, list_any, bytes_eq, bytes_eq-Decides}
-use Rattle.bag_make.proofs.Common.{exact_texts, from_any, one_text, nat_list_cmp_total, text_itself, slash}
-use Rattle.bag_make.proofs.Common.{is_base_name, first_component, first-under, under, Bag, HasFile, file, files_of}
+use Rattle.bag_make.proofs.Common.{exact_texts, one_text, nat_list_cmp_total, text_itself, slash}
+use Rattle.bag_make.proofs.Common.{is_base_name, first_component, first-under, under, Bag, HasFile, file}
 use Rattle.bag_make.proofs.Common.{has_folder, create, make_folder, move_in, rename_folder, is_within, not_within}
-use Rattle.bag_make.proofs.Common.{under_within, within_cases, is_synced, is_file_synced, is_durable, AreSyncs, joined}
+use Rattle.bag_make.proofs.Common.{under_within, is_synced, is_file_synced, is_durable, AreSyncs, joined}
 use Rattle.bag_make.proofs.Common.{AllByRecursion, HasAllFiles, is_in_the_way, new_folder, data_folder, after_steps}
 use Rattle.bag_make.proofs.Common.{MoveIn, ◌&&◌, eq_by_cmp, text_cmp, has_file}
 use Rattle.std.specs.FinMap.{get-retain_keys}
@@ -22,7 +22,7 @@ use Rattle.bag_tree.specs.Steps.{has_within}
 use Rattle.bag_tree.specs.declared.event.DeviceEvent.{DeviceEvent}
 use Rattle.bag_tree.specs.declared.event.DeviceEvent.TheVariants.{MakeFolder, Rename, Create, Write, Sync, SyncFolder}
 use Rattle.bag_make.proofs.FirstParts.{first-name}
-use Rattle.bag_facts.proofs.Found.{held_at}
+use Rattle.bag_facts.proofs.Found.{none_there}
 use Rattle.std.proofs.Math.Bool.{and-false}
 use Rattle.bag_make.proofs.Told.{IsKept, gone_on, itself_told, moving_told}
 use Rattle.bag_make.proofs.Placed.{IsPlaced, IsTop, placed_by, with_name, moved_placed, goes_on, apart, none_within}
@@ -55,13 +55,6 @@ placed_whole bag d moved placed p c at =
 
 pub itself_whole : (bag : Bag) → IsKept bag bag
 itself_whole bag = ((λ p c at. inl at), itself_told bag)
-
--- no file stands at a path or below it, where none that is there does
-pub none_there : (d : Bag) (path : List ℕ) → ((q c : List ℕ) → file d q ≡ Some c → IsWithin path q → ⊥)
-    → has_within d path ≡ false
-none_there d path none = false_from_ne_true _ (λ within.
-    let one = from_any (λ e. is_within path e.0) (files_of d) within in
-    none one.0.0 one.0.1 (held_at d.files one.0.0 one.0.1 one.1) (within_cases path one.0.0 one.2))
 
 -- what stands under a folder stays when another name is given anew
 lost_under : (name folder rest : List ℕ) (d : Bag) → is_base_name name ≡ true → is_base_name folder ≡ true

@@ -23,7 +23,8 @@ use Rattle.bag_make.proofs.Asking.{SomeAsk, adds_refused, all_is_some}
 use Rattle.bag_make.proofs.Held.{tag_member}
 use Rattle.bag_make.proofs.Outlasting.{AreDistinct, AreFree, AreTagFiles, CanBeMadeBy, all_made, at_the_end}
 use Rattle.bag_make.proofs.Outlasting.{data_placed, each_moment, named_by}
-use Rattle.bag_make.proofs.Phases.{IsTagName, itself_whole, none_there}
+use Rattle.bag_facts.proofs.Found.{none_there}
+use Rattle.bag_make.proofs.Phases.{IsTagName, itself_whole}
 use Rattle.bag_make.proofs.Told.{IsKept, told_lacks}
 use Rattle.bag_make.specs.PowerCut.{Outlasts}
 use Rattle.bag_make.proofs.StepsMake.{data_is_moved, each_is_moved, names_are_tops, names_in_order, steps_make}

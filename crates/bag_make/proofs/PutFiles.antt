@@ -1,8 +1,9 @@
 -- Files that are put into a map, one after the other.
-use Rattle.bag_make.proofs.Common.{arith, ◌≡◌, ℕ, ◌⊎◌, inl, inr, List, [], ◌∷◌, Option, Some, None, fold, Contains}
-use Rattle.bag_make.proofs.Common.{refl, sym, nat_list_cmp_total, get-insert, contains_cases, contains_first}
+use Rattle.bag_make.proofs.Common.{arith, ◌≡◌, ℕ, ◌⊎◌, inl, inr, List, [], ◌∷◌, Some, fold, Contains}
+use Rattle.bag_make.proofs.Common.{nat_list_cmp_total, get-insert, contains_cases, contains_first}
 use Rattle.bag_make.proofs.Common.{contains_behind, contains_nothing, exact_texts, one_text, text_itself, Files, File}
 use Rattle.std.specs.FinMap as fin
+use Rattle.bag_facts.proofs.Found.{same_option}
 
 -- each file is put at the path that it has then
 abbrev pub put_at : (List ℕ → List ℕ) → Files → List File → Files
@@ -48,12 +49,6 @@ module _ (place : List ℕ → List ℕ) where
   to_put (e ∷ es) files q c there one =
       to_put es (fin.insert files (place e.0) e.1) q c (next e es files q c there (one e.0 e.1 (contains_first e es)))
       (λ p d has. one p d (contains_behind e es (p, d) has))
-
-same_option : (a b : Option (List ℕ)) → ((c : List ℕ) → a ≡ Some c → b ≡ Some c)
-    → ((c : List ℕ) → b ≡ Some c → a ≡ Some c) → a ≡ b
-same_option None None to from = refl
-same_option None (Some c) to from = from c refl
-same_option (Some c) b to from = sym (to c refl)
 
 -- maps that hold the same are one
 pub same_files : (m n : Files) → ((q c : List ℕ) → fin.get m q ≡ Some c → fin.get n q ≡ Some c)

@@ -9,7 +9,7 @@ use Rattle.bag_make.proofs.Common.{path_some, File, new_payload, is_in_the_way, 
 use Rattle.bag_make.proofs.Common.{AreSummed, AreSummedFiles, OpensFirstOf, entry_of_file, MakeFault, SummedFile}
 use Rattle.std.proofs.lemmas.Simd.{map-map}
 use Rattle.bag_facts.proofs.ListedFiles.{own_size}
-use Rattle.bag_make.proofs.Entries.{at_place}
+use Rattle.bag_facts.proofs.Mapped.{at_place}
 use Rattle.bag_facts.proofs.Found.{held_at, same_files}
 use Rattle.bag_make.specs.Reading.{HasOnlyListed, HasRefusedNothing, OpensFolder}
 use Rattle.bag_make.specs.Reads.{IsRefusalOfStop, MayRefuseReading}

@@ -1,31 +1,27 @@
 -- Laws about makings.
-use Rattle.std.specs.Prelude.{◌≡◌, false, List, [], ◌≢◌, All, ◌^◌, ◌<◌, length, sum_by}
-use Rattle.std.specs.List.{list_any}
+use Rattle.std.specs.Prelude.{◌≡◌, false, List, All}
 use Rattle.bag_text.specs.Bytes.{Path}
-use Rattle.bag_text.specs.Text.{IsText}
 use Rattle.bag_text.specs.declared.alg.Alg.{Alg}
-use Rattle.bag_tree.specs.Bag.{Bag, IsBag, files_of, has_folder}
-use Rattle.bag_tags.specs.Element.{NewElement}
+use Rattle.bag_tree.specs.Bag.{Bag, IsBag, has_folder}
+use Rattle.bag_tags.specs.Element.{AreTexts, NewElement}
 use Rattle.bag_make.specs.Made.{made}
+use Rattle.bag_make.specs.Make.{CanAsk, HasKnownSize}
 use Rattle.bag_make.specs.Steps.{new_folder, after_steps}
 use Rattle.bag_tree.specs.Tree.{TreeState}
 use Rattle.bag_make.specs.Plan.{is_in_the_way, steps}
 use Rattle.std.specs.List.Sorted.{IsStrictlySortedBy}
 use Rattle.bag_text.specs.Alg.{rank_cmp}
 use Rattle.bag_report.specs.Valid.{HasNoFault}
-use Rattle.bag_make.specs.Request.{is_refused}
 use Rattle.bag_make.specs.Stops.{IsAtFile}
 
 -- what a bag is made of: files that can be counted, a set of algorithms that isn't empty, and
 -- elements that can be written
 pub record CanMake (bag : Bag) (algs : List Alg) (info : List NewElement) : Type 0 where
   pub is_bag : IsBag bag
-  pub some_alg : algs ≢ []
+  pub asked : CanAsk algs info
   pub ascending : IsStrictlySortedBy rank_cmp algs
-  pub texts : All (λ element. IsText element.0 × IsText element.1) info
-  pub good : list_any is_refused info ≡ false
-  pub count : length (files_of bag) < 2 ^ 64
-  pub size : sum_by (λ e. length e.1) (files_of bag) < 2 ^ 64
+  pub texts : All AreTexts info
+  pub known : HasKnownSize bag
 
 -- the law: a bag that was made has no fault
 abbrev pub MadeIsValid : Type 0

@@ -1,29 +1,21 @@
 -- Each change of a renewal can be made after those before it.
 use Rattle.bag_renew.proofs.Common.{◌≡◌, ◌≢◌, ◌++◌, ◌∷◌, inl, inr, ℕ, Bool, true, false, cond, List, [], Option}
-use Rattle.bag_renew.proofs.Common.{None, Some, is_some, map, refl, sym, ap, ◌∙◌, false_from_ne_true, false≢true}
-use Rattle.bag_renew.proofs.Common.{AllByRecursion, eq_by_cmp, text_cmp, from_any, one_text, text_itself}
+use Rattle.bag_renew.proofs.Common.{None, Some, is_some, refl, sym, ap, ◌∙◌, false_from_ne_true, false≢true}
+use Rattle.bag_renew.proofs.Common.{AllByRecursion, eq_by_cmp, text_cmp, one_text, text_itself}
 use Rattle.bag_renew.proofs.Common.{is_base_name, tag_path, TagName, Manifest, Tag, Alg, Bag, IsBag, file}
-use Rattle.bag_renew.proofs.Common.{files_of, has_file, is_within, within_cases, in_base, after_changes, changed}
+use Rattle.bag_renew.proofs.Common.{has_file, in_base, after_changes, changed}
 use Rattle.bag_renew.proofs.Common.{FileChange, Put, Remove, begun_file, changes, clearing, opening, algs_where}
-use Rattle.bag_renew.proofs.Common.{has_tag_manifest, IsOutOfTheWay, Renewal}
+use Rattle.bag_renew.proofs.Common.{has_tag_manifest, IsOutOfTheWay, Renewal, removals_of}
 use Rattle.std.specs.FinSet as set
-use Rattle.bag_tree.proofs.Within.{IsWithin}
-use Rattle.bag_tree.specs.Steps.{has_within}
 use Rattle.bag_tree.specs.FileChanges.{CanChange, CanChangeAll, IsFree, IsNoFolder}
 use Rattle.bag_changes.specs.Laws.{ChangesCanBeMade}
 use Rattle.bag_renew.proofs.ChangedNames.{back, of_back, of_clearing, of_removes}
-use Rattle.bag_facts.proofs.Found.{held_at}
+use Rattle.bag_facts.proofs.Found.{none_there}
 use Rattle.bag_renew.proofs.ManyChanges.{not_named_all}
 use Rattle.bag_renew.proofs.OneChange.{AreOfFiles, IsFileName, IsLevel, all_level, at_change, at_changes}
 use Rattle.bag_renew.proofs.OneChange.{itself_level, level_on, name_of, with_change, with_changes}
 use Rattle.bag_changes.proofs.Staying.{IsWritten, no_begun}
 use Rattle.bag_changes.proofs.ReservedNames.{begun_is_reserved, is_reserved}
-
-none_there : (d : Bag) (path : List ℕ) → ((q c : List ℕ) → file d q ≡ Some c → IsWithin path q → ⊥)
-    → has_within d path ≡ false
-none_there d path none = false_from_ne_true _ (λ within.
-    let one = from_any (λ e. is_within path e.0) (files_of d) within in
-    none one.0.0 one.0.1 (held_at d.files one.0.0 one.0.1 one.1) (within_cases path one.0.0 one.2))
 
 can_append : (xs ys : List FileChange) (b : Bag) → CanChangeAll begun_file xs b
     → CanChangeAll begun_file ys (after_changes xs b) → CanChangeAll begun_file (xs ++ ys) b
@@ -102,7 +94,7 @@ module _ (bag : Bag) (renewal : Renewal) (is : IsBag bag) (way : IsOutOfTheWay b
       of_removes bag renewal (λ n. begun_file ≢ n) (λ tag written. no_begun tag) Tag
       (algs_where (has_tag_manifest bag))
 
-  removals : (some : List Alg) → AllByRecursion IsRemoval (map (λ alg. Remove (tag_path (Manifest Tag alg))) some)
+  removals : (some : List Alg) → AllByRecursion IsRemoval (removals_of Tag some)
   removals [] = tt
   removals (alg ∷ some) = (in_base (Manifest Tag alg), removals some)
 

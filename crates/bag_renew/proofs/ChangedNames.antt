@@ -1,12 +1,13 @@
 -- The names of the files that a renewal changes.
-use Rattle.bag_renew.proofs.Common.{◌++◌, ◌∷◌, ◌&&◌, ℕ, Bool, true, false, not, cond, List, [], map, Option, refl}
-use Rattle.bag_renew.proofs.Common.{filter, AllByRecursion, in_base, has_member, tag_path, Kind, Payload, Tag}
+use Rattle.bag_renew.proofs.Common.{◌++◌, ◌∷◌, ℕ, Bool, true, false, not, cond, List, [], map, Option, refl}
+use Rattle.bag_renew.proofs.Common.{filter, AllByRecursion, in_base, tag_path, Kind, Payload, Tag}
 use Rattle.bag_renew.proofs.Common.{TagName, Declaration, Info, Manifest, Alg, Bag, file, has_file, FileChange}
 use Rattle.bag_renew.proofs.Common.{Remove, changes, clearing, closing, dropping, opening, put, putting, unkept}
-use Rattle.bag_renew.proofs.Common.{IsOutOfTheWay, File, begun_file, declaration_file, algs_where}
-use Rattle.bag_renew.proofs.Common.{has_payload_manifest, has_tag_manifest, info_files, is_kept, kept_or, manifest_by}
+use Rattle.bag_renew.proofs.Common.{IsOutOfTheWay, File, begun_file, declaration_file, algs_where, removals_of}
+use Rattle.bag_renew.proofs.Common.{has_tag_manifest, is_kept, kept_or, manifest_by}
 use Rattle.bag_renew.proofs.Common.{named_tag_files, new_algs, new_elements, new_rules, payload, payload_manifests}
-use Rattle.bag_renew.proofs.Common.{tag_manifests, with_path, writes_info, Renewal}
+use Rattle.bag_renew.proofs.Common.{tag_manifests, with_path, writes_info, Renewal, last_files, written_info}
+use Rattle.bag_renew.proofs.Common.{is_dropped_alg}
 use Rattle.bag_tags.specs.OnLines.{text_on_lines}
 use Rattle.bag_renew.proofs.ManyChanges.{all_both}
 use Rattle.bag_changes.proofs.Staying.{IsWritten}
@@ -25,13 +26,6 @@ module _ (bag : Bag) (renewal : Renewal) where
 
   abbrev tag_text : Alg → List ℕ
   tag_text alg = manifest_by (new_rules bag renewal) alg (named_tag_files bag renewal)
-
-  -- the metadata that is put
-  abbrev pub info_put : List File
-  info_put = cond (writes_info bag renewal) (info_files bag renewal) []
-
-  abbrev pub is_dropped : Alg → Bool
-  is_dropped alg = has_payload_manifest bag alg && has_member renewal.dropped alg
 
   -- what holds of the names of tag files, and of that of the begun file, holds of each name
   module _ (P : List ℕ → Type 0) (tags : (tag : TagName) → IsWritten tag → P (tag_path tag)) where
@@ -66,21 +60,20 @@ module _ (bag : Bag) (renewal : Renewal) where
     of_info true text there = (tags Info tt, tt)
     of_info false text there = tt
 
-    pub of_removes : (kind : Kind) (some : List Alg)
-        → AllByRecursion Of (map (λ alg. Remove (tag_path (Manifest kind alg))) some)
+    pub of_removes : (kind : Kind) (some : List Alg) → AllByRecursion Of (removals_of kind some)
     of_removes kind [] = tt
     of_removes kind (alg ∷ some) = (tags (Manifest kind alg) tt, of_removes kind some)
 
     of_putting : AllByRecursion Of (putting bag renewal)
     of_putting =
-        all_both Of (map put info_put) (map put (unkept bag renewal (payload_manifests bag renewal)))
+        all_both Of (map put (written_info bag renewal)) (map put (unkept bag renewal (payload_manifests bag renewal)))
         (of_info (writes_info bag renewal) info_text (file bag (tag_path Info)))
         (of_puts (λ e. not (is_kept bag renewal e.0)) (payload_manifests bag renewal)
         (of_manifests Payload payload_text (new_algs bag renewal)))
 
     of_closing : AllByRecursion Of (closing bag renewal)
     of_closing =
-        all_both Of (map put (unkept bag renewal (declaration_file bag renewal ∷ []))) (map put (tag_manifests bag renewal))
+        all_both Of (map put (last_files bag renewal)) (map put (tag_manifests bag renewal))
         (of_puts (λ e. not (is_kept bag renewal e.0)) (declaration_file bag renewal ∷ []) (tags Declaration tt, tt))
         (of_all_puts (tag_manifests bag renewal) (of_manifests Tag tag_text (new_algs bag renewal)))
 
@@ -88,7 +81,7 @@ module _ (bag : Bag) (renewal : Renewal) where
     of_back =
         all_both Of (putting bag renewal) (dropping bag renewal ++ closing bag renewal) of_putting
         (all_both Of (dropping bag renewal) (closing bag renewal)
-        (of_removes Payload (algs_where is_dropped)) of_closing)
+        (of_removes Payload (algs_where (is_dropped_alg bag renewal))) of_closing)
 
     module _ (begun : P begun_file) where
       pub of_clearing : (b : Bool) → AllByRecursion Of (cond b (Remove begun_file ∷ []) [])

@@ -9,10 +9,10 @@ use Rattle.bag_renew.proofs.Common.{Declaration, Info, Fetch, Manifest, Alg, Bag
 use Rattle.bag_renew.proofs.Common.{exact_texts, after_changes, FileChange, Put, Remove, changes, clearing}
 use Rattle.bag_renew.proofs.Common.{closing, dropping, opening, put, putting, unkept, ChangesKeepPayload}
 use Rattle.bag_renew.proofs.Common.{ChangesRenew, HasKnownManifests, IsOutOfTheWay, File, begun_file}
-use Rattle.bag_renew.proofs.Common.{declaration_file, algs_where, has_payload_manifest, has_tag_manifest, is_kept}
+use Rattle.bag_renew.proofs.Common.{algs_where, has_payload_manifest, has_tag_manifest, is_kept}
 use Rattle.bag_renew.proofs.Common.{is_new_alg, keeps, kept_or, manifest_by, new_algs, new_rules, payload}
-use Rattle.bag_renew.proofs.Common.{payload_manifests}
-use Rattle.bag_renew.proofs.Common.{stays, tag_manifests, writes_info, Renewal}
+use Rattle.bag_renew.proofs.Common.{payload_manifests, is_dropped_alg}
+use Rattle.bag_renew.proofs.Common.{stays, tag_manifests, writes_info, Renewal, last_files, written_info}
 use Rattle.bag_renewed.specs.Renewed.{renewed}
 use Rattle.std.specs.FinMap as fin
 use Rattle.bag_tags.specs.Declaration.{declaration_text}
@@ -20,7 +20,7 @@ use Rattle.bag_changes.proofs.AlgsWhere.{alg_in, passes}
 use Rattle.bag_read.proofs.ManifestName.{is_named}
 use Rattle.bag_changes.specs.Contents.{IsNew, IsNewText, Stands}
 use Rattle.bag_changes.proofs.Contents.{both_new, these_files}
-use Rattle.bag_renew.proofs.ChangedNames.{back, info_put, info_text, is_dropped, are_of_files, of_changes}
+use Rattle.bag_renew.proofs.ChangedNames.{back, info_text, are_of_files, of_changes}
 use Rattle.bag_renew.proofs.InChanges.{put_in_back, put_in_changes, in_back, declaration_in, info_in, manifest_in}
 use Rattle.bag_renew.proofs.InChanges.{tag_manifest_in, drop_in, open_in, clear_in, remove_in_puts}
 use Rattle.bag_renew.proofs.ManyChanges.{came_from, not_named, not_named_all, put_stays}
@@ -223,11 +223,11 @@ module _ (bag : Bag) (renewal : Renewal) where
   none_removed : (q c : List ℕ) → IsNew bag renewal q c → Contains last (Remove q) → ⊥
   none_removed q c (tag, path, text) has =
       elim (contains_either (putting bag renewal) (dropping bag renewal ++ closing bag renewal) (Remove q) has) [
-        | inl puts ↦ removed_in_two (info_put bag renewal) (unkept bag renewal (payload_manifests bag renewal)) puts
+        | inl puts ↦ removed_in_two (written_info bag renewal) (unkept bag renewal (payload_manifests bag renewal)) puts
         | inr more ↦ elim (contains_either (dropping bag renewal) (closing bag renewal) (Remove q) more) [
           | inl drops ↦ dropped_one (contains_mapped (λ alg. Remove (tag_path (Manifest Payload alg)))
-              (algs_where (is_dropped bag renewal)) (Remove q) drops)
-          | inr ends ↦ removed_in_two (unkept bag renewal (declaration_file bag renewal ∷ [])) (tag_manifests bag renewal) ends
+              (algs_where (is_dropped_alg bag renewal)) (Remove q) drops)
+          | inr ends ↦ removed_in_two (last_files bag renewal) (tag_manifests bag renewal) ends
         ]
       ]
     where
@@ -240,7 +240,7 @@ module _ (bag : Bag) (renewal : Renewal) where
       same_path : (n : List ℕ) → Remove n ≡ Remove q → n ≡ q
       same_path n same = cc
 
-      dropped_one : (alg : Alg) × Contains (algs_where (is_dropped bag renewal)) alg
+      dropped_one : (alg : Alg) × Contains (algs_where (is_dropped_alg bag renewal)) alg
           × (Remove (tag_path (Manifest Payload alg)) ≡ Remove q) → ⊥
       dropped_one (alg, in_it, same) =
           let tag_is : tag ≡ Manifest Payload alg =
@@ -248,7 +248,7 @@ module _ (bag : Bag) (renewal : Renewal) where
           (sym path ∙ sym (same_path (tag_path (Manifest Payload alg)) same)) in
           not_dropped alg (subst (λ t. IsNewText bag renewal t c) tag_is text).0
           (and_parts (has_payload_manifest bag alg) (has_member renewal.dropped alg)
-          (passes (is_dropped bag renewal) alg in_it)).1
+          (passes (is_dropped_alg bag renewal) alg in_it)).1
 
   pub to_stand : (q c : List ℕ) → Stands bag renewal q c
       → with_changes (changes bag renewal) q (file bag q) ≡ Some c

@@ -43,10 +43,11 @@ pub use Rattle.bag_tree.specs.Moved.{is_within}
 pub use Rattle.bag_tree.specs.Steps.{create}
 pub use Rattle.bag_tree.specs.declared.file_change.FileChange.{FileChange}
 pub use Rattle.bag_tree.specs.declared.file_change.FileChange.TheVariants.{Put, Remove}
-pub use Rattle.bag_changes.specs.Changes.{after, changes, clearing, closing, dropping, opening, put, putting, unkept}
+pub use Rattle.bag_changes.specs.Changes.{after, changes, clearing, closing, dropping, last_files}
+pub use Rattle.bag_changes.specs.Changes.{opening, put, putting, removals_of, unkept, written_info}
 pub use Rattle.bag_changes.specs.Laws.{ChangesKeepPayload, ChangesRenew, HasKnownManifests}
 pub use Rattle.bag_renewed.specs.Renewed.{algs_where, begun_file, declaration_file, has_payload_manifest}
-pub use Rattle.bag_renewed.specs.Renewed.{has_tag_manifest, info_files, is_kept, is_kept_alg, is_new_alg, keeps}
+pub use Rattle.bag_renewed.specs.Renewed.{has_tag_manifest, info_files, is_dropped_alg, is_kept, is_kept_alg, is_new_alg, keeps}
 pub use Rattle.bag_renewed.specs.Renewed.{kept_or, kept_tag_files, named_tag_files, new_algs, new_elements, new_rules}
 pub use Rattle.bag_renewed.specs.Renewed.{new_tag_files, payload_manifest, payload_manifests, renewed, stays}
 pub use Rattle.bag_renewed.specs.Renewed.{tag_manifests, with_path, writes_info}

@@ -1,12 +1,11 @@
 -- What a power cut leaves of a bag that is renewed can be renewed so again.
 use Rattle.bag_renew.proofs.Common.{◌≡◌, ◌⊎◌, ◌∙◌, ◌<◌, ◌||◌, inl, inr, ℕ, Bool, true, false, not, List, is_some}
-use Rattle.bag_renew.proofs.Common.{refl, sym, ap, subst, Contains, All, and_parts, any_from, false≢true, list_any}
+use Rattle.bag_renew.proofs.Common.{refl, sym, ap, subst, Contains, and_parts, any_from, false≢true}
 use Rattle.bag_renew.proofs.Common.{tag_path, Payload, Tag, Fetch, Info, Manifest, Alg, Bag, IsBag, file, has_folder}
 use Rattle.bag_renew.proofs.Common.{begun_file, is_kept, is_kept_alg, is_new_alg, keeps, new_algs, new_rules}
 use Rattle.bag_renew.proofs.Common.{rules_in, writes_info, Renewal, changes, IsOutOfTheWay}
 use Rattle.std.specs.FinSet as set
 use Rattle.std.specs.Prelude.{◌^◌}
-use Rattle.bag_text.specs.Text.{IsText}
 use Rattle.bag_text.specs.declared.rules.Rules.{Rules}
 use Rattle.bag_text.specs.declared.rules.Rules.TheVariants.{V10, V097}
 use Rattle.bag_read.specs.Manifest.{named}
@@ -15,13 +14,12 @@ use Rattle.bag_stages.specs.LeftOut.{IsNamedBySome}
 use Rattle.bag_stages.specs.MetadataStage.{IsOfMetadata}
 use Rattle.bag_stages.specs.Payload.{oxum, oxum_of_files}
 use Rattle.bag_stages.specs.TagFiles.{lines_in, lines_or_none, manifest_of}
-use Rattle.bag_tags.specs.OnLines.{is_bad_long_element}
 use Rattle.bag_tags.specs.Writable.{is_unnameable}
 use Rattle.bag_tree.specs.Bag.{LacksFile}
 use Rattle.bag_tree.specs.FileChanges.{IsAfterFirst}
 use Rattle.bag_renew.specs.Again.{CutBagsCanBeRenewed}
-use Rattle.bag_changes.specs.Obstacles.{has_percent}
-use Rattle.bag_renew.specs.OnTheWay.{CanRenewInPlace, HasNoPercent, NoTagManifestNamesBegun}
+use Rattle.bag_changes.specs.Obstacles.{HasNoPercent, has_percent}
+use Rattle.bag_renew.specs.OnTheWay.{CanRenewInPlace, NoTagManifestNamesBegun}
 use Rattle.bag_renewed.specs.Renewed.{is_v10, renewed, writes_payload_manifest}
 use Rattle.bag_renewed.specs.Request.{is_bad_request}
 use Rattle.bag_changes.specs.Telling.{AreNameable, AreStillListed, IsNamedByKept, IsToBeNamed, NamesItsFiles}
@@ -40,6 +38,7 @@ use Rattle.bag_renew.proofs.RenewedAlike.{AreRenewedAlike, same_algs, same_paylo
 use Rattle.bag_renew.proofs.RenewedNames.{are_nameable, by_new_rules, names_files, new_text, one_manifest, same_file}
 use Rattle.bag_renew.proofs.RenewedNames.{same_manifest}
 use Rattle.bag_renew.proofs.Telling.{some_named}
+use Rattle.bag_changes.specs.NewInfo.{CanBeWritten}
 
 begun_nameable : (rules : Rules) → is_unnameable rules begun_file ≡ false
 begun_nameable V10 = refl
@@ -211,12 +210,13 @@ module _ (bag : Bag) (renewal : Renewal) (left : Bag) (can : CanRenewInPlace bag
   good_elements writes =
       let old = good (are.writes writes) in
       let again = sym (are.written writes) in record {
-        texts = subst (λ es. All (λ element. IsText element.0 × IsText element.1) es) again old.texts;
-        good = sym (ap (list_any is_bad_long_element) again) ∙ old.good;
+        written = subst CanBeWritten again old.written;
         set = old.set;
         appended = old.appended;
-        count = subst (λ size. size.streams < 2 ^ 64) (sym same_oxum) old.count;
-        size = subst (λ size. size.octets < 2 ^ 64) (sym same_oxum) old.size;
+        known = record {
+          count = subst (λ size. size.streams < 2 ^ 64) (sym same_oxum) old.known.count;
+          size = subst (λ size. size.octets < 2 ^ 64) (sym same_oxum) old.known.size;
+        };
       }
 
   can_again : IsBag left → CanRenewInPlace left renewal

@@ -39,7 +39,7 @@ use Rattle.bag_renewed.specs.declared.renewal.ElementChanges.{ElementChanges}
 use Rattle.bag_changes.proofs.Contents.{these_files}
 use Rattle.bag_renew.proofs.KeptInfo.{kept_is_good}
 use Rattle.bag_tags.proofs.OxumReads.{oxum_reads}
-use Rattle.bag_renew.proofs.Places.{place_of}
+use Rattle.bag_facts.proofs.Mapped.{place_of}
 use Rattle.bag_renew.proofs.RenewedNames.{by_new_rules, same_payload}
 
 -- ---- one Payload-Oxum
@@ -169,7 +169,7 @@ module _ (bag : Bag) (renewal : Renewal) (writes : writes_info bag renewal ≡ t
 
     again : IsText written × (elements_read rules written ≡ new_elements bag renewal)
         × ((f : LineFault) → ¬ (IsInfoFault rules written f))
-    again = long_info_again_by rules (new_elements bag renewal) has.texts has.good
+    again = long_info_again_by rules (new_elements bag renewal) has.written.texts has.written.good
 
     in_file : file now bag_info_txt ≡ Some written
     in_file =
@@ -200,7 +200,7 @@ module _ (bag : Bag) (renewal : Renewal) (writes : writes_info bag renewal ≡ t
         (ap (slice_get read) (sym one.0) ∙ place.1, ap (λ (x : NewElement). x.1) one.1)
 
     reads_size : oxum_of (oxum_text (oxum bag)) ≡ Some (oxum bag)
-    reads_size = oxum_reads (oxum bag) has.size has.count
+    reads_size = oxum_reads (oxum bag) has.known.size has.known.count
 
     same_oxum : oxum now ≡ oxum bag
     same_oxum = ap oxum_of_files (same_payload bag renewal)

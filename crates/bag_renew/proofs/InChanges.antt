@@ -7,11 +7,12 @@ use Rattle.bag_renew.proofs.Common.{Manifest, Alg, Bag, HasFile, has_file, FileC
 use Rattle.bag_renew.proofs.Common.{clearing, closing, dropping, opening, put, putting, unkept, File, begun_file}
 use Rattle.bag_renew.proofs.Common.{declaration_file, algs_where, has_payload_manifest, has_tag_manifest}
 use Rattle.bag_renew.proofs.Common.{info_files, is_kept, new_algs, payload_manifest, payload_manifests}
-use Rattle.bag_renew.proofs.Common.{tag_manifests, writes_info, Renewal}
+use Rattle.bag_renew.proofs.Common.{tag_manifests, writes_info, Renewal, last_files, written_info, removals_of}
+use Rattle.bag_renew.proofs.Common.{is_dropped_alg}
 use Rattle.bag_facts.proofs.Mapped.{kept, passed}
 use Rattle.bag_changes.proofs.AlgsWhere.{alg_in}
 use Rattle.bag_changes.specs.Contents.{IsNew, IsNewText}
-use Rattle.bag_renew.proofs.ChangedNames.{back, info_put, is_dropped}
+use Rattle.bag_renew.proofs.ChangedNames.{back}
 use Rattle.bag_changes.proofs.Members.{declaration_new, info_listed, info_new, payload_listed, payload_new, tag_new}
 
 module _ (bag : Bag) (renewal : Renewal) where
@@ -19,14 +20,8 @@ module _ (bag : Bag) (renewal : Renewal) where
   last = back bag renewal
 
   -- what is put
-  abbrev metadata : List File
-  metadata = info_put bag renewal
-
   abbrev manifests : List File
   manifests = unkept bag renewal (payload_manifests bag renewal)
-
-  abbrev declarations : List File
-  declarations = unkept bag renewal (declaration_file bag renewal ∷ [])
 
   put_is : (e : File) (q c : List ℕ) → put e ≡ Put q c → e ≡ (q, c)
   put_is e q c same = let path : e.0 ≡ q = cc in let content : e.1 ≡ c = cc in (λ i. (path i, content i))
@@ -35,7 +30,7 @@ module _ (bag : Bag) (renewal : Renewal) where
   no_put n q c same = cc
 
   put_in_removes : (kind : Kind) (some : List Alg) (q c : List ℕ)
-      → Contains (map (λ alg. Remove (tag_path (Manifest kind alg))) some) (Put q c) → ⊥
+      → Contains (removals_of kind some) (Put q c) → ⊥
   put_in_removes kind some q c has =
       let m = contains_mapped (λ alg. Remove (tag_path (Manifest kind alg))) some (Put q c) has in
       no_put (tag_path (Manifest kind m.0)) q c m.2
@@ -65,15 +60,15 @@ module _ (bag : Bag) (renewal : Renewal) where
 
   put_in_putting : (q c : List ℕ) → Contains (putting bag renewal) (Put q c) → IsNew bag renewal q c
   put_in_putting q c has =
-      elim (contains_either (map put metadata) (map put manifests) (Put q c) has) [
+      elim (contains_either (map put (written_info bag renewal)) (map put manifests) (Put q c) has) [
         | inl info ↦ info_new bag renewal q c
-            (info_in_put (writes_info bag renewal) (info_files bag renewal) (q, c) (put_in_puts metadata q c info))
+            (info_in_put (writes_info bag renewal) (info_files bag renewal) (q, c) (put_in_puts (written_info bag renewal) q c info))
         | inr more ↦ payload_new bag renewal q c (put_in_unkept (payload_manifests bag renewal) q c more)
       ]
 
   put_in_closing : (q c : List ℕ) → Contains (closing bag renewal) (Put q c) → IsNew bag renewal q c
   put_in_closing q c has =
-      elim (contains_either (map put declarations) (map put (tag_manifests bag renewal)) (Put q c) has) [
+      elim (contains_either (map put (last_files bag renewal)) (map put (tag_manifests bag renewal)) (Put q c) has) [
         | inl one ↦ elim (contains_cases (declaration_file bag renewal) [] (q, c)
             (put_in_unkept (declaration_file bag renewal ∷ []) q c one)) [
               | inl same ↦ declaration_new bag renewal q c same
@@ -87,7 +82,7 @@ module _ (bag : Bag) (renewal : Renewal) where
       elim (contains_either (putting bag renewal) (dropping bag renewal ++ closing bag renewal) (Put q c) has) [
         | inl puts ↦ put_in_putting q c puts
         | inr later ↦ elim (contains_either (dropping bag renewal) (closing bag renewal) (Put q c) later) [
-          | inl drops ↦ absurd (put_in_removes Payload (algs_where (is_dropped bag renewal)) q c drops)
+          | inl drops ↦ absurd (put_in_removes Payload (algs_where (is_dropped_alg bag renewal)) q c drops)
           | inr ends ↦ put_in_closing q c ends
         ]
       ]
@@ -124,7 +119,7 @@ module _ (bag : Bag) (renewal : Renewal) where
   pub declaration_in : is_kept bag renewal (tag_path Declaration) ≡ false → Contains last (put (declaration_file bag renewal))
   declaration_in out =
       in_closing (put (declaration_file bag renewal))
-      (contains_front (map put declarations) (map put (tag_manifests bag renewal))
+      (contains_front (map put (last_files bag renewal)) (map put (tag_manifests bag renewal))
       (put (declaration_file bag renewal))
       (unkept_in (declaration_file bag renewal ∷ []) (declaration_file bag renewal) (contains_first (declaration_file bag renewal) []) out))
 
@@ -133,8 +128,8 @@ module _ (bag : Bag) (renewal : Renewal) where
   info_in written c new =
       let one : File = (tag_path Info, c) in
       in_putting (put one)
-      (contains_front (map put metadata) (map put manifests) (put one)
-      (mapped_contains put metadata one
+      (contains_front (map put (written_info bag renewal)) (map put manifests) (put one)
+      (mapped_contains put (written_info bag renewal) one
       (subst (λ b. Contains (cond b (info_files bag renewal) []) one) (sym written) (info_listed bag renewal c new))))
 
   pub manifest_in : (alg : Alg) → Contains (new_algs bag renewal) alg
@@ -143,13 +138,13 @@ module _ (bag : Bag) (renewal : Renewal) where
   manifest_in alg has out =
       let one = payload_manifest bag renewal alg in
       in_putting (put one)
-      (contains_back (map put metadata) (map put manifests) (put one)
+      (contains_back (map put (written_info bag renewal)) (map put manifests) (put one)
       (unkept_in (payload_manifests bag renewal) one (payload_listed bag renewal alg has) out))
 
   pub tag_manifest_in : (e : File) → Contains (tag_manifests bag renewal) e → Contains last (put e)
   tag_manifest_in e has =
       in_closing (put e)
-      (contains_back (map put declarations) (map put (tag_manifests bag renewal)) (put e)
+      (contains_back (map put (last_files bag renewal)) (map put (tag_manifests bag renewal)) (put e)
       (mapped_contains put (tag_manifests bag renewal) e has))
 
   pub drop_in : (alg : Alg) → HasFile bag (tag_path (Manifest Payload alg)) → has_member renewal.dropped alg ≡ true
@@ -158,8 +153,8 @@ module _ (bag : Bag) (renewal : Renewal) where
       let one = Remove (tag_path (Manifest Payload alg)) in
       contains_back (putting bag renewal) (dropping bag renewal ++ closing bag renewal) one
       (contains_front (dropping bag renewal) (closing bag renewal) one
-      (mapped_contains (λ alg. Remove (tag_path (Manifest Payload alg))) (algs_where (is_dropped bag renewal)) alg
-      (alg_in (is_dropped bag renewal) alg
+      (mapped_contains (λ alg. Remove (tag_path (Manifest Payload alg))) (algs_where (is_dropped_alg bag renewal)) alg
+      (alg_in (is_dropped_alg bag renewal) alg
       (and_from (has_payload_manifest bag alg) (has_member renewal.dropped alg) there dropped))))
 
   pub open_in : (alg : Alg) → HasFile bag (tag_path (Manifest Tag alg))

@@ -23,7 +23,6 @@ pub mod OnTheWayFiles
 pub mod OnTheWayFromV097
 pub mod OneChange
 pub mod PayloadFiles
-pub mod Places
 pub mod PlannedRenewal
 pub mod ReadAlike
 pub mod ReadForRenewal

@@ -5,8 +5,9 @@ use Rattle.bag_text.proofs.ListOf.{contains_nothing, nothing_listed}
 use Rattle.bag_tree.specs.FileChanges.{IsAfterFirst}
 use Rattle.bag_faults.specs.FaultOrder.{fault_cmp}
 use Rattle.bag_faults.specs.declared.fault.Fault.{Fault}
+use Rattle.bag_changes.specs.Obstacles.{HasNoPercent}
 use Rattle.bag_renew.specs.OnTheWay.{CanRenewInPlace, EachBagOnTheWayHasOldFaults, EachBagOnTheWayIsValid}
-use Rattle.bag_renew.specs.OnTheWay.{EachCutBagHasOldFaults, EachCutBagIsValid, HasNoPercent}
+use Rattle.bag_renew.specs.OnTheWay.{EachCutBagHasOldFaults, EachCutBagIsValid}
 use Rattle.bag_renewed.specs.Renewed.{renewed}
 use Rattle.bag_checked.specs.FirstFaults.{IsDamage}
 use Rattle.bag_report.specs.Valid.{HasNoFault, IsFaultOf}

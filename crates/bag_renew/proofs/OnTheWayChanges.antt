@@ -9,13 +9,14 @@ use Rattle.bag_renew.proofs.Common.{TagName, Tag, Declaration, Info, Manifest, A
 use Rattle.bag_renew.proofs.Common.{Put, Remove, changes, clearing, closing, dropping, opening, put, putting, unkept}
 use Rattle.bag_renew.proofs.Common.{File, begun_file, declaration_file, algs_where, has_payload_manifest}
 use Rattle.bag_renew.proofs.Common.{has_tag_manifest, is_kept, manifest_by, named_tag_files, new_algs, new_rules, payload_manifest}
-use Rattle.bag_renew.proofs.Common.{payload_manifests, tag_manifests, with_path, writes_info, Renewal}
+use Rattle.bag_renew.proofs.Common.{payload_manifests, tag_manifests, with_path, writes_info, Renewal, last_files}
+use Rattle.bag_renew.proofs.Common.{written_info, is_dropped_alg}
 use Rattle.std.proofs.Common.{drop, take-append-drop}
 use Rattle.bag_facts.proofs.Mapped.{kept}
 use Rattle.bag_read.proofs.ManifestName.{named_is}
 use Rattle.bag_changes.proofs.AlgsWhere.{passes}
 use Rattle.bag_renew.proofs.BetweenFaults.{no_manifest_begun, one_kind}
-use Rattle.bag_renew.proofs.ChangedNames.{back, info_put, info_text, is_dropped}
+use Rattle.bag_renew.proofs.ChangedNames.{back, info_text}
 use Rattle.bag_renew.proofs.OneChange.{name_of, with_change, with_changes}
 use Rattle.bag_changes.proofs.Staying.{no_begun}
 use Rattle.bag_renew.proofs.TagNames.{IsPlain, no_manifest_name}
@@ -149,10 +150,10 @@ module _ (bag : Bag) (renewal : Renewal) where
 
   in_putting : (d : FileChange) → Contains (putting bag renewal) d → PutsAt IsPutName d
   in_putting d has =
-      elim (contains_either (map put (info_put bag renewal)) (map put (unkept bag renewal (payload_manifests bag renewal))) d
+      elim (contains_either (map put (written_info bag renewal)) (map put (unkept bag renewal (payload_manifests bag renewal))) d
       has) [
         | inl info ↦ (
-            let p = in_puts (info_put bag renewal) d info in (
+            let p = in_puts (written_info bag renewal) d info in (
               p.0,
               p.2,
               inl (info_named (writes_info bag renewal) (info_text bag renewal) (file bag (tag_path Info)) p.0 p.1),
@@ -169,11 +170,11 @@ module _ (bag : Bag) (renewal : Renewal) where
   in_dropping : (d : FileChange) → Contains (dropping bag renewal) d → Drops d
   in_dropping d has =
       let m =
-      contains_mapped (λ alg. Remove (tag_path (Manifest Payload alg))) (algs_where (is_dropped bag renewal)) d has in (
+      contains_mapped (λ alg. Remove (tag_path (Manifest Payload alg))) (algs_where (is_dropped_alg bag renewal)) d has in (
         m.0,
         sym m.2,
         (and_parts (has_payload_manifest bag m.0) (has_member renewal.dropped m.0)
-            (passes (is_dropped bag renewal) m.0 m.1)).1,
+            (passes (is_dropped_alg bag renewal) m.0 m.1)).1,
       )
 
   -- the declaration, where it isn't kept, or a tag manifest
@@ -186,7 +187,7 @@ module _ (bag : Bag) (renewal : Renewal) where
   unnegated false e = refl
   unnegated true e = cc
 
-  declaration_named : (e : File) → Contains (unkept bag renewal (declaration_file bag renewal ∷ [])) e
+  declaration_named : (e : File) → Contains (last_files bag renewal) e
       → (e.0 ≡ tag_path Declaration) × (is_kept bag renewal e.0 ≡ false)
   declaration_named e has =
       let k = kept (λ (e : File). not (is_kept bag renewal e.0)) (declaration_file bag renewal ∷ []) e has in (
@@ -199,10 +200,10 @@ module _ (bag : Bag) (renewal : Renewal) where
 
   in_closing : (d : FileChange) → Contains (closing bag renewal) d → PutsAt IsClosingName d
   in_closing d has =
-      elim (contains_either (map put (unkept bag renewal (declaration_file bag renewal ∷ []))) (map put (tag_manifests bag renewal)) d
+      elim (contains_either (map put (last_files bag renewal)) (map put (tag_manifests bag renewal)) d
       has) [
         | inl one ↦ (
-            let p = in_puts (unkept bag renewal (declaration_file bag renewal ∷ [])) d one in
+            let p = in_puts (last_files bag renewal) d one in
             (p.0, p.2, inl (declaration_named p.0 p.1)))
         | inr tags ↦ (
             let p = in_puts (tag_manifests bag renewal) d tags in

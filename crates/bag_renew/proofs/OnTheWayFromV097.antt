@@ -24,8 +24,8 @@ use Rattle.bag_stages.specs.LeftOut.{IsLeftOutByAll, IsNamedBySome}
 use Rattle.bag_stages.specs.MetadataStage.{IsOfMetadata, MetadataHolds, bag_info_txt}
 use Rattle.bag_stages.specs.TagFiles.{HasSupported, Names, bagit_txt, lines_in, lines_or_none, manifest_of}
 use Rattle.bag_tree.specs.Bag.{LacksFile}
-use Rattle.bag_changes.specs.Obstacles.{has_percent}
-use Rattle.bag_renew.specs.OnTheWay.{CanRenewInPlace, HasNoPercent}
+use Rattle.bag_changes.specs.Obstacles.{HasNoPercent, has_percent}
+use Rattle.bag_renew.specs.OnTheWay.{CanRenewInPlace}
 use Rattle.bag_renewed.specs.Renewed.{renewed}
 use Rattle.bag_changes.specs.Telling.{NamesFiles, NamesItsFiles}
 use Rattle.bag_changes.specs.Valid.{HasGoodInfo}

@@ -16,11 +16,11 @@ use Rattle.bag_tags.specs.OnLines.{is_bad_long_element, text_on_lines}
 use Rattle.bag_tree.specs.Tree.{TreeState}
 use Rattle.bag_renewed.specs.Elements.{has_label}
 use Rattle.bag_changes.specs.NewInfo.{IsInfoAfter, IsInfoRefusal, IsNewInfo}
-use Rattle.bag_changes.specs.Reading.{HasKnownSize, HasReadBag, IsReadForRenewal, MayRefuseReading}
+use Rattle.bag_changes.specs.Reading.{HasReadBag, IsReadForRenewal, MayRefuseReading}
 use Rattle.bag_checked.specs.FirstFaults.{HasNoEarlyFault}
 use Rattle.bag_renewed.specs.Renewed.{writes_info}
 use Rattle.bag_renewed.specs.Request.{is_bad_request, is_refused}
-use Rattle.bag_changes.specs.Valid.{HasGoodElements}
+use Rattle.bag_changes.specs.Valid.{HasGoodElements, HasKnownSize}
 use Rattle.bag_report.specs.Valid.{full}
 use Rattle.bag_changes.specs.declared.fault.RenewFault.{RenewFault}
 use Rattle.bag_changes.specs.declared.fault.RenewFault.TheVariants as why
@@ -62,12 +62,10 @@ module _ (renewal : Renewal) (old new : TreeState) (facts : Facts) (summed : Lis
       → IsNewInfo bag renewal info → writes_info bag renewal ≡ true → HasKnownSize bag → HasGoodElements bag renewal
   good_elements bag None asked none writes size = let clash : false ≡ true = sym none ∙ writes in cc
   good_elements bag (Some text) asked is writes size = let good = good_request renewal.elements asked in record {
-    texts = is.1.texts;
-    good = is.1.good;
+    written = is.1;
     set = good.0;
     appended = good.1;
-    count = size.count;
-    size = size.size;
+    known = size;
   }
 
   -- of an honest tree it is written of the bag

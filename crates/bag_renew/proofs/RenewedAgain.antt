@@ -14,7 +14,8 @@ use Rattle.bag_tags.specs.Declaration.{declaration_text}
 use Rattle.bag_tree.specs.FileChanges.{IsAfterFirst}
 use Rattle.bag_renew.specs.Again.{RenewingAgainMakesTheSame}
 use Rattle.bag_renewed.specs.Elements.{asks_nothing}
-use Rattle.bag_renew.specs.OnTheWay.{CanRenewInPlace, HasNoPercent}
+use Rattle.bag_changes.specs.Obstacles.{HasNoPercent}
+use Rattle.bag_renew.specs.OnTheWay.{CanRenewInPlace}
 use Rattle.bag_renewed.specs.Renewed.{file_at, is_v10, renewed}
 use Rattle.bag_renewed.specs.Request.{is_bad_request}
 use Rattle.bag_changes.specs.Valid.{HasGoodElements}

@@ -220,7 +220,7 @@ pub written_are_read : WrittenElementsAreRead
 written_are_read bag renewal writes good =
     read_so (renewed bag renewal) (new_rules bag renewal) (by_new_rules bag renewal) (Some (text bag renewal))
     (new_info bag renewal ∙ ap (info_so bag renewal) writes)
-    ∙ (long_info_again_by (new_rules bag renewal) (new_elements bag renewal) good.texts good.good).1
+    ∙ (long_info_again_by (new_rules bag renewal) (new_elements bag renewal) good.written.texts good.written.good).1
 
 -- the bag-info.txt is that of the bag, and is read alike
 abbrev pub HasInfoOf : Bag → Bag → Type 0

@@ -1,8 +1,8 @@
 -- A renewal makes some change, and leaves no file that is begun.
 use Rattle.bag_renew.proofs.Common.{◌≡◌, ◌≢◌, ◌++◌, ◌∷◌, inl, inr, ℕ, false, List, [], Option, None, Some, is_some, map}
 use Rattle.bag_renew.proofs.Common.{refl, ap, begun_file, file, has_file, changes, clearing, dropping, opening, putting}
-use Rattle.bag_renew.proofs.Common.{put, unkept, declaration_file, manifest_by, named_tag_files, new_algs, new_rules, renewed}
-use Rattle.bag_renew.proofs.Common.{tag_path, Tag, Manifest, Alg, Bag, File, FileChange, Renewal}
+use Rattle.bag_renew.proofs.Common.{put, manifest_by, named_tag_files, new_algs, new_rules, renewed}
+use Rattle.bag_renew.proofs.Common.{tag_path, Tag, Manifest, Alg, Bag, File, FileChange, Renewal, last_files}
 use Rattle.bag_changes.proofs.Contents.{these_files}
 use Rattle.bag_changes.proofs.Staying.{itself, no_begun, no_payload_name, stays_so}
 use Rattle.bag_changes.specs.Contents.{Stands}
@@ -23,7 +23,7 @@ some_changes bag renewal some none =
     let two = last_none (putting bag renewal) _ three in
     let one = last_none (dropping bag renewal) _ two in
     some (none_mapped (λ alg. (tag_path (Manifest Tag alg), manifest_by (new_rules bag renewal) alg (named_tag_files bag renewal)))
-    (new_algs bag renewal) (last_none (map put (unkept bag renewal (declaration_file bag renewal ∷ []))) _ one))
+    (new_algs bag renewal) (last_none (map put (last_files bag renewal)) _ one))
 
 not_standing : (bag : Bag) (renewal : Renewal) (content : List ℕ) → Stands bag renewal begun_file content → ⊥
 not_standing bag renewal content (inl (at, inl is)) = no_payload_name begun_file refl is

@@ -1,6 +1,6 @@
 -- A fault of the renewed bag is damage that the bag had, by a manifest that is kept.
-use Rattle.bag_renew.proofs.Common.{◌≡◌, ◌≢◌, ◌∷◌, ◌∙◌, inl, inr, ℕ, true, not, List, [], Option, None}
-use Rattle.bag_renew.proofs.Common.{Some, is_some, refl, ap, sym, subst, Contains, codes, false≢true, contains_first}
+use Rattle.bag_renew.proofs.Common.{◌≡◌, ◌≢◌, ◌∙◌, inl, inr, ℕ, true, not, List, Option, None}
+use Rattle.bag_renew.proofs.Common.{Some, is_some, refl, ap, sym, subst, codes, false≢true}
 use Rattle.bag_renew.proofs.Common.{contains_nothing, false_from_ne_true, and_from, is_payload_path, tag_path}
 use Rattle.bag_renew.proofs.Common.{Payload, Tag, TagName, Declaration, Info, Fetch, Manifest, Alg, name, name_is_text}
 use Rattle.bag_renew.proofs.Common.{name_named, Bag, HasFile, file, has_folder, paths_differ, keeps}
@@ -33,6 +33,7 @@ use Rattle.bag_facts.specs.Facts.{rules_in}
 use Rattle.bag_faults.specs.declared.fault.Fault.{Fault}
 use Rattle.bag_report.specs.Report.{Is, asks}
 use Rattle.bag_report.specs.Valid.{IsFaultOf, full}
+use Rattle.bag_stages.proofs.LeftOut.{some_member}
 use Rattle.bag_stages.specs.DeclarationStage.{DeclarationHolds, InDeclaration, IsOfDeclaration}
 use Rattle.bag_stages.specs.FaultFields.{At, in_line}
 use Rattle.bag_stages.specs.FetchStage.{FetchHolds, HasFetch, InFetch, IsOfFetch, fetch_txt}
@@ -60,10 +61,6 @@ use Rattle.bag_renew.proofs.RenewedNames.{same_file}
 use Rattle.bag_changes.proofs.Staying.{no_payload_tag, so_it_stays}
 use Rattle.bag_renew.proofs.TagNames.{no_manifest_name}
 use Rattle.bag_renew.proofs.Telling.{no_completeness_fault, no_line, no_manifest_fault, none_differs, text_of_entry}
-
-some_member : (algs : List Alg) → algs ≢ [] → (alg : Alg) × Contains algs alg
-some_member [] some = absurd (some refl)
-some_member (alg ∷ algs) some = (alg, contains_first alg algs)
 
 module _ (bag : Bag) (renewal : Renewal) (can : CanRenew bag renewal) (info : HasGoodInfo bag renewal) where
   abbrev now : Bag

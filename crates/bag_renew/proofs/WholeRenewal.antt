@@ -23,12 +23,12 @@ use Rattle.bag_tree.specs.declared.listing.Listing.{Listing}
 use Rattle.bag_tree.specs.declared.event.DeviceEvent.{DeviceEvent}
 use Rattle.bag_changes.proofs.Openings.{for_renewal_still}
 use Rattle.bag_changes.specs.Openings.{OpensBefore, OpensForRenewal}
-use Rattle.bag_changes.specs.Reading.{HasKnownSize, MayRefuseReading}
+use Rattle.bag_changes.specs.Reading.{MayRefuseReading}
 use Rattle.bag_renew.specs.OnTheWay.{CanRenewInPlace}
 use Rattle.bag_changes.specs.Planned.{ChangesCompared}
 use Rattle.bag_renew.specs.Renew.{HasBegun, HasNoNewFault, HasPlanned, HasStoppedAt, IsRenewal, LeavesRenewed, MayRefuseRenewing, told_as}
 use Rattle.bag_renewed.specs.Request.{is_bad_request}
-use Rattle.bag_changes.specs.Valid.{HasGoodInfo, IsOldDamage}
+use Rattle.bag_changes.specs.Valid.{HasGoodInfo, HasKnownSize, IsOldDamage}
 use Rattle.bag_report.specs.Valid.{IsFaultOf}
 use Rattle.bag_renew.proofs.OnTheWay.{each_cut_has_old_faults}
 use Rattle.bag_changes.specs.declared.fault.RenewFault.{RenewFault}

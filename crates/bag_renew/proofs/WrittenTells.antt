@@ -26,7 +26,7 @@ use Rattle.bag_tags.specs.Entry.{NewEntry}
 use Rattle.bag_tags.specs.Writable.{CanWriteBy, is_bad_digest, is_bad_entry_by, is_bad_path_by, is_unnameable, may_name}
 use Rattle.bag_tags.specs.Writable.{paths}
 use Rattle.bag_tags.proofs.ManifestReadAgain.{manifest_again_by}
-use Rattle.bag_facts.proofs.Mapped.{kept, passed}
+use Rattle.bag_facts.proofs.Mapped.{at_place, kept, passed, place_of}
 use Rattle.bag_tree.proofs.PathEntries.{t_true}
 use Rattle.bag_tree.specs.Digest.{digest}
 use Rattle.bag_tags.specs.Summed.{entries_of}
@@ -34,7 +34,6 @@ use Rattle.bag_changes.specs.Telling.{AreNameable, ArePaths, GivesDigests, IsMan
 use Rattle.bag_changes.specs.Telling.{is_to_name, paths_named, to_name}
 use Rattle.bag_tags.proofs.Digests.{good_digest}
 use Rattle.bag_facts.proofs.Found.{content_of, held_at, listed}
-use Rattle.bag_renew.proofs.Places.{at_place, place_of}
 
 -- the paths of an ordered list ascend
 is_less : (o : Ordering) → is_lt o ≡ true → o ≡ Less

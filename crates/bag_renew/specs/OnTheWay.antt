@@ -1,16 +1,15 @@
 -- The bags on the way from a bag to the renewed one (RFC 8493, 3).
-use Rattle.std.specs.Prelude.{ℕ, ◌≡◌, ◌⊎◌, false, true}
-use Rattle.bag_text.specs.Bytes.{Path}
+use Rattle.std.specs.Prelude.{ℕ, ◌≡◌, ◌⊎◌, true}
 use Rattle.bag_text.specs.declared.alg.Alg.{Alg}
 use Rattle.bag_read.specs.declared.kind.Kind.TheVariants.{Tag}
 use Rattle.bag_faults.specs.declared.fault.Fault.{Fault}
 use Rattle.bag_stages.specs.TagFiles.{Names}
-use Rattle.bag_tree.specs.Bag.{Bag, HasFile}
+use Rattle.bag_tree.specs.Bag.{Bag}
 use Rattle.bag_tree.specs.FileChanges.{IsAfterFirst}
 use Rattle.bag_report.specs.Valid.{HasNoFault, IsFaultOf}
 use Rattle.bag_changes.specs.Changes.{after, changes}
 use Rattle.bag_changes.specs.Reserved.{IsOutOfTheWay}
-use Rattle.bag_changes.specs.Obstacles.{has_percent}
+use Rattle.bag_changes.specs.Obstacles.{HasNoPercent}
 use Rattle.bag_renewed.specs.Renewed.{begun_file, keeps}
 use Rattle.bag_changes.specs.Valid.{CanRenew, HasGoodInfo}
 use Rattle.bag_checked.specs.FirstFaults.{IsDamage}
@@ -19,10 +18,6 @@ use Rattle.bag_renewed.specs.declared.renewal.Renewal.{Renewal}
 -- no tag manifest of the bag names a file that has the name of one that is begun
 abbrev pub NoTagManifestNamesBegun : Bag → Type 0
 NoTagManifestNamesBegun bag = (alg : Alg) → ¬ (Names bag Tag alg begun_file)
-
--- no path of the bag has a %
-abbrev pub HasNoPercent : Bag → Type 0
-HasNoPercent bag = (path : Path) → HasFile bag path → has_percent path ≡ false
 
 -- A bag that can be renewed in place; one of 0.97 that becomes one of 1.0 has no % in a path, which
 -- 1.0 spells otherwise.

@@ -17,10 +17,10 @@ use Rattle.bag_report.specs.Valid.{IsFaultOf}
 use Rattle.bag_changes.specs.Changes.{changes}
 use Rattle.bag_changes.specs.Openings.{OpensBefore, OpensForRenewal}
 use Rattle.bag_changes.specs.Planned.{ChangesCompared}
-use Rattle.bag_changes.specs.Reading.{HasKnownSize, IsReadForRenewal, MayRefuseReading}
+use Rattle.bag_changes.specs.Reading.{IsReadForRenewal, MayRefuseReading}
 use Rattle.bag_renewed.specs.Renewed.{begun_file, renewed}
 use Rattle.bag_renewed.specs.Request.{is_bad_request}
-use Rattle.bag_changes.specs.Valid.{DropsCompared, IsOldDamage}
+use Rattle.bag_changes.specs.Valid.{DropsCompared, HasKnownSize, IsOldDamage}
 use Rattle.bag_changes.specs.declared.fault.RenewFault.{RenewFault}
 use Rattle.bag_changes.specs.declared.fault.RenewFault.TheVariants as why
 use Rattle.bag_renewed.specs.declared.renewal.Renewal.{Renewal}

@@ -48,7 +48,7 @@ pub use Rattle.bag_text.specs.declared.code.Code.{Code}
 pub use Rattle.bag_text.specs.declared.code.Code.TheVariants.{InfoLine, NamedAgain, NotUtf8}
 pub use Rattle.bag_text.specs.declared.rules.Rules.TheVariants.{V10}
 pub use Rattle.bag_tags.specs.Distinct.{TextsAscend, lent_texts}
-pub use Rattle.bag_tags.specs.Element.{NewElement, has_outer_blank, info_line, info_text, is_bad_element}
+pub use Rattle.bag_tags.specs.Element.{AreTexts, NewElement, has_outer_blank, info_line, info_text, is_bad_element}
 pub use Rattle.bag_tags.specs.Entry.{NewEntry, entry_line, manifest_text}
 pub use Rattle.bag_tags.specs.Writable.{NamesEachOnce, begins_with_mark, is_bad_digest}
 pub use Rattle.bag_tags.specs.Writable.{is_bad_entry, is_bad_path, is_lower_hex_digit}

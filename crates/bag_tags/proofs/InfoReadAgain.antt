@@ -2,15 +2,15 @@
 use Rattle.bag_tags.proofs.Common.{Bool, List, None, Some, [], ap, arith, false, inl, inr, map, not, subst, sym, true}
 use Rattle.bag_tags.proofs.Common.{ℕ, ◌&&◌, ◌∙◌, ◌∷◌, ◌≡◌, recursion_from_All, none-some, AllByRecursion, list_any}
 use Rattle.bag_tags.proofs.Common.{or_false, InfoFault, IsElement, begins_element, continuations, split, value_of_parts}
-use Rattle.bag_tags.proofs.Common.{LineFault, IsLine, lines_of_file, IsText, Code, InfoLine, NotUtf8, V10, NewElement}
-use Rattle.bag_tags.proofs.Common.{info_line, info_text, is_bad_element, InfoIsReadAgain, StandsOn}
+use Rattle.bag_tags.proofs.Common.{LineFault, IsLine, lines_of_file, Code, InfoLine, NotUtf8, V10, NewElement}
+use Rattle.bag_tags.proofs.Common.{info_line, info_text, is_bad_element, InfoIsReadAgain, StandsOn, AreTexts}
 use Rattle.bag_text.specs.declared.rules.Rules.{Rules}
 use Rattle.bag_read.specs.declared.info.Element.{Element}
 use Rattle.bag_tags.specs.ReadAgain.{InfoIsReadAgainBy}
 use Rattle.bag_tags.proofs.InfoLines.{IsGood, splits, begins, part_is_value, written, no_continuation}
 use Rattle.bag_tags.proofs.WrittenLines.{IsWritten, at_place, file_lines, is_text, line_of_item, item_on_line}
 
-good_each : (elements : List NewElement) → AllByRecursion (λ e. IsText e.0 × IsText e.1) elements
+good_each : (elements : List NewElement) → AllByRecursion AreTexts elements
     → list_any is_bad_element elements ≡ false → AllByRecursion IsGood elements
 good_each [] texts e = tt
 good_each (x ∷ xs) texts e =

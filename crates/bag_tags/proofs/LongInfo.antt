@@ -20,7 +20,7 @@ use Rattle.bag_tags.proofs.CutTexts.{parts_are_texts}
 use Rattle.bag_tags.proofs.WrittenLines.{IsWritten, file_lines, is_text, text}
 use Rattle.bag_tags.proofs.Common.{lit<, is_utf8-from_IsUtf8, IsUtf8, true≢false, both_true, not_true, ◌&&◌, None}
 use Rattle.bag_read.specs.InfoReader.{element_if, fault_at, fault_unless}
-use Rattle.bag_tags.proofs.Common.{Option, Contains, LineFault, recursion_from_All, lines_of_file}
+use Rattle.bag_tags.proofs.Common.{Option, Contains, LineFault, recursion_from_All, lines_of_file, AreTexts}
 use Rattle.bag_tags.specs.ReadAgain.{LongInfoIsReadAgain, LongInfoIsReadAgainBy}
 use Rattle.bag_read.specs.Info.{IsInfoFault}
 use Rattle.bag_text.proofs.ListOf.{contains_nothing}
@@ -355,7 +355,7 @@ all_themselves : (lines : List (List ℕ)) → map itself lines ≡ lines
 all_themselves [] = refl
 all_themselves (line ∷ lines) = ap (λ ls. line ∷ ls) (all_themselves lines)
 
-good_each : (elements : List NewElement) → AllByRecursion (λ e. IsText e.0 × IsText e.1) elements
+good_each : (elements : List NewElement) → AllByRecursion AreTexts elements
     → list_any is_bad_long_element elements ≡ false → AllByRecursion IsGoodLong elements
 good_each [] texts fine = tt
 good_each (e ∷ elements) texts fine =

@@ -16,7 +16,7 @@ use Rattle.bag_read.specs.Manifest.{IsEntry, IsManifestFault}
 use Rattle.bag_read.specs.declared.kind.Kind.{Kind}
 use Rattle.bag_entries.specs.declared.entry.ManifestEntry.{ManifestEntry}
 use Rattle.bag_tags.specs.Declaration.{declaration_text}
-use Rattle.bag_tags.specs.Element.{NewElement, info_text, is_bad_element}
+use Rattle.bag_tags.specs.Element.{AreTexts, NewElement, info_text, is_bad_element}
 use Rattle.bag_tags.specs.Entry.{NewEntry, manifest_text_by}
 use Rattle.bag_tags.specs.OnLines.{is_bad_long_element, text_on_lines}
 use Rattle.bag_tags.specs.Writable.{CanWriteBy}
@@ -35,8 +35,7 @@ StandsOn items line item = (k : ℕ) × (line ≡ k + 1) × (slice_get items k �
 -- the metadata is read by these rules as these elements
 abbrev pub InfoIsReadAgainBy : Rules → Type 0
 InfoIsReadAgainBy rules =
-    (elements : List NewElement) → All (λ element. IsText element.0 × IsText element.1) elements
-    → list_any is_bad_element elements ≡ false
+    (elements : List NewElement) → All AreTexts elements → list_any is_bad_element elements ≡ false
     → ((e : Element)
     → IsElement rules (lines_of_file (info_text elements)) e
     ↔ StandsOn elements e.line (e.label, e.value))
@@ -55,7 +54,7 @@ elements_read rules bytes =
 -- metadata whose values stand over several lines is read by these rules as these elements
 abbrev pub LongInfoIsReadAgainBy : Rules → Type 0
 LongInfoIsReadAgainBy rules =
-    (elements : List NewElement) → All (λ element. IsText element.0 × IsText element.1) elements
+    (elements : List NewElement) → All AreTexts elements
     → list_any is_bad_long_element elements ≡ false
     → IsText (text_on_lines elements) × (elements_read rules (text_on_lines elements) ≡ elements)
     × ((f : LineFault) → ¬ (IsInfoFault rules (text_on_lines elements) f))

@@ -1,6 +1,6 @@
-use Rattle.bag_changes.proofs.Common.{◌≡◌, ◌∙◌, ap, sym, subst, new_algs}
+use Rattle.bag_changes.proofs.Common.{◌≡◌, ◌∙◌, ap, sym, subst, last_files, new_algs}
 use Rattle.std.proofs.Common.{filter}
-use Rattle.bag_changes.specs.Composing.{keeps_bytes, kept_names, last_files, of_path, is_tag_path}
+use Rattle.bag_changes.specs.Composing.{keeps_bytes, kept_names, of_path, is_tag_path}
 use Rattle.bag_changes.specs.Planned.{first_from, kept_from}
 use Rattle.bag_checked.specs.Summed.{AreSummedBy}
 use Rattle.bag_changes.proofs.ComposedChanges.{first_is, kept_summed, named_summed}

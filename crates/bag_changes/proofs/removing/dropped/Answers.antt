@@ -1,6 +1,7 @@
 use Rattle.bag_changes.proofs.Common.{◌≡◌, ◌∙◌, ap, sym, subst, dropping, Payload}
 use Rattle.std.proofs.lemmas.Result.{IfOk-weaker}
-use Rattle.bag_changes.specs.Composing.{AreOfFiles, removals_of}
+use Rattle.bag_changes.specs.Changes.{removals_of}
+use Rattle.bag_changes.specs.Composing.{AreOfFiles}
 use Rattle.bag_renewed.specs.Target.{OfTarget}
 use Rattle.bag_changes.proofs.OfFiles.{removals_of_files}
 use Rattle.bag_changes.proofs.removing.dropped.Goals as goal

@@ -1,6 +1,5 @@
 use Rattle.bag_changes.proofs.Common.{◌≡◌, ◌∙◌, ◌++◌, ◌∷◌, [], ap, cond, Remove, Tag}
-use Rattle.bag_changes.specs.Composing.{removals_of}
-use Rattle.bag_changes.specs.Changes.{opening}
+use Rattle.bag_changes.specs.Changes.{opening, removals_of}
 use Rattle.bag_changes.proofs.OfFiles.{opened_of_files}
 use Rattle.bag_changes.proofs.removing.opened.Goals as goal
 

@@ -1,5 +1,5 @@
 use Rattle.bag_changes.proofs.Common.{◌≡◌, take}
-use Rattle.bag_changes.specs.Composing.{removals_of}
+use Rattle.bag_changes.specs.Changes.{removals_of}
 use Rattle.bag_changes.proofs.removing.removals.Given as goal
 
 abbrev pub invariant-loop-alg : goal.invariant-loop-alg

@@ -1,12 +1,12 @@
 use Rattle.bag_checked.proofs.Common.{ap, ◌∙◌, Payload}
 use Rattle.bag_tags.specs.Summed.{manifests_by}
-use Rattle.bag_checked.proofs.CheckedBag.{has_no_fault, of_the_bag, opens_twice, same_bytes}
+use Rattle.bag_checked.proofs.CheckedBag.{has_no_fault, of_the_bag, opens_all, same_bytes}
 use Rattle.bag_checked.proofs.StopsOfBag.{unchecked_for_memory}
 use Rattle.bag_checked.proofs.further.new_manifests.Goals as goal
 
 pub returns-in-Ok-manifests-clause-opened : goal.returns-in-Ok-manifests-clause-opened
 returns-in-Ok-manifests-clause-opened g c =
-    opens_twice c.in-Ok.rules c.args.algs (g.T.Tree.state c.args.tree.now) (g.T.Tree.state c.check_bag.new.tree) c.in-Ok.summed.items
+    opens_all c.in-Ok.rules c.args.algs (g.T.Tree.state c.args.tree.now) (g.T.Tree.state c.check_bag.new.tree) c.in-Ok.summed.items
     c.in-Ok.ensures.checked
 
 pub returns-in-Ok-manifests-clause-valid : goal.returns-in-Ok-manifests-clause-valid
