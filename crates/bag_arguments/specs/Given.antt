@@ -20,7 +20,6 @@ use Rattle.bag_arguments.specs.Labels.{all_labels, label_name, label_option}
 use Rattle.bag_arguments.specs.declared.label.Label.{Label}
 use Rattle.bag_arguments.specs.declared.plan.Action.{Action}
 use Rattle.bag_arguments.specs.declared.plan.Action.TheVariants.{Check, CheckTars, Join, Make}
-use Rattle.bag_arguments.specs.declared.plan.InfoItem.{InfoItem}
 use Rattle.bag_arguments.specs.declared.check_option.CheckOption.{CheckOption}
 use Rattle.bag_arguments.specs.declared.check_option.CheckOption.TheVariants as check
 
@@ -147,10 +146,9 @@ abbrev pub named_algs : List Row → List Alg
 named_algs rows = filter (λ alg. is_given rows (name alg)) algs
 
 -- the element of a label, its value without the blanks at both ends
-abbrev pub element : List Row → Label → Option InfoItem
+abbrev pub element : List Row → Label → Option (Text × Text)
 element rows label =
-    option_map (λ text. record { label = label_name label; value = trim text })
-    (value rows (label_option label))
+    option_map (λ text. (label_name label, trim text)) (value rows (label_option label))
 
-abbrev pub info : List Row → List InfoItem
+abbrev pub info : List Row → List (Text × Text)
 info rows = filter_map (element rows) all_labels

@@ -9,7 +9,7 @@ ghost use Rattle.bag_text.specs.AlgList.{with_member};
 ghost use Rattle.bag_words.specs.Rows as rows;
 
 use crate::check_option::CHECK_OPTIONS;
-use crate::{Action, CheckOption, InfoItem, Label};
+use crate::{Action, CheckOption, Label};
 use bag_faults::{Depth, Part};
 use bag_read::number_of;
 use bag_text::{Alg, AlgSet, Items, Text, trim};
@@ -198,20 +198,20 @@ fn element(
     alloc: Global,
     matches: &ArgMatches<'_>,
     label: Label,
-) -> Result<Option<InfoItem>, AllocError>
+) -> Result<Option<(Text, Text)>, AllocError>
     ensures { IfOk result (λ item. item ≡ spec.element (rows.rows_in matches.now) label) }
 {
     match value(matches, label.option()) {
         None => Ok(None),
-        Some(text) => Ok(Some(InfoItem {
-            label: Text::from_str(alloc, label.name())?,
-            value: Text::from_str(alloc, trim(text))?,
-        })),
+        Some(text) => Ok(Some((
+            Text::from_str(alloc, label.name())?,
+            Text::from_str(alloc, trim(text))?,
+        ))),
     }
 }
 
 /// Puts an item at the end, where there is one.
-fn push_some(items: &mut Items<InfoItem>, item: Option<InfoItem>) -> Result<(), AllocError>
+fn push_some(items: &mut Items<(Text, Text)>, item: Option<(Text, Text)>) -> Result<(), AllocError>
     ensures { OnOk result (items.new ≡ items.old ++ option_to_list item) }
 {
     match item {
@@ -225,7 +225,7 @@ pub(crate) fn info(
     alloc: Global,
     matches: &ArgMatches<'_>,
     labels: &[Label],
-) -> Result<Items<InfoItem>, AllocError>
+) -> Result<Items<(Text, Text)>, AllocError>
     ensures { IfOk result (λ items.
         items ≡ filter_map (spec.element (rows.rows_in matches.now)) labels.now) }
 {

@@ -23,6 +23,6 @@ mod usage;
 
 pub use check_option::CheckOption;
 pub use label::Label;
-pub use plan::{Action, InfoItem, Plan};
+pub use plan::{Action, Plan};
 pub use planning::plan_of;
 pub use usage::Usage;

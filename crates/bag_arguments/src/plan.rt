@@ -19,13 +19,6 @@ pub enum Action {
     Make,
 }
 
-/// An element of `bag-info.txt` that is to be written.
-#[derive(Debug, Drop)]
-pub struct InfoItem {
-    pub label: Text,
-    pub value: Text,
-}
-
 /// What the words of a command line ask for.
 #[derive(Debug, Drop)]
 pub struct Plan {
@@ -44,6 +37,6 @@ pub struct Plan {
     pub quiet: bool,
     /// The algorithms of a bag that is made.
     pub algs: AlgSet,
-    /// The elements of a bag that is made, in the order in which they are written.
-    pub info: Items<InfoItem>,
+    /// The elements of a bag that is made, label and value, in the order in which they are written.
+    pub info: Items<(Text, Text)>,
 }

@@ -1,6 +1,6 @@
 -- The statuses of the arms of what a plan asks for.
 use Rattle.bag_cli.proofs.Common.{◌≤◌, inl, inr, ℕ, List, Option, arith, DiskState, OutState, Event, tree_state, Plan}
-use Rattle.bag_cli.proofs.Common.{ArchiveState, AreChecked, AreMade, AreTarsChecked, Checks, IsChecked, IsDoneBy}
+use Rattle.bag_cli.proofs.Common.{ArchiveState, AreChecked, AreTarsChecked, Checks, IsChecked, IsDoneBy}
 use Rattle.bag_cli.proofs.Common.{◌≡◌, AreJoined, Outcome, Refusal, ReportsState, Result, SummedProfile}
 use Rattle.bag_cli.proofs.Common.{in_form, join_status}
 use Rattle.bag_arguments.specs.declared.plan.Action.{Action}
@@ -17,12 +17,6 @@ pub checked_status : (checked : Checks)
     (visits : List Event) (n : ℕ)
     → IsChecked checked file plan path before after visits n → n ≤ 3
 checked_status checked statuses file plan path before after visits n done = grind (arith, statuses)
-
-pub made_status : (below : List ℕ → DiskState) (plan : Plan) (before after : OutState) (visits : List Event) (n : ℕ)
-    → AreMade below plan before after visits n → n ≤ 3
-made_status below plan before after visits n (inl none) = omega (arith, none.0)
-made_status below plan before after visits n (inr made) =
-    makings_status plan (λ name. tree_state (below name) 0) plan.directories before after visits n made
 
 -- joined or not, there is a status
 join_has_status : (joined : Result Outcome Refusal) (n : ℕ) → n ≡ join_status joined → n ≤ 3
@@ -53,4 +47,4 @@ performed_status below archived reported file plan CheckTars before after visits
 performed_status below archived reported file plan Join before after visits n done =
     joined_status reported plan.directories before after visits n done
 performed_status below archived reported file plan Make before after visits n done =
-    made_status below plan before after visits n done
+    makings_status plan (λ name. tree_state (below name) 0) plan.directories before after visits n done

@@ -1,6 +1,6 @@
 -- The names that this crate's proofs cite, passed on from one place. Declares nothing.
 pub use Rattle.std.proofs.Common.{Bool, IsTrue, List, None, Option, Some, [], ap, append-nil}
-pub use Rattle.std.proofs.Common.{append_assoc, arith, decimal, drop, get_or, inl, inr, length, map, refl}
+pub use Rattle.std.proofs.Common.{append_assoc, arith, decimal, drop, get_or, inl, inr, length, refl}
 pub use Rattle.std.proofs.Common.{subst, suc, sym, take, zero, ℕ, ◌++◌, ◌<◌, ◌∙◌, ◌∷◌, ◌≡◌, ◌≢◌, ◌≤◌}
 pub use Rattle.std.proofs.Common.{◌⊎◌}
 pub use Rattle.std.proofs.lemmas.Result.{err_from_is_err_and}
@@ -37,9 +37,9 @@ pub use Rattle.bag_cli.specs.Honest.{HonestFoldersAreReported, IsReportedMade, I
 pub use Rattle.bag_cli.specs.Joined.{AreJoined, IsJoin, join_status}
 pub use Rattle.bag_make.specs.WholeMaking.{IsMake}
 pub use Rattle.bag_cli.specs.Making.{ReportsMaking}
-pub use Rattle.bag_cli.specs.Makings.{AreMakingsOf, IsMakingBy, element_of}
+pub use Rattle.bag_cli.specs.Makings.{AreMakingsOf, IsMakingBy}
 pub use Rattle.bag_cli.specs.CheckedAs.{AreCheckedAs, AreCheckedInForm, IsWholeAs, in_form}
-pub use Rattle.bag_cli.specs.Performed.{AreChecked, AreMade, AreTarsChecked, Checks, IsChecked, IsDoneBy}
+pub use Rattle.bag_cli.specs.Performed.{AreChecked, AreTarsChecked, Checks, IsChecked, IsDoneBy}
 pub use Rattle.bag_cli.specs.Performed.{IsPerformed}
 pub use Rattle.bag_cli.specs.Sample.{sample_state}
 pub use Rattle.bag_program.specs.Saying.{Says}

@@ -1,6 +1,6 @@
 -- What the program does by a plan, and which folders it looks into and which files it reads
 -- meanwhile.
-use Rattle.std.specs.Prelude.{ℕ, ◌≡◌, ◌≢◌, ◌⊎◌, Bool, List, [], ◌∷◌, if◌then◌else◌}
+use Rattle.std.specs.Prelude.{ℕ, ◌≡◌, ◌⊎◌, Bool, List, [], ◌∷◌, if◌then◌else◌}
 use Rattle.std.specs.Prelude.{Option, Some, None, Result, Ok, Err}
 use Rattle.std.specs.Io.KnownBytes.{Appends}
 use Rattle.bag_tree.specs.Out.{IsCut, OutState}
@@ -75,13 +75,10 @@ IsChecked checked file plan (Some path) before after visits n =
     × IsAnswer (file path) answer × IsReadAs answer read
     × IsCheckedFor checked plan read before after own n
 
--- the folders of a plan were made bags, on disks that hold this below each base folder; or memory
--- for the elements, of which there are some, ran out
+-- the folders of a plan were made bags, on disks that hold this below each base folder
 abbrev pub AreMade : Below → Plan → Deed
 AreMade below plan before after visits n =
-    ((n ≡ 3) × (after ≡ before) × (visits ≡ []) × (plan.info ≢ []))
-    ⊎ AreMakingsOf plan (λ name. tree_state (below name) 0) plan.directories
-    before after visits n
+    AreMakingsOf plan (λ name. tree_state (below name) 0) plan.directories before after visits n
 
 -- this was done for a plan, on disks that hold this below each base folder, where tar files and
 -- reports are these and files have these bytes

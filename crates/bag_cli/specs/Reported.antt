@@ -1,5 +1,5 @@
 -- What checks and makings of honest disks report.
-use Rattle.std.specs.Prelude.{ℕ, ◌≡◌, ◌≢◌, IsTrue, List, [], ◌∷◌, Option, None, length, map, min}
+use Rattle.std.specs.Prelude.{ℕ, ◌≡◌, ◌≢◌, IsTrue, List, [], ◌∷◌, Option, None, length, min}
 use Rattle.std.specs.Io.KnownBytes.{Appends}
 use Rattle.std.specs.List.{concat}
 use Rattle.bag_tree.specs.Out.{OutState}
@@ -21,7 +21,7 @@ use Rattle.bag_arguments.specs.declared.plan.Action.TheVariants.{Check}
 use Rattle.bag_arguments.specs.declared.plan.Plan.{Plan}
 use Rattle.bag_cli.specs.Checked.{AreChecksOf, profile_of, request_of}
 use Rattle.bag_program.specs.Visits.{visit_of}
-use Rattle.bag_cli.specs.Makings.{AreMakingsOf, element_of}
+use Rattle.bag_cli.specs.Makings.{AreMakingsOf}
 use Rattle.bag_cli.specs.declared.profile_file.SummedProfile.{SummedProfile}
 
 -- of these faults, which are above the cursor, those that a request shows where nothing is refused
@@ -58,7 +58,7 @@ HonestDisksAreReported =
 abbrev pub ReportsMade : Plan → TreeState → List ℕ → OutState → OutState → List Event → Type 0
 ReportsMade plan tree name before after visits =
     (new : TreeState) × (visits ≡ visit_of name new)
-    × IsReportedMade name plan.algs (map element_of plan.info) plan.quiet tree new before after 0
+    × IsReportedMade name plan.algs plan.info plan.quiet tree new before after 0
 
 -- the law: over an honest disk, the making of one directory with status 0 left it a bag, and
 -- reported that

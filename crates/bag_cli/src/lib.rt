@@ -34,7 +34,6 @@ mod whole_program;
 mod words_refusal;
 mod work;
 
-pub use all_makings::elements;
 pub use bag_arguments::{Action, Plan, Usage, plan_of};
 pub use bag_program::{Disks, Folders, NoWords, ReadFault, Visits, Words};
 pub use bag_tree::WriterOut;

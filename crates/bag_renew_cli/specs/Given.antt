@@ -7,7 +7,8 @@ use Rattle.bag_text.specs.Alg.{alg_named}
 use Rattle.bag_text.specs.declared.alg.Alg.{Alg}
 use Rattle.bag_arguments.specs.Given.{directories}
 use Rattle.bag_words.specs.Rows.{is_given, value, values}
-use Rattle.bag_renew_cli.specs.Listed.{NewElement, algs_listed, element, is_element}
+use Rattle.bag_tags.specs.Element.{NewElement}
+use Rattle.bag_renew_cli.specs.Listed.{algs_listed, element, is_element}
 
 -- the algorithms that an option lists; none where it isn't given
 abbrev pub algs_of : Option Text → Option (List Alg)

@@ -7,10 +7,7 @@ use Rattle.clap.specs.Words.{Text}
 use Rattle.bag_text.specs.Alg.{alg_named, algs, name}
 use Rattle.bag_text.specs.Text.{trim}
 use Rattle.bag_text.specs.declared.alg.Alg.{Alg}
-
--- a label and its value
-abbrev pub NewElement : Type 0
-NewElement = Text × Text
+use Rattle.bag_tags.specs.Element.{NewElement}
 
 abbrev pub is_comma : ℕ → Bool
 is_comma c = c == byte ","

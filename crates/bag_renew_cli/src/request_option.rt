@@ -1,8 +1,6 @@
 //! The options of which a refusal speaks.
-ghost use Rattle.std.specs.Prelude.{◌≡◌, Some};
+ghost use Rattle.std.specs.Prelude.{◌≡◌};
 ghost use Rattle.bag_renew_cli.specs.Options as spec;
-
-use std::fmt;
 
 /// An option that takes a list of algorithms.
 #[derive(Clone, Copy, Debug, PartialEq, Eq)]
@@ -23,14 +21,6 @@ impl ListOption {
     }
 }
 
-impl fmt::Display for ListOption {
-    ghost output = { λ option. Some (spec.written (spec.list_name option)) };
-
-    fn fmt<W: fmt::Write>(&self, f: &mut fmt::Formatter<W>) -> fmt::Result {
-        write!(f, "--{}", self.name())
-    }
-}
-
 /// An option that takes an element of `bag-info.txt`.
 #[derive(Clone, Copy, Debug, PartialEq, Eq)]
 pub enum ElementOption {
@@ -47,13 +37,5 @@ impl ElementOption {
             ElementOption::Set => "set",
             ElementOption::Append => "append",
         }
-    }
-}
-
-impl fmt::Display for ElementOption {
-    ghost output = { λ option. Some (spec.written (spec.element_name option)) };
-
-    fn fmt<W: fmt::Write>(&self, f: &mut fmt::Formatter<W>) -> fmt::Result {
-        write!(f, "--{}", self.name())
     }
 }

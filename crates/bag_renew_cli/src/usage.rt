@@ -3,36 +3,27 @@ ghost use Rattle.std.specs.Prelude.{◌≡◌};
 ghost use Rattle.bag_renew_cli.specs.Plan.{usage_status};
 ghost use Rattle.bag_renew_cli.specs.declared.usage.RenewUsage.TheVariants.{Memory};
 
-use crate::{ElementOption, ListOption, said};
+use crate::{ElementOption, ListOption};
 use bag_text::Text;
-use bag_text::said::OUT_OF_MEMORY;
 use std::alloc::{AllocError, AllocFailed};
-use thiserror::Error;
 
 /// Why the words of a renewal's command line are refused.
-#[derive(Debug, Drop, Error)]
+#[derive(Debug, Drop)]
 pub enum RenewUsage {
     /// The program takes no such words. The text, of clap, says what is wrong with them and ends
     /// its lines itself.
-    #[error("{0}")]
     Refused(Text),
     /// A manifest is to be printed, and something is asked for besides.
-    #[error("{program}{why}", program = said::PROGRAM, why = said::PRINT_WITH_OTHERS)]
     PrintWithOthers,
     /// A manifest is to be printed, of several bags.
-    #[error("{program}{why}", program = said::PROGRAM, why = said::PRINT_SEVERAL)]
     PrintSeveral,
     /// What is to be printed is the manifest of no algorithm.
-    #[error("{program}{why}", program = said::PROGRAM, why = said::NOT_AN_ALGORITHM)]
     NotAnAlgorithm,
     /// The value of an option has no equals sign.
-    #[error("{program}{0}{why}", program = said::PROGRAM, why = said::NOT_AN_ELEMENT)]
     NotAnElement(ElementOption),
     /// The value of an option isn't a list of algorithms, with commas between them.
-    #[error("{program}{0}{why}", program = said::PROGRAM, why = said::NOT_ALGORITHMS)]
     NotAlgorithms(ListOption),
     /// A growth was refused.
-    #[error("{program}{why}", program = said::PROGRAM, why = OUT_OF_MEMORY)]
     Memory,
 }
 

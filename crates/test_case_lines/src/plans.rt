@@ -46,10 +46,10 @@ fn put_making(plan: &Plan, out: &mut Bytes) {
             out.put(alg.name());
         }
     }
-    for item in plan.info.as_slice() {
+    for (label, value) in plan.info.as_slice() {
         out.put("|");
-        out.show(&item.label, "=");
-        out.put(item.value.as_str());
+        out.show(label, "=");
+        out.put(value.as_str());
     }
 }
 

@@ -3,9 +3,8 @@ ghost use Rattle.std.specs.Prelude.{None};
 ghost use Rattle.bag_store.specs.Tree.{Keeps};
 ghost use Rattle.test_cases.specs.Checked.{IsChecked};
 
-use bag_cli::{Action, Plan, elements, make_and_report, request_for};
+use bag_cli::{Action, Plan, make_and_report, request_for};
 use bag_store::{FailTree, MemoryTree, Tree, WriteTree, WriterOut};
-use bag_text::Text;
 use bag_walk::{Part, Request, run, run_part, status};
 use std::alloc::{AllocError, Global};
 use test_case_lines::{Answer, Bytes, Mistake, Report, Sight};
@@ -49,14 +48,9 @@ fn checked_part<T: Tree + Drop>(
 }
 
 /// The tree after a making, what was reported of the making, and the exit status.
-fn made<T: WriteTree + Drop>(
-    alloc: Global,
-    tree: T,
-    plan: &Plan,
-    name: &str,
-    info: &[(Text, Text)],
-) -> (T, Vec<u8>, u8) {
+fn made<T: WriteTree + Drop>(alloc: Global, tree: T, plan: &Plan, name: &str) -> (T, Vec<u8>, u8) {
     let mut out = WriterOut::new(Vec::<u8>::new(alloc));
+    let info = plan.info.as_slice();
     let (tree, told) = make_and_report(alloc, tree, name, plan.algs, info, plan.quiet, &mut out);
     (tree, out.into_inner(), told.unwrap_or(3))
 }
@@ -70,10 +64,7 @@ fn done<T: WriteTree + Drop>(
     tree: T,
 ) -> Result<(T, Vec<u8>, u8), AllocError> {
     match plan.action {
-        Action::Make => {
-            let info = elements(alloc, plan.info.as_slice())?;
-            Ok(made(alloc, tree, plan, name, &info))
-        }
+        Action::Make => Ok(made(alloc, tree, plan, name)),
         _ => {
             let request = request_for(alloc, plan, name)?;
             Ok(match plan.part {

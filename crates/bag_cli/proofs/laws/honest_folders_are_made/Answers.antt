@@ -1,16 +1,16 @@
-use Rattle.bag_cli.proofs.Common.{◌≡◌, inl, inr, ◌++◌, ℕ, List, IsTrue, map, ap, ◌∙◌, append-nil, arith, OutState}
+use Rattle.bag_cli.proofs.Common.{◌≡◌, inl, inr, ◌++◌, ℕ, List, IsTrue, ap, ◌∙◌, append-nil, arith, OutState}
 use Rattle.bag_cli.proofs.Common.{DiskState, Event, tree_state, HonestFoldersAreReported, Plan, IsMakingBy, IsWholeDeed}
-use Rattle.bag_cli.proofs.Common.{element_of, ReportsMade}
+use Rattle.bag_cli.proofs.Common.{ReportsMade}
 use Rattle.bag_cli.proofs.laws.honest_folders_are_made.Goals as goal
 
 -- a whole making with status 0
 whole : HonestFoldersAreReported
     → (plan : Plan) (below : List ℕ → DiskState) (name : List ℕ) (before after : OutState) (visits : List Event) (n : ℕ)
     → IsTrue (below name).honest → n ≡ 0
-    → IsWholeDeed (IsMakingBy plan (map element_of plan.info)) (tree_state (below name) 0) name before after visits n
+    → IsWholeDeed (IsMakingBy plan) (tree_state (below name) 0) name before after visits n
     → ReportsMade plan (tree_state (below name) 0) name before after visits
 whole law plan below name before after visits n honest zero_is making =
-    elim (law name plan.algs (map element_of plan.info) plan.quiet (tree_state (below name) 0) making.new before after 0
+    elim (law name plan.algs plan.info plan.quiet (tree_state (below name) 0) making.new before after 0
     honest (rw zero_is at making.done)) [
       | inl is ↦ (making.new, making.visit, is)
       | inr not ↦ absurd (omega (arith, not.status))
