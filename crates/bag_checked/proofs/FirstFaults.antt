@@ -1,5 +1,5 @@
 -- The first fault of a bag, stage by stage.
-use Rattle.bag_checked.proofs.Common.{◌+◌, ◌<◌, ◌∷◌, ◌≡◌, ◌≢◌, ◌⊎◌, inl, inr, ℕ, List, None, Contains, arith, refl}
+use Rattle.bag_checked.proofs.Common.{◌+◌, ◌<◌, ◌∷◌, ◌≡◌, ◌⊎◌, inl, inr, ℕ, List, None, Contains, arith, refl}
 use Rattle.bag_checked.proofs.Common.{subst, sym, contains_cases, contains_first, Bag}
 use Rattle.std.proofs.lemmas.Bool.{cases_order}
 use Rattle.std.specs.Cmp.{nat_cmp_is}
@@ -52,10 +52,10 @@ module _ (facts : Facts) where
   one_more k none at bag of f is before = grind arith
 
   pub first_in_stage : (k : ℕ) (faults rest : List Fault) (fault : Fault)
-      → ((bag : Bag) → IsFactsOf bag facts → k ≢ 7 → IsStageOf (check_of_facts bag None facts) k faults)
-      → faults ≡ fault ∷ rest → k ≢ 7 → IsFoundAt facts k (Faulty fault)
-  first_in_stage k faults rest fault list same other = λ bag of.
-      first_listed (λ f. IsFaultBy facts bag f × (stage f.code ≡ k)) faults rest fault (list bag of other) same
+      → ((bag : Bag) → IsFactsOf bag facts → IsStageOf (check_of_facts bag None facts) k faults)
+      → faults ≡ fault ∷ rest → IsFoundAt facts k (Faulty fault)
+  first_in_stage k faults rest fault list same = λ bag of.
+      first_listed (λ f. IsFaultBy facts bag f × (stage f.code ≡ k)) faults rest fault (list bag of) same
 
   -- where stages before have none, it is the first of all
   module _ (k : ℕ) (none : HasNoneBefore facts k) (bag : Bag) (of : IsFactsOf bag facts) (fault : Fault)

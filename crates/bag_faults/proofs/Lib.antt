@@ -1,5 +1,6 @@
 pub mod Algs
 pub mod Ascending
+pub mod BeforeDigests
 pub mod Bytes
 pub mod Codes
 pub mod Common

@@ -23,4 +23,4 @@ pub use field::put_line;
 pub use from_line::CursorFault;
 pub use options::{Depth, Options};
 pub use part::Part;
-pub use stage::Stage;
+pub use stage::{BEFORE_DIGESTS, Stage};

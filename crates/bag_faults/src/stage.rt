@@ -24,6 +24,16 @@ pub enum Stage {
     Conformance = 8,
 }
 
+/// The stages before that of digests.
+pub const BEFORE_DIGESTS: [Stage; 6] = [
+    Stage::Declaration,
+    Stage::Parts,
+    Stage::Metadata,
+    Stage::Fetch,
+    Stage::Manifests,
+    Stage::Completeness,
+];
+
 impl Stage {
     /// The first digit of the codes of its faults.
     pub fn number(self) -> u8

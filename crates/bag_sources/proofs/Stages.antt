@@ -5,10 +5,7 @@ use Rattle.bag_sources.proofs.Common.{contains_either, contains_nothing, joined,
 use Rattle.bag_sources.proofs.Common.{Fault, Check, above, is_above, IsReported, IsStageOf, filtered_list, IsStageAbove}
 use Rattle.bag_sources.proofs.Common.{NoFaultBefore, AllBelow, AreAheadBefore, IsAhead, cases_lt, Bool, true≢false, refl}
 use Rattle.bag_sources.proofs.Common.{ap, filter, if◌then◌else◌, is_payload_path, text_cmp, Payload, Tag, Bag, Names}
-use Rattle.bag_sources.proofs.Common.{names_by_kind, IsListedToOpen, IsToOpen, IsTrue, get_or, suc, zero}
-use Rattle.bag_faults.specs.Stage.{stage_number}
-use Rattle.bag_faults.specs.declared.stage.Stage.TheVariants as of
-use Rattle.bag_sources.specs.declared.steps.TheConstants.{BEFORE_DIGESTS}
+use Rattle.bag_sources.proofs.Common.{names_by_kind, IsListedToOpen, IsToOpen, IsTrue}
 use Rattle.bag_sources.proofs.Chosen.{less_by_stage}
 
 -- no stage has the number 0, or one above 8
@@ -51,16 +48,6 @@ module _ (check : Check) (after : Option Fault) where
       (before_or_at k)
       (joined fault_cmp (IsAheadBefore k) (IsAt k) faults more before at (λ x y less now.
       less_by_stage x y (omega (arith, less.1, now.0.1))))
-
--- the stages before that of digests, one after the other
-pub number_at : (i : ℕ) → i < 6 → stage_number (get_or BEFORE_DIGESTS i of.Declaration) ≡ i + 1
-number_at zero within = refl
-number_at (suc zero) within = refl
-number_at (suc (suc zero)) within = refl
-number_at (suc (suc (suc zero))) within = refl
-number_at (suc (suc (suc (suc zero)))) within = refl
-number_at (suc (suc (suc (suc (suc zero))))) within = refl
-number_at (suc (suc (suc (suc (suc (suc i)))))) within = absurd (omega arith)
 
 -- what the three sources hold of some faults
 pub record Hold (IsOne : Fault → Type 0) (early sums late : List Fault) : Type 0 where

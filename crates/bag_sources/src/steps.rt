@@ -23,7 +23,7 @@ use crate::above_cursor::above;
 use crate::part::{Bounds, Listed, only_part};
 use crate::{Fixed, InOrder, Source, Then, Validity};
 use bag_facts::Facts;
-use bag_faults::{Fault, Options, Part, Stage};
+use bag_faults::{BEFORE_DIGESTS, Fault, Options, Part, Stage};
 use bag_profile::Profile;
 use bag_report::faults_of_stage;
 use bag_tree::{Stop, Tree};
@@ -259,16 +259,6 @@ fn late_within(
     }
     Ok(Vec::new(alloc))
 }
-
-/// The stages before that of digests.
-const BEFORE_DIGESTS: [Stage; 6] = [
-    Stage::Declaration,
-    Stage::Parts,
-    Stage::Metadata,
-    Stage::Fetch,
-    Stage::Manifests,
-    Stage::Completeness,
-];
 
 /// The faults above a cursor of the stages before that of digests, in their order.
 fn early_above(

@@ -1,6 +1,7 @@
 use Rattle.bag_sources.proofs.Common.{◌≡◌, ◌+◌, subst, arith, option_copied, AreAheadBefore, IsStageAbove}
 use Rattle.bag_report.specs.Report.{check_with}
-use Rattle.bag_sources.proofs.Stages.{none_before, number_at, one_stage_more}
+use Rattle.bag_faults.proofs.BeforeDigests.{number_at}
+use Rattle.bag_sources.proofs.Stages.{none_before, one_stage_more}
 use Rattle.bag_sources.proofs.steps.early_above.Goals as goal
 
 pub loop-stage-init : goal.loop-stage-init
