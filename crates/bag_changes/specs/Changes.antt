@@ -36,7 +36,7 @@ module _ (bag : Bag) (renewal : Renewal) where
   abbrev pub clearing : List FileChange
   clearing = if has_file bag begun_file then Remove begun_file ∷ [] else []
 
-  -- the metadata, where it isn't kept
+  -- the metadata, where it is written
   abbrev pub written_info : List File
   written_info = if writes_info bag renewal then info_files bag renewal else []
 

@@ -11,6 +11,10 @@ use Rattle.bag_renewed.specs.Renewed as renewed
 use Rattle.bag_renewed.specs.declared.renewal.Renewal.{Renewal}
 use Rattle.bag_renewed.specs.declared.target.Target.{Target}
 
+-- a call at each algorithm answers whether it passes
+abbrev pub Tells : (Alg → Bool → Type 0) → (Alg → Bool) → Type 0
+Tells answers passes = (alg : Alg) (answer : Bool) → answers alg answer → answer ≡ passes alg
+
 -- a set has a member
 abbrev pub has_some : List Alg → Bool
 has_some [] = false

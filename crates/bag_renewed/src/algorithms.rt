@@ -1,13 +1,14 @@
 //! Sets of algorithms, and those of the manifests that a bag has.
-ghost use Rattle.std.specs.Prelude.{◌≡◌, ◌&&◌, ◌||◌, not};
+ghost use Rattle.std.specs.Prelude.{◌≡◌, Bool};
 ghost use Rattle.bag_text.specs.AlgList.{has_member};
+ghost use Rattle.bag_text.specs.declared.alg.Alg.{Alg as AlgValue};
 ghost use Rattle.bag_read.specs.ManifestName.{tag_path};
 ghost use Rattle.bag_read.specs.declared.tag_name.TagName.TheVariants.{Manifest};
 ghost use Rattle.bag_facts.specs.FactsOfBag.{IfBagRead};
 ghost use Rattle.bag_tree.specs.Bag.{has_file};
 ghost use Rattle.bag_renewed.specs.Renewed.{algs_where};
 ghost use Rattle.bag_renewed.specs.Target as spec;
-ghost use Rattle.bag_renewed.specs.Target.{in_either, in_first};
+ghost use Rattle.bag_renewed.specs.Target.{Tells, in_either, in_first};
 
 use bag_facts::Facts;
 use bag_read::Kind;
@@ -18,35 +19,32 @@ pub fn algs_there(facts: &Facts, kind: Kind) -> AlgSet
     ensures { IfBagRead facts.now (λ bag.
         result ≡ algs_where (λ alg. has_file bag (tag_path (Manifest kind alg)))) }
 {
-    let mut algs = AlgSet::empty();
-    for alg in Alg::ALL {
-        if has_manifest(facts, kind, alg) {
-            algs = algs.with(alg);
-        }
-    }
-    algs
+    passing(|alg| has_manifest(facts, kind, alg))
 }
 
 /// The members of two sets.
 pub(crate) fn members_of_either(some: AlgSet, more: AlgSet) -> AlgSet
     ensures { result ≡ in_either some more }
 {
-    let mut algs = AlgSet::empty();
-    for alg in Alg::ALL {
-        if is_of_either(some, more, alg) {
-            algs = algs.with(alg);
-        }
-    }
-    algs
+    passing(|alg| has(some, alg) || has(more, alg))
 }
 
 /// The members of the first of two sets that the other hasn't.
 pub(crate) fn members_of_first(set: AlgSet, other: AlgSet) -> AlgSet
     ensures { result ≡ in_first set other }
 {
+    passing(|alg| has(set, alg) && !has(other, alg))
+}
+
+/// The algorithms that pass a test.
+fn passing<F: Fn(Alg) -> bool>(test: F) -> AlgSet
+    requires { F.IsAlwaysCallable test }
+    ensures { (passes : AlgValue → Bool) → Tells (F.post test) passes
+        → result ≡ algs_where passes }
+{
     let mut algs = AlgSet::empty();
     for alg in Alg::ALL {
-        if is_other(set, other, alg) {
+        if test(alg) {
             algs = algs.with(alg);
         }
     }
@@ -59,20 +57,6 @@ fn has_manifest(facts: &Facts, kind: Kind, alg: Alg) -> bool
         result ≡ has_file bag (tag_path (Manifest kind alg))) }
 {
     facts.manifest(kind, alg).is_some()
-}
-
-/// Whether an algorithm is a member of one of two sets.
-fn is_of_either(some: AlgSet, more: AlgSet, alg: Alg) -> bool
-    ensures { result ≡ (has_member some alg || has_member more alg) }
-{
-    has(some, alg) || has(more, alg)
-}
-
-/// Whether a member of a set isn't one of the others.
-fn is_other(algs: AlgSet, others: AlgSet, alg: Alg) -> bool
-    ensures { result ≡ (has_member algs alg && not (has_member others alg)) }
-{
-    has(algs, alg) && !has(others, alg)
 }
 
 /// Whether an algorithm is a member of a set.

@@ -1,26 +1,6 @@
-use Rattle.bag_renewed.proofs.AlgsMade.{all_passing, is_next, no_more, none_yet, one_more}
-use Rattle.bag_renewed.proofs.Common.{◌||◌, has_member, ◌≡◌, ◌∙◌, sym, algs, get_or, Alg, Bool}
-use Rattle.bag_text.specs.declared.alg.Alg.TheVariants.{Md5}
+use Rattle.bag_renewed.proofs.Common.{◌||◌, has_member}
+use Rattle.std.proofs.Common.{rules}
 use Rattle.bag_renewed.proofs.algorithms.members_of_either.Goals as goal
-use Rattle.bag_renewed.proofs.algorithms.members_of_either.Goals.{then-is_of_either, else-is_of_either}
-
-pub loop-alg-init : goal.loop-alg-init
-loop-alg-init c = c.empty-algs.ensures ∙ none_yet (λ alg. has_member c.args.some alg || has_member c.args.more alg)
-
-pub loop-alg-preserved : goal.loop-alg-preserved
-loop-alg-preserved c =
-    let p : Alg → Bool = λ alg. has_member c.args.some alg || has_member c.args.more alg in
-    let i = c.loop-alg.alg-index in
-    let alg = get_or algs i Md5 in
-    let is : c.is_of_either.result ≡ p alg = c.is_of_either.ensures in
-    elim c.if-is_of_either.branch [
-      | then-is_of_either w ↦ one_more p i alg c.loop-alg-test.true (is_next i c.loop-alg-test.true) c.loop-alg.algs
-          (c.loop-alg.invariant) _ (sym is ∙ w.if-is_of_either.true) (w.algs-is ∙ w.with-algs.ensures.value)
-      | else-is_of_either w ↦ w.algs-is ∙ no_more p i alg c.loop-alg-test.true (is_next i c.loop-alg-test.true)
-          c.loop-alg.algs (c.loop-alg.invariant) (sym is ∙ w.if-is_of_either.false)
-    ]
 
 pub returns : goal.returns
-returns c =
-    all_passing (λ alg. has_member c.args.some alg || has_member c.args.more alg) c.loop-alg.alg-index c.loop-alg.algs c.loop-alg-test.false
-    (c.loop-alg.invariant)
+returns c = c.passing.ensures (λ alg. has_member c.args.some alg || has_member c.args.more alg) (λ alg b told. search rules)

@@ -1,8 +1,0 @@
-use Rattle.bag_renewed.proofs.Common.{◌≡◌, ◌||◌, take, algs_where, has_member}
-use Rattle.bag_renewed.proofs.AlgsMade.{passing}
-use Rattle.bag_renewed.proofs.algorithms.members_of_either.Given as goal
-
-abbrev pub invariant-loop-alg : goal.invariant-loop-alg
-invariant-loop-alg l =
-    l.algs
-    ≡ algs_where (passing (λ alg. has_member l.fn.some alg || has_member l.fn.more alg) (take l.alg-index l.alg-items))
