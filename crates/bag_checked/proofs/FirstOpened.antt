@@ -1,8 +1,8 @@
 -- The first of the listed files that are to be read were opened, and no other.
 use Rattle.bag_checked.proofs.Common.{◌≡◌, ◌≢◌, ◌<◌, ◌+◌, ◌++◌, ◌∷◌, ◌∙◌, ◌⊎◌, inl, inr, ℕ, Bool, List, [], length}
-use Rattle.bag_checked.proofs.Common.{take, get_or, Alg, All, All-cons, All-contains, All-nil, IsTrue, ap, append-nil}
+use Rattle.bag_checked.proofs.Common.{take, get_or, Alg, All-contains, IsTrue, ap, append-nil}
 use Rattle.bag_checked.proofs.Common.{append_assoc, arith, contains_cases, contains_either, contains_first}
-use Rattle.bag_checked.proofs.Common.{contains_mapped, contains_nothing, file, map-append, mapped_contains, refl, subst}
+use Rattle.bag_checked.proofs.Common.{contains_mapped, contains_nothing, file, map-append, mapped_contains, subst}
 use Rattle.bag_checked.proofs.Common.{sym, text_cmp, true, Contains, File, Some}
 use Rattle.std.proofs.Math.Seq.{take-append_seam, take-length}
 use Rattle.std.proofs.lemmas.List.{take-append-drop}
@@ -17,7 +17,7 @@ use Rattle.bag_read.specs.declared.kind.Kind.{Kind}
 use Rattle.bag_faults.proofs.Ascending.{not_both}
 use Rattle.bag_facts.proofs.Mapped.{passed}
 use Rattle.bag_faults.proofs.Ordered.{fault_cmp_total}
-use Rattle.bag_facts.proofs.Reading.{later_refusal}
+use Rattle.bag_facts.proofs.StoppingAmong.{stop_later}
 use Rattle.bag_facts.specs.Wanted.{paths_of}
 use Rattle.bag_facts.specs.FactsOfBag.{IsFactsOf}
 use Rattle.bag_faults.specs.FaultOrder.{fault_cmp}
@@ -30,16 +30,15 @@ use Rattle.bag_stages.specs.ValidityStage.{IsOfValidity}
 use Rattle.bag_stages.specs.Given.{kind_of}
 use Rattle.bag_stages.specs.SumFaults.{differing_code, faults_of_bytes}
 use Rattle.bag_stages.specs.Expected.{Expected}
-use Rattle.bag_tree.proofs.Calm.{memory_then}
-use Rattle.bag_tree.specs.FileReads.{IsEntryOf, OpensAtMost}
-use Rattle.bag_tree.specs.Tree.{IsRefusedAt, NothingFailed, TreeState}
+use Rattle.bag_tree.specs.FileReads.{OpensAtMost}
+use Rattle.bag_tree.specs.Tree.{NothingFailed, TreeState}
 use Rattle.bag_tree.specs.declared.listing.FileEntry.{FileEntry}
 use Rattle.bag_checked.proofs.Stopping.{stops_for_memory}
 use Rattle.bag_checked.proofs.Summing.{ChecksFirst, faulty_file, faulty_for_memory, next, only_path, opened_more}
 use Rattle.bag_checked.specs.Checked.{IsUnchecked}
 use Rattle.bag_checked.specs.InTurn.{IsOfSeventh, OpensFirstToRead}
 use Rattle.bag_checked.specs.OneReading.{AreLeftUnchecked, IsLeftUnchecked}
-use Rattle.bag_checked.specs.Stops.{IsRefusedAmong, StopsChecking}
+use Rattle.bag_checked.specs.Stops.{StopsChecking}
 use Rattle.bag_checked.specs.FirstFaults.{IsFirst}
 use Rattle.bag_checked.specs.Summed.{IsDifferenceIn, IsFaultyFile, IsGivenFor, IsNoMemory, IsRight, is_to_read, to_read}
 use Rattle.bag_tree.specs.Listing.{entry_of_file}
@@ -54,10 +53,15 @@ module _ (with_payload : Bool) (files : List FileEntry) (old new : TreeState) wh
   abbrev behind : ℕ → List (List ℕ)
   behind i = paths_of (to_read with_payload (drop i files))
 
+  parted : (i : ℕ) → to_read with_payload files
+      ≡ to_read with_payload (take i files) ++ to_read with_payload (drop i files)
+  parted i =
+      ap (to_read with_payload) (sym (take-append-drop i files))
+      ∙ filter-append (λ (e : FileEntry). is_to_read with_payload e.path) (take i files) (drop i files)
+
   joined : (i : ℕ) → paths_of (to_read with_payload files) ≡ front i ++ behind i
   joined i =
-      ap (λ xs. paths_of (to_read with_payload xs)) (sym (take-append-drop i files))
-      ∙ ap paths_of (filter-append (λ (e : FileEntry). is_to_read with_payload e.path) (take i files) (drop i files))
+      ap paths_of (parted i)
       ∙ map-append (λ (e : FileEntry). e.path) (to_read with_payload (take i files))
       (to_read with_payload (drop i files))
 
@@ -78,12 +82,6 @@ module _ (with_payload : Bool) (files : List FileEntry) (old new : TreeState) wh
 
   pub opens_none : new.openings ≡ old.openings → OpensFirstToRead with_payload files old new
   opens_none same = (0, same ∙ sym (append-nil old.openings))
-
--- the one place in a list of one
-alone : (x y : List ℕ) (before after : List (List ℕ)) → x ∷ [] ≡ before ++ y ∷ after → (before ≡ []) × (x ≡ y)
-alone x y [] after e = (refl, cc)
-alone x y (z ∷ []) after e = cc
-alone x y (z ∷ w ∷ before) after e = cc
 
 -- a list of one ascends, and what stands behind an item of a list that ascends is greater
 one_ascends : (path : List ℕ) → IsStrictlySortedBy text_cmp (path ∷ [])
@@ -115,46 +113,31 @@ module _ (facts : Facts) (files : List FileEntry) (i : ℕ) (entry : FileEntry) 
   abbrev after_it : List (List ℕ)
   after_it = paths_of (to_read with_payload (drop (i + 1) files))
 
+  its_entry : to_read with_payload files
+      ≡ to_read with_payload (take i files) ++ entry ∷ to_read with_payload (drop (i + 1) files)
+  its_entry =
+      parted with_payload files old new (i + 1)
+      ∙ ap (λ xs. xs ++ to_read with_payload (drop (i + 1) files))
+      (next facts files i entry with_payload algs old mid new summed info lt is before read)
+      ∙ append_assoc (to_read with_payload (take i files)) (entry ∷ []) (to_read with_payload (drop (i + 1) files))
+
   its_place : paths_of (to_read with_payload files) ≡ before_it ++ entry.path ∷ after_it
   its_place =
-      joined with_payload files old new (i + 1)
-      ∙ ap (λ xs. xs ++ after_it)
-      (ap paths_of (next facts files i entry with_payload algs old mid new summed info lt is before read)
-      ∙ map-append (λ (e : FileEntry). e.path) (to_read with_payload (take i files)) (entry ∷ []))
-      ∙ append_assoc before_it (entry.path ∷ []) after_it
-
-  at_it : (path : List ℕ) → IsRefusedAmong (entry.path ∷ []) path mid new
-      → IsRefusedAmong (paths_of (to_read with_payload files)) path old new
-  at_it path (first, after, same, refused) = let only = alone entry.path path first after same in (
-    before_it,
-    after_it,
-    its_place ∙ ap (λ p. before_it ++ p ∷ after_it) only.1,
-    subst (λ all. IsRefusedAt all path new)
-        (ap (λ xs. mid.openings ++ xs) only.0 ∙ append-nil mid.openings ∙ before.opened) refused,
-  )
+      ap paths_of its_entry
+      ∙ map-append (λ (e : FileEntry). e.path) (to_read with_payload (take i files))
+      (entry ∷ to_read with_payload (drop (i + 1) files))
 
   its_own : Contains (to_read with_payload files) entry
   its_own = passed (λ (e : FileEntry). is_to_read with_payload e.path) files entry read (i, lt, sym is)
-
-  its_entry : (IsTrue old.honest → All (IsEntryOf old.bag) (to_read with_payload files))
-      → IsTrue mid.honest → All (IsEntryOf mid.bag) (entry ∷ [])
-  its_entry are honest =
-      All-cons (IsEntryOf mid.bag) entry []
-      (subst (λ bag. IsEntryOf bag entry) (sym before.keeps.bag)
-      (All-contains (IsEntryOf old.bag) (to_read with_payload files) entry (are (sym before.keeps.honest ∙ honest))
-      its_own))
-      (All-nil (IsEntryOf mid.bag))
 
   -- a stop at it is one of the whole
   stops_at : (e : Unchecked) → StopsChecking (entry ∷ []) mid new e
       → StopsChecking (to_read with_payload files) old new e
   stops_at (Faulty fault) h = tt
-  stops_at (Stopped stop) h = record {
-    cause = λ are. later_refusal old mid new stop.cause before.keeps (h.cause (its_entry are));
-    answered = h.answered;
-    path = elim h.path [ inl memory ↦ inl memory | inr at ↦ inr (at_it stop.path at) ];
-    out_of_memory = λ m. memory_then old mid new before.no_failure (h.out_of_memory m);
-  }
+  stops_at (Stopped stop) h =
+      stop_later (to_read with_payload files) (to_read with_payload (take i files))
+      (to_read with_payload (drop (i + 1) files)) entry old mid new its_entry before.keeps before.no_failure
+      before.opened stop h
 
   -- the first digest that differs in it is the first of all
   module _ (fault : Fault) (one : IsFaultyFile facts (entry ∷ []) mid (Faulty fault)) (honest : IsTrue old.honest)

@@ -1,6 +1,6 @@
 -- Why a bag is not read and checked to its end.
 use Rattle.bag_checked.proofs.Common.{◌≡◌, ◌≢◌, ◌∙◌, ◌⊎◌, ◌++◌, ◌∷◌, inl, inr, ℕ, List, [], Bool, true, IsTrue, refl}
-use Rattle.bag_checked.proofs.Common.{sym, ap, subst, append_assoc, contains_back, contains_first, mapped_contains}
+use Rattle.bag_checked.proofs.Common.{sym, subst, mapped_contains}
 use Rattle.bag_checked.proofs.Common.{Contains, All, All-contains, and_parts, is_path, in_base, Bag, IsBag, HasFile}
 use Rattle.std.proofs.lemmas.List.Elements.{All-from_recursion}
 use Rattle.bag_text.proofs.ListOf.{each_from_members}
@@ -8,21 +8,22 @@ use Rattle.bag_facts.proofs.ListedFiles.{own_size}
 use Rattle.bag_facts.proofs.Mapped.{contains_mapped, kept}
 use Rattle.bag_facts.proofs.Reading.{later_refusal}
 use Rattle.bag_facts.proofs.Refusing.{has_entry, path_some, wanted_some}
+use Rattle.bag_facts.proofs.StoppingAmong.{is_among, refused_back, refused_front}
 use Rattle.bag_facts.specs.FactsOfBag.{IsFactsOf}
 use Rattle.bag_tree.specs.Stop.{IsOutOfMemory}
 use Rattle.bag_facts.specs.Stops.{IsOfListing}
+use Rattle.bag_facts.specs.StopsAmong.{IsRefusedAmong, StopsAmong}
 use Rattle.bag_facts.specs.TagReader.{MayStopReading, OpensAll}
 use Rattle.bag_facts.specs.Wanted.{ForListing, IsRefusedFile, IsWanted, OpensUpTo, paths_of}
 use Rattle.bag_facts.specs.declared.facts.Facts.{Facts}
 use Rattle.bag_tree.proofs.Calm.{memory_then, nothing_then}
 use Rattle.bag_tree.specs.FileReads.{IsEntryOf}
-use Rattle.bag_tree.specs.Tree.{IsRefusedAt, Keeps, NothingFailed, TreeState}
+use Rattle.bag_tree.specs.Tree.{Keeps, NothingFailed, TreeState}
 use Rattle.bag_tree.specs.declared.listing.FileEntry.{FileEntry}
 use Rattle.bag_tree.specs.declared.tree_fault.Stop.{Stop}
 use Rattle.bag_checked.proofs.CheckedBag.{files_refuse, has_checked, stages_refuse}
 use Rattle.bag_checked.specs.FirstFaults.{IsFoundFirst}
-use Rattle.bag_checked.specs.Stops.{AreOpened, IsOfFile, IsRefusedAmong, MayStop, MayStopUnchecked, StopsAtFile}
-use Rattle.bag_checked.specs.Stops.{StopsChecking}
+use Rattle.bag_checked.specs.Stops.{AreOpened, IsOfFile, MayStop, MayStopUnchecked, StopsChecking}
 use Rattle.bag_checked.specs.Summed.{IsNoMemory, is_to_read, to_read}
 use Rattle.bag_report.specs.Valid.{full}
 use Rattle.bag_checked.specs.declared.checked.Unchecked.{Unchecked}
@@ -46,7 +47,7 @@ module _ (with_payload : Bag → Bool) (old new : TreeState) (stop : Stop) where
           (
             (before ++ stop.path ∷ after) ++ read,
             (before ++ stop.path ∷ after, are, refl),
-            (before, after ++ read, append_assoc before (stop.path ∷ after) read, refused),
+            refused_front old new stop.path (before ++ stop.path ∷ after) read (before, after, refl, refused),
           ),
         );
       }
@@ -122,38 +123,31 @@ module _ (facts : Facts) (old mid new : TreeState) (seen : (bag : Bag) × IsBag 
         (each_from_members (IsEntryOf mid.bag) files_read (λ entry c.
         subst (λ bag. IsEntryOf bag entry) (sym keeps.bag) (is_entry (was_honest honest) entry (among entry c))))
 
-    listed_path : (path : List ℕ) → IsRefusedAmong (paths_of files_read) path mid new
+    listed_path : (path : List ℕ) → IsRefusedAmong (paths_of files_read) mid new path
         → Contains (paths_of facts.listing.files) path
-    listed_path path (before, after, same, refused) =
+    listed_path path at =
         let m =
         contains_mapped (λ (e : FileEntry). e.path) files_read path
-        (subst (λ (xs : List (List ℕ)). Contains xs path) (sym same)
-        (contains_back before (path ∷ after) path (contains_first path after))) in
+        (is_among mid new path (paths_of files_read) at) in
         subst (Contains (paths_of facts.listing.files)) m.2
         (mapped_contains (λ (e : FileEntry). e.path) facts.listing.files m.0 (among m.0 m.1))
 
-    in_turn : (path : List ℕ) → IsRefusedAmong (paths_of files_read) path mid new
+    in_turn : (path : List ℕ) → IsRefusedAmong (paths_of files_read) mid new path
         → ForListing old (λ files. (paths : List (List ℕ)) × AreOpened b files paths
-        × IsRefusedAmong paths path old new)
-    in_turn path (before, after, same, refused) = (
+        × IsRefusedAmong paths old new path)
+    in_turn path at = (
       facts.listing,
       seen.2.ordered,
       (λ honest. (of honest).listing),
       (
         tags.0 ++ paths_of files_read,
         (tags.0, tags.1, refl),
-        (
-          tags.0 ++ before,
-          after,
-          ap (λ xs. tags.0 ++ xs) same ∙ sym (append_assoc tags.0 before (path ∷ after)),
-          subst (λ all. IsRefusedAt all path new)
-              (ap (λ xs. xs ++ before) tags.2 ∙ append_assoc old.openings tags.0 before) refused,
-        ),
+        refused_back old new path mid tags.0 (paths_of files_read) tags.2 at,
       ),
     )
 
-    at_file : (stop : Stop) → StopsAtFile files_read mid new stop
-        → IsOutOfMemory stop ⊎ IsRefusedAmong (paths_of files_read) stop.path mid new
+    at_file : (stop : Stop) → StopsAmong files_read mid new stop
+        → IsOutOfMemory stop ⊎ IsRefusedAmong (paths_of files_read) mid new stop.path
         → MayStop with_payload old new stop
     at_file stop h (inl memory) =
         record {
@@ -177,7 +171,7 @@ module _ (facts : Facts) (old mid new : TreeState) (seen : (bag : Bag) × IsBag 
     }
 
     -- a file was refused
-    pub stop_at_file : (stop : Stop) → StopsAtFile files_read mid new stop → MayStop with_payload old new stop
+    pub stop_at_file : (stop : Stop) → StopsAmong files_read mid new stop → MayStop with_payload old new stop
     stop_at_file stop h = at_file stop h h.path
 
   pub stop_of_check : OpensAll full facts.listing.files old mid → (e : Unchecked)

@@ -1,40 +1,24 @@
 -- Why reading a bag, and checking and summing its files, stops.
-use Rattle.std.specs.Prelude.{◌≡◌, ◌⊎◌, ◌++◌, ◌∷◌, true, All, Bool, IsTrue, List}
+use Rattle.std.specs.Prelude.{◌≡◌, ◌⊎◌, ◌++◌, true, Bool, IsTrue, List}
 use Rattle.bag_text.specs.Bytes.{Path}
 use Rattle.bag_text.specs.Path.{is_path}
 use Rattle.bag_tree.specs.Bag.{Bag, HasFile}
-use Rattle.bag_tree.specs.Tree.{CameFromFile, IsRefusedAt, MayReportMemory, TreeState}
-use Rattle.bag_tree.specs.FileReads.{IsEntryOf}
+use Rattle.bag_tree.specs.Tree.{MayReportMemory, TreeState}
 use Rattle.bag_tree.specs.declared.listing.FileEntry.{FileEntry}
 use Rattle.bag_tree.specs.declared.tree_fault.Stop.{Stop}
 use Rattle.bag_tree.specs.declared.tree_fault.TreeFault.TheVariants.{Memory}
 use Rattle.bag_tree.specs.Stop.{IsOutOfMemory}
 use Rattle.bag_facts.specs.Stops.{IsOfListing, MayRefuseFacts, ReportsAnswer}
+use Rattle.bag_facts.specs.StopsAmong.{IsRefusedAmong, StopsAmong}
 use Rattle.bag_facts.specs.Wanted.{AreWanted, ForListing, paths_of}
 use Rattle.bag_report.specs.Valid.{full}
 use Rattle.bag_checked.specs.Summed.{to_read}
 use Rattle.bag_checked.specs.declared.checked.Unchecked.{Unchecked}
 use Rattle.bag_checked.specs.declared.checked.Unchecked.TheVariants.{Faulty, Stopped}
 
--- Of these files, which are opened one after another, this one was refused: those before it had been
--- opened, and no other.
-abbrev pub IsRefusedAmong : List Path → Path → TreeState → TreeState → Type 0
-IsRefusedAmong paths path old new =
-    (before : List Path) × (after : List Path) × (paths ≡ before ++ path ∷ after)
-    × IsRefusedAt (old.openings ++ before) path new
-
--- Reading stopped at one of these files, or when out of memory. The cause is the tree's own answer,
--- and out of memory is reported only where the tree reported it or refused nothing.
-pub record StopsAtFile (files : List FileEntry) (old new : TreeState) (stop : Stop) : Type 0 where
-  pub cause : (IsTrue old.honest → All (IsEntryOf old.bag) files)
-      → MayRefuseFacts old new stop.cause
-  pub answered : CameFromFile new stop.cause
-  pub path : IsOutOfMemory stop ⊎ IsRefusedAmong (paths_of files) stop.path old new
-  pub out_of_memory : stop.cause ≡ Memory → MayReportMemory old new
-
 -- so it is where a file wasn't checked to its end
 abbrev pub StopsChecking : List FileEntry → TreeState → TreeState → Unchecked → Type 0
-StopsChecking files old new (Stopped stop) = StopsAtFile files old new stop
+StopsChecking files old new (Stopped stop) = StopsAmong files old new stop
 StopsChecking files old new (Faulty fault) = Unit {0}
 
 -- what is opened of listed files, in this order: the tag files that are wanted, and then those that
@@ -53,7 +37,7 @@ pub record IsOfFile (with_payload : Bag → Bool) (old new : TreeState) (stop : 
   pub reads : Bool
   pub reads_is : IsTrue old.honest → reads ≡ with_payload old.bag
   pub in_turn : ForListing old (λ files. (paths : List Path) × AreOpened reads files paths
-      × IsRefusedAmong paths stop.path old new)
+      × IsRefusedAmong paths old new stop.path)
 
 -- A stop names the cause, which is the tree's own answer but for out of memory, and the file that
 -- was refused. It names none when out of memory, and where it was the listing that was refused. Out

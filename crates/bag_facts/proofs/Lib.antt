@@ -17,6 +17,7 @@ pub mod RulesRead
 pub mod Seen
 pub mod SeenBag
 pub mod SeenFolders
+pub mod StoppingAmong
 pub mod TagsRead
 pub mod TextTold
 pub mod WantedPaths

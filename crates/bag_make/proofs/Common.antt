@@ -34,6 +34,7 @@ pub use Rattle.bag_facts.proofs.Refusing.{came_from, path_some, refused_file, to
 pub use Rattle.bag_facts.specs.Facts.{rules_in}
 pub use Rattle.bag_tree.specs.Stop.{IsOutOfMemory, IsRefusalOf}
 pub use Rattle.bag_facts.specs.Stops.{MayRefuseFacts}
+pub use Rattle.bag_facts.specs.StopsAmong.{IsRefusedAmong, StopsAmong}
 pub use Rattle.bag_facts.specs.Wanted.{OpensFirstOf, paths_of}
 pub use Rattle.bag_faults.specs.declared.fault.Fault.{Fault}
 pub use Rattle.bag_read.proofs.PickedOut.{any_from, from_any}
@@ -112,8 +113,8 @@ pub use Rattle.bag_make.specs.Request.{is_refused}
 pub use Rattle.bag_make.specs.Steps.{AllAsk, CanTake, CanTakeAll, HasLeft, HasTaken, RefusedAsks}
 pub use Rattle.bag_make.specs.StepsTaken.{HasDone, IsStep}
 pub use Rattle.bag_make.specs.Steps.{StepAsks, after_steps, change, new_folder}
-pub use Rattle.bag_make.specs.Stops.{IsAtFile, MayStopMaking}
-pub use Rattle.bag_make.specs.Summing.{StopsSumming, AreSummedFiles, IsSummedEntry}
+pub use Rattle.bag_make.specs.Stops.{MayStopMaking}
+pub use Rattle.bag_make.specs.Summing.{AreSummedFiles, IsSummedEntry}
 pub use Rattle.bag_make.specs.Texts.{info_of, size_of}
 pub use Rattle.bag_make.specs.declared.fault.MakeFault.{MakeFault}
 pub use Rattle.bag_make.specs.declared.step.Step.{Step}

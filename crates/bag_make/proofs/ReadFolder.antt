@@ -1,15 +1,16 @@
 -- Reading the files of a folder.
 use Rattle.bag_make.proofs.Common.{arith, ◌≡◌, inl, inr, ℕ, ◌++◌, List, [], true, false, IsTrue, length, map, take}
-use Rattle.bag_make.proofs.Common.{slice_get, All, Some, sym, ap, ◌∙◌, subst, option_map, All-contains}
+use Rattle.bag_make.proofs.Common.{append-nil, All, Some, sym, ap, ◌∙◌, subst, option_map, All-contains}
 use Rattle.bag_make.proofs.Common.{All-from_recursion, is_path, Alg, each_from_members}
 use Rattle.bag_make.proofs.Common.{Bag, file, files_of, IsListingOf, IsOrdered, NothingFailed, TreeState, IsEntryOf}
 use Rattle.bag_make.proofs.Common.{Keeps, MayRefuseListing, refusal_of, Unlisted, FileEntry, Listing, Stop, TreeFault}
 use Rattle.bag_make.proofs.Common.{listings_are_of_the_bag, paths_of, contains_mapped, later_refusal, listing_refusal}
-use Rattle.bag_make.proofs.Common.{path_some, File, new_payload, is_in_the_way, IsAtFile, MayStopMaking, StopsSumming}
+use Rattle.bag_make.proofs.Common.{path_some, File, new_payload, is_in_the_way, IsRefusedAmong, MayStopMaking, StopsAmong}
 use Rattle.bag_make.proofs.Common.{AreSummed, AreSummedFiles, OpensFirstOf, entry_of_file, MakeFault, SummedFile}
 use Rattle.std.proofs.lemmas.Simd.{map-map}
 use Rattle.bag_facts.proofs.ListedFiles.{own_size}
 use Rattle.bag_facts.proofs.Mapped.{at_place}
+use Rattle.bag_facts.proofs.StoppingAmong.{is_among, refused_back}
 use Rattle.bag_facts.proofs.Found.{held_at, same_files}
 use Rattle.bag_make.specs.Reading.{HasOnlyListed, HasRefusedNothing, OpensFolder}
 use Rattle.bag_make.specs.Reads.{IsRefusalOfStop, MayRefuseReading}
@@ -77,23 +78,25 @@ module _ (listing : Listing) (ordered : IsOrdered listing.files) where
         ap (λ bag. option_map length (file bag entry.path)) keeps.bag
         ∙ sym ((of (sym keeps.honest ∙ honest)).files entry.path) ∙ own_size listing.files entry ordered.ascending c))
 
-    at_file : (new : TreeState) (path : List ℕ) → IsAtFile (paths_of listing.files) mid new path → IsTrue old.honest
-        → IsAtFile (map (λ (e : File). e.0) (files_of old.bag)) old new path
-    at_file new path (k, at, refused) honest = grind (arith, slice_get, paths_are, from_old)
+    at_file : (new : TreeState) (path : List ℕ) → IsRefusedAmong (paths_of listing.files) mid new path → IsTrue old.honest
+        → IsRefusedAmong (map (λ (e : File). e.0) (files_of old.bag)) old new path
+    at_file new path at honest =
+        subst (λ paths. IsRefusedAmong paths old new path) (paths_are old.bag (of honest))
+        (refused_back old new path mid [] (paths_of listing.files) (none ∙ sym (append-nil old.openings)) at)
 
-    listed_path : (new : TreeState) (path : List ℕ) → IsAtFile (paths_of listing.files) mid new path
+    listed_path : (new : TreeState) (path : List ℕ) → IsRefusedAmong (paths_of listing.files) mid new path
         → is_path path ≡ true
     listed_path new path at =
         let entry =
         contains_mapped (λ (e : FileEntry). e.path) listing.files path
-        (at_place (paths_of listing.files) at.0 path at.1) in
+        (is_among mid new path (paths_of listing.files) at) in
         subst (λ p. is_path p ≡ true) entry.2
         (All-contains (λ (e : FileEntry). IsTrue (is_path e.path)) listing.files entry.0 ordered.paths entry.1)
 
     -- where a file is refused, nothing is planned
     pub files_refused : (new : TreeState) → HasOnlyListed old mid → (stop : Stop) (fault : MakeFault)
         → (IsTrue old.honest → is_in_the_way old.bag ≡ false)
-        → StopsSumming listing.files mid new stop → IsRefusalOfStop stop fault
+        → StopsAmong listing.files mid new stop → IsRefusalOfStop stop fault
         → MayRefuseReading old new fault
     files_refused new listed stop (fault_of.ReadStopped other) free h (same, not) =
         subst (MayStopMaking old new) (sym same) (record {

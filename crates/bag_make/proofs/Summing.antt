@@ -1,42 +1,14 @@
 -- Summing files one after another.
-use Rattle.bag_make.proofs.Common.{◌≡◌, ◌≢◌, ◌<◌, ◌≤◌, ◌+◌, ◌++◌, ◌∷◌, inl, inr, ℕ, List, [], length, take, get_or}
-use Rattle.bag_make.proofs.Common.{Some, All, Contains, sym, ap, ◌∙◌, subst, arith, append_assoc, append-nil, slice_get}
-use Rattle.bag_make.proofs.Common.{map-append, take_all, take-map, All-nil, All-cons, All-append, All-contains}
-use Rattle.bag_make.proofs.Common.{slice_get_read, slice_get-map, slice_get_within, under, Alg, contains_first, file}
-use Rattle.bag_make.proofs.Common.{NothingFailed, TreeState, CameFromFile, IsEntryOf, Keeps, OpensAtMost, Refused}
-use Rattle.bag_make.proofs.Common.{FileEntry, Stop, TreeFault, IsOutOfMemory, IsRefusalOf, MayRefuseFacts, paths_of}
-use Rattle.bag_make.proofs.Common.{take_one_more, keeps_itself, keeps_on, later_refusal, came_from, refused_file}
-use Rattle.bag_make.proofs.Common.{told_memory, File, data_folder, new_payload, StopsSumming, AreSummed}
-use Rattle.bag_make.proofs.Common.{IsSummedEntry, AreSummedFiles, OpensFirstOf, entry_of_file, SummedFile}
+use Rattle.bag_make.proofs.Common.{◌≡◌, ◌<◌, ◌≤◌, ◌+◌, ◌++◌, ◌∷◌, inl, inr, ℕ, List, [], length, take, get_or}
+use Rattle.bag_make.proofs.Common.{Some, sym, ap, ◌∙◌, subst, arith, append_assoc, append-nil, drop}
+use Rattle.bag_make.proofs.Common.{map-append, take_all, take-map, All-nil, All-cons, All-append, under, Alg, file}
+use Rattle.bag_make.proofs.Common.{NothingFailed, TreeState, Keeps, OpensAtMost, FileEntry, Stop, paths_of}
+use Rattle.bag_make.proofs.Common.{take_one_more, keeps_itself, keeps_on, File, data_folder, new_payload, AreSummed}
+use Rattle.bag_make.proofs.Common.{IsSummedEntry, AreSummedFiles, OpensFirstOf, entry_of_file, StopsAmong, SummedFile}
+use Rattle.std.proofs.lemmas.List.{take-append-drop}
 use Rattle.bag_tags.proofs.SummedTexts.{summed_more}
-use Rattle.bag_tree.specs.Whole.{MayRefuseWhole}
-use Rattle.bag_tree.specs.Tree.{IsRefusedAt}
-use Rattle.bag_tree.specs.declared.tree_fault.TreeFault.TheVariants.{Changed}
-use Rattle.bag_tree.proofs.Calm.{memory_then, nothing_asked, nothing_then}
-
-one_is : (P : FileEntry → Type 0) (entry : FileEntry) → All P (entry ∷ []) → P entry
-one_is P entry all = All-contains P (entry ∷ []) entry all (contains_first entry [])
-
--- and so does the refusal of a file
-pub stop_of_refusal : (entry : FileEntry) (old new : TreeState) (cause : TreeFault) (stop : Stop)
-    → MayRefuseWhole old new entry cause → (cause ≢ Changed → new.last ≡ Refused cause)
-    → IsRefusedAt old.openings entry.path new → IsRefusalOf cause entry.path stop
-    → StopsSumming (entry ∷ []) old new stop
-stop_of_refusal entry old new cause stop refused answered opened (inl (not, same, at)) = record {
-  cause =
-      λ are. subst (MayRefuseFacts old new) (sym same)
-      (refused_file old new entry cause (λ honest. one_is (IsEntryOf old.bag) entry (are honest)) refused);
-  answered = subst (CameFromFile new) (sym same) (came_from old new entry cause refused);
-  path =
-      inr (
-        0,
-        ap Some (sym at),
-        subst (λ all. IsRefusedAt all stop.path new) (sym (append-nil old.openings))
-            (subst (λ path. IsRefusedAt old.openings path new) (sym at) opened),
-      );
-  out_of_memory = λ m. absurd (not (sym same ∙ m));
-}
-stop_of_refusal entry old new cause stop refused answered opened (inr (is, m)) = grind (arith, told_memory)
+use Rattle.bag_tree.proofs.Calm.{nothing_asked, nothing_then}
+use Rattle.bag_facts.proofs.StoppingAmong.{stop_later}
 
 abbrev moved : File → File
 moved e = (under data_folder e.0, e.1)
@@ -57,9 +29,6 @@ module _ (files : List FileEntry) (i : ℕ) (entry : FileEntry) (algs : List Alg
     (lt : i < length files) (is : entry ≡ get_or files i entry) (before : SumsFirst files i algs old mid summed) where
   next : take (i + 1) files ≡ take i files ++ entry ∷ []
   next = take_one_more files i entry lt is
-
-  listed : Contains files entry
-  listed = (i, lt, sym is)
 
   added : (one : SummedFile) → IsSummedEntry mid entry algs one
       → AreSummedFiles old (take (i + 1) files) algs (summed ++ one ∷ [])
@@ -97,20 +66,15 @@ module _ (files : List FileEntry) (i : ℕ) (entry : FileEntry) (algs : List Alg
   opens_first (inl none) = grind (arith, first_paths)
   opens_first (inr once) = grind (arith, opened_more, first_paths)
 
-  pub stops_at : (stop : Stop) → StopsSumming (entry ∷ []) mid new stop → StopsSumming files old new stop
-  stops_at stop h =
-      grind (
-        arith,
-        later_refusal,
-        memory_then,
-        listed,
-        slice_get_within,
-        slice_get,
-        append-nil,
-        first_paths,
-        slice_get-map,
-        slice_get_read,
-      )
+  all_files : files ≡ take i files ++ entry ∷ drop (i + 1) files
+  all_files =
+      sym (take-append-drop (i + 1) files) ∙ ap (λ xs. xs ++ drop (i + 1) files) next
+      ∙ append_assoc (take i files) (entry ∷ []) (drop (i + 1) files)
+
+  pub stops_at : (stop : Stop) → StopsAmong (entry ∷ []) mid new stop → StopsAmong files old new stop
+  stops_at =
+      stop_later files (take i files) (drop (i + 1) files) entry old mid new all_files before.keeps before.no_failure
+      before.opened
 
 -- all were gone through
 module _ (files : List FileEntry) (count : ℕ) (algs : List Alg) (old new : TreeState) (summed : List SummedFile)

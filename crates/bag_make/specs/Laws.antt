@@ -12,7 +12,7 @@ use Rattle.bag_make.specs.Plan.{is_in_the_way, steps}
 use Rattle.std.specs.List.Sorted.{IsStrictlySortedBy}
 use Rattle.bag_text.specs.Alg.{rank_cmp}
 use Rattle.bag_report.specs.Valid.{HasNoFault}
-use Rattle.bag_make.specs.Stops.{IsAtFile}
+use Rattle.bag_facts.specs.StopsAmong.{IsRefusedAmong}
 
 -- what a bag is made of: files that can be counted, a set of algorithms that isn't empty, and
 -- elements that can be written
@@ -32,8 +32,8 @@ MadeIsValid =
 -- the law: a refusal can be reported of one file alone
 abbrev pub RefusesOneFile : Type 0
 RefusesOneFile =
-    (paths : List Path) (old new : TreeState) (one other : Path) → IsAtFile paths old new one
-    → IsAtFile paths old new other → one ≡ other
+    (paths : List Path) (old new : TreeState) (one other : Path) → IsRefusedAmong paths old new one
+    → IsRefusedAmong paths old new other → one ≡ other
 
 -- the law: all steps make the bag
 abbrev pub StepsMake : Type 0

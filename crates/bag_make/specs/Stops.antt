@@ -1,19 +1,13 @@
 -- Why the files of a folder can't be read.
-use Rattle.std.specs.Prelude.{ℕ, ◌≡◌, ◌≢◌, ◌⊎◌, ◌++◌, true, false, IsTrue, List, Some, map, take}
-use Rattle.std.specs.Prelude.{slice_get}
-use Rattle.bag_text.specs.Bytes.{Path}
+use Rattle.std.specs.Prelude.{◌≡◌, ◌≢◌, ◌⊎◌, true, false, IsTrue, map}
 use Rattle.bag_text.specs.Path.{is_path}
 use Rattle.bag_tree.specs.Bag.{files_of}
-use Rattle.bag_tree.specs.Tree.{TreeState, IsRefusedAt}
+use Rattle.bag_tree.specs.Tree.{TreeState}
 use Rattle.bag_tree.specs.declared.tree_fault.Stop.{Stop}
 use Rattle.bag_tree.specs.declared.tree_fault.TreeFault.TheVariants.{Memory}
 use Rattle.bag_facts.specs.Stops.{IsOfListing, MayRefuseFacts, ReportsAnswer}
+use Rattle.bag_facts.specs.StopsAmong.{IsRefusedAmong}
 use Rattle.bag_make.specs.Plan.{is_in_the_way}
-
--- this file was refused when those before it had been opened, in this order
-abbrev pub IsAtFile : List Path → TreeState → TreeState → Path → Type 0
-IsAtFile paths old new path =
-    (k : ℕ) × (slice_get paths k ≡ Some path) × IsRefusedAt (old.openings ++ take k paths) path new
 
 -- A file was refused. Of an honest tree it is the one of its bag at which reading had come, and
 -- nothing is in the way.
@@ -21,7 +15,7 @@ abbrev pub IsOfFolder : TreeState → TreeState → Stop → Type 0
 IsOfFolder old new stop =
     (is_path stop.path ≡ true)
     × (IsTrue old.honest
-    → IsAtFile (map (λ e. e.0) (files_of old.bag)) old new stop.path
+    → IsRefusedAmong (map (λ e. e.0) (files_of old.bag)) old new stop.path
     × (is_in_the_way old.bag ≡ false))
 
 -- A stop names the cause, which is the tree's own answer, and the file that was refused; none where

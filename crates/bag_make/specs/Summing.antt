@@ -1,21 +1,14 @@
 -- What summing files promises.
-use Rattle.std.specs.Prelude.{◌≡◌, ◌⊎◌, IsTrue, List, Some, All, map, length}
+use Rattle.std.specs.Prelude.{◌≡◌, IsTrue, List, Some, All, map, length}
 use Rattle.bag_text.specs.Bytes.{Content}
 use Rattle.bag_text.specs.Path.{under}
 use Rattle.bag_tree.specs.Bag.{file}
-use Rattle.bag_tree.specs.Tree.{MayReportMemory, TreeState, CameFromFile}
-use Rattle.bag_tree.specs.FileReads.{IsEntryOf}
+use Rattle.bag_tree.specs.Tree.{TreeState}
 use Rattle.bag_tree.specs.declared.listing.FileEntry.{FileEntry}
-use Rattle.bag_tree.specs.declared.tree_fault.Stop.{Stop}
-use Rattle.bag_tree.specs.declared.tree_fault.TreeFault.TheVariants.{Memory}
-use Rattle.bag_tree.specs.Stop.{IsOutOfMemory}
-use Rattle.bag_facts.specs.Stops.{MayRefuseFacts}
-use Rattle.bag_facts.specs.Wanted.{paths_of}
 use Rattle.bag_text.specs.declared.alg.Alg.{Alg}
 use Rattle.bag_tree.specs.DigestsOf.{AreSumsOf}
 use Rattle.bag_make.specs.Made.{data_folder, new_payload}
 use Rattle.bag_tags.specs.declared.summed.SummedFile.{SummedFile}
-use Rattle.bag_make.specs.Stops.{IsAtFile}
 use Rattle.bag_tree.specs.Listing.{entry_of_file}
 use Rattle.bag_tags.specs.Summed.{AreSummed, File}
 
@@ -37,11 +30,3 @@ pub record IsSummedEntry (state : TreeState) (entry : FileEntry) (algs : List Al
   pub path : one.path ≡ under data_folder entry.path
   pub sums : AreSumsOf algs content one.sums
   pub honest : IsTrue state.honest → file state.bag entry.path ≡ Some content
-
--- Summing listed files stopped at one of them, or when out of memory.
-pub record StopsSumming (files : List FileEntry) (old new : TreeState) (stop : Stop) : Type 0 where
-  pub cause : (IsTrue old.honest → All (IsEntryOf old.bag) files)
-      → MayRefuseFacts old new stop.cause
-  pub answered : CameFromFile new stop.cause
-  pub path : IsOutOfMemory stop ⊎ IsAtFile (paths_of files) old new stop.path
-  pub out_of_memory : stop.cause ≡ Memory → MayReportMemory old new

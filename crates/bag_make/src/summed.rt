@@ -3,9 +3,10 @@ ghost use Rattle.std.specs.Prelude.{◌≡◌, ◌<◌, ◌++◌, ◌∷◌, [],
 ghost use Rattle.bag_text.specs.Path.{under};
 ghost use Rattle.bag_tree.specs.Tree.{Keeps, NothingFailed};
 ghost use Rattle.bag_tree.specs.FileReads.{OpensAtMost};
+ghost use Rattle.bag_facts.specs.StopsAmong.{StopsAmong};
 ghost use Rattle.bag_facts.specs.Wanted.{OpensFirstOf, paths_of};
 ghost use Rattle.bag_make.specs.Made.{data_folder};
-ghost use Rattle.bag_make.specs.Summing.{StopsSumming, AreSummedFiles, IsSummedEntry};
+ghost use Rattle.bag_make.specs.Summing.{AreSummedFiles, IsSummedEntry};
 ghost use Rattle.bag_tags.specs.declared.summed.SummedFile.{SummedFile as Digested};
 
 use bag_tags::SummedFile;
@@ -34,7 +35,7 @@ pub(crate) fn sum_files<T: Tree>(
         ((T.state tree.new).openings ≡ (T.state tree.old).openings ++ paths_of files.now) }
     ensures summed { IfOk result (λ summed.
         AreSummedFiles (T.state tree.old) files.now algs summed.items) }
-    ensures stop { IfErr result (StopsSumming files.now (T.state tree.old) (T.state tree.new)) }
+    ensures stop { IfErr result (StopsAmong files.now (T.state tree.old) (T.state tree.new)) }
 {
     let Ok(mut buffer) = Vec::from_elem(alloc, 0, BUFFER_BYTES) else {
         return Err(Stop::out_of_memory(alloc));
@@ -58,7 +59,7 @@ fn sum_each<T: Tree>(
         ((T.state tree.new).openings ≡ (T.state tree.old).openings ++ paths_of files.now) }
     ensures summed { IfOk result (λ summed.
         AreSummedFiles (T.state tree.old) files.now algs summed.items) }
-    ensures stop { IfErr result (StopsSumming files.now (T.state tree.old) (T.state tree.new)) }
+    ensures stop { IfErr result (StopsAmong files.now (T.state tree.old) (T.state tree.new)) }
 {
     let mut summed = Vec::new(alloc);
     for entry in files {
@@ -87,7 +88,7 @@ fn append_summed<T: Tree>(
         ((one : Digested) × (summed.new.items ≡ summed.old.items ++ one ∷ [])
         × IsSummedEntry (T.state tree.old) entry.now algs one) }
     ensures stop { IfErr result
-        (StopsSumming (entry.now ∷ []) (T.state tree.old) (T.state tree.new)) }
+        (StopsAmong (entry.now ∷ []) (T.state tree.old) (T.state tree.new)) }
 {
     // Copied before the file is read, so that its refusal isn't reported as out of memory.
     let Ok(path) = entry.path.copy(alloc) else {

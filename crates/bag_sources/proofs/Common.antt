@@ -85,7 +85,8 @@ pub use Rattle.bag_sources.specs.Files.{AreToSum, IsNamedAhead, IsToSum, HasItsF
 pub use Rattle.bag_sources.specs.Filled.{awaits_second, is_both}
 pub use Rattle.bag_sources.specs.Merge.{fronts, least_of, union}
 pub use Rattle.bag_sources.specs.Openings.{IsBeforeFile, NoFaultBefore, IsToOpen, is_passed}
-pub use Rattle.bag_sources.specs.SourceOpenings.{IsReached, NoFaultBeforeStop, Opens, OpensAgain}
+pub use Rattle.bag_facts.specs.StopsAmong.{IsRefusedAmong}
+pub use Rattle.bag_sources.specs.SourceOpenings.{NoFaultBeforeStop, Opens, OpensAgain}
 pub use Rattle.bag_sources.specs.SourceOpenings.{OpensNoFileEarly, StillWait}
 pub use Rattle.bag_sources.specs.Shown.{front_is, none_is}
 pub use Rattle.bag_sources.specs.Source.{Sees, rest_of}

@@ -3,7 +3,7 @@ use Rattle.bag_sources.proofs.Common.{arith, Bool, true, false, Option, None, So
 use Rattle.bag_sources.proofs.Common.{ℕ, List, [], Contains, refl, ap, sym, ◌∙◌, subst, append_assoc, Result, OnOk, OnErr}
 use Rattle.bag_sources.proofs.Common.{append_cancel_left, contains_behind, contains_front, contains_back, contains_either}
 use Rattle.bag_sources.proofs.Common.{Bag, NothingFailed, TreeState, Keeps, Stop, Fault, IsOutOfMemory, memory_then}
-use Rattle.bag_sources.proofs.Common.{later_refusal, IsReached, NoFaultBeforeStop, Opens, OpensAgain, OpensNoFileEarly}
+use Rattle.bag_sources.proofs.Common.{later_refusal, IsRefusedAmong, NoFaultBeforeStop, Opens, OpensAgain, OpensNoFileEarly}
 use Rattle.bag_sources.proofs.Common.{NoFaultBefore, option_copied, first_of, rest_of, AllBelow, Sees, MayStopAnyway}
 use Rattle.bag_sources.proofs.Common.{MayStopFilling, Bor}
 
@@ -38,18 +38,13 @@ module _ {old mid : TreeState} {xs ys : List (List ℕ)} (p : Opens xs ys old mi
     ];
   }
 
-  pub reached_on : (new : TreeState) (path : List ℕ) → IsReached ys mid new path → IsReached xs old new path
+  pub reached_on : (new : TreeState) (path : List ℕ) → IsRefusedAmong ys mid new path → IsRefusedAmong xs old new path
   reached_on new path (passed, rest, cut, refused) = grind (arith, append_assoc)
 
   -- others are to be opened after them
   pub opens_front : (zs : List (List ℕ)) → Opens (xs ++ zs) (ys ++ zs) old mid
   opens_front zs =
       record { opened = p.opened; openings = p.openings; left = ap (λ l. l ++ zs) p.left ∙ append_assoc p.opened ys zs }
-
-pub reached_front : (old new : TreeState) (xs ys : List (List ℕ)) (path : List ℕ) → IsReached xs old new path
-    → IsReached (xs ++ ys) old new path
-reached_front old new xs ys path (passed, rest, cut, refused) =
-    (passed, rest ++ ys, ap (λ l. l ++ ys) cut ∙ append_assoc passed (path ∷ rest) ys, refused)
 
 module _ {old new : TreeState} {xs zs : List (List ℕ)} (p : OpensAgain xs zs old new) where
   -- what was opened of the files that were to be opened, and the others
@@ -92,7 +87,7 @@ module _ (fs gs : List Fault) (old new : TreeState) (xs : List (List ℕ)) (apar
   ]
 
   -- and then it stopped at one of its files
-  pub waits_first : (stop : Stop) → IsOutOfMemory stop ⊎ IsReached xs old new stop.path → NoFaultBeforeStop fs stop.path
+  pub waits_first : (stop : Stop) → IsOutOfMemory stop ⊎ IsRefusedAmong xs old new stop.path → NoFaultBeforeStop fs stop.path
       → NoFaultBeforeStop (fs ++ gs) stop.path
   waits_first stop (inl memory) waits some f path c d before = absurd (some memory.1)
   waits_first stop (inr (passed, rest, cut, refused)) waits some f path c d before = elim (contains_either fs gs f c) [

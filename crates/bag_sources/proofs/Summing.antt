@@ -7,7 +7,7 @@ use Rattle.bag_sources.proofs.Common.{contains_front, contains_nothing, member_h
 use Rattle.bag_sources.proofs.Common.{IsEntryOf, Keeps, OpensAtMost, IsRefusedAt, Stop, TreeFault, nothing_then}
 use Rattle.bag_sources.proofs.Common.{IsOutOfMemory, IsRefusalOf, Fault, not_both, not_less_than_itself, mapped_contains}
 use Rattle.bag_sources.proofs.Common.{kept, keeps_on, differing, differing_code, sum_differs, above, is_above}
-use Rattle.bag_sources.proofs.Common.{IsBeforeFile, IsReached, NoFaultBeforeStop, OpensNoFileEarly, first_of, rest_of}
+use Rattle.bag_sources.proofs.Common.{IsBeforeFile, IsRefusedAmong, NoFaultBeforeStop, OpensNoFileEarly, first_of, rest_of}
 use Rattle.bag_sources.proofs.Common.{MayStopAnyway, MayStopFilling, Sees, faults_at, faults_in, faults_of_files}
 use Rattle.bag_sources.proofs.Common.{paths_to_sum, AreFilesOf, IsOfBag, Expected, ToSum, front_is, All-before_last}
 use Rattle.bag_sources.proofs.Common.{FindsFaults, GoesThrough, OpensAgain, StopsAtFile}
@@ -174,9 +174,9 @@ module _ {all pending : List ToSum} {after : Option Fault} {one : ToSum} {old mi
 
   reached_here : (new : TreeState) (stop : Stop)
       → IsOutOfMemory stop ⊎ ((stop.path ≡ one.file.path) × IsRefusedAt mid.openings one.file.path new)
-      → IsOutOfMemory stop ⊎ IsReached (paths_to_sum all) old new stop.path
+      → IsOutOfMemory stop ⊎ IsRefusedAmong (paths_to_sum all) old new stop.path
   reached_here new stop (inl memory) = inl memory
-  reached_here new stop (inr (same, refused)) = inr (subst (IsReached (paths_to_sum all) old new) (sym same) (
+  reached_here new stop (inr (same, refused)) = inr (subst (IsRefusedAmong (paths_to_sum all) old new) (sym same) (
     paths_to_sum gone.passed,
     paths_to_sum (rest_of pending),
     ap paths_to_sum gone.cut ∙ paths_joined gone.passed pending

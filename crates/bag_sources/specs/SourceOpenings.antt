@@ -1,9 +1,11 @@
 -- Which files a source opens.
 use Rattle.std.specs.Prelude.{ℕ, ◌≡◌, ◌≢◌, ◌⊎◌, ◌++◌, ◌∷◌, List, [], Contains}
 use Rattle.bag_text.specs.Bytes.{Path}
-use Rattle.bag_tree.specs.Tree.{TreeState, IsRefusedAt}
+use Rattle.bag_tree.specs.Tree.{TreeState}
 use Rattle.bag_tree.specs.declared.tree_fault.Stop.{Stop}
 use Rattle.bag_tree.specs.Stop.{IsOutOfMemory}
+use Rattle.bag_facts.specs.StopsAmong.{IsRefusedAmong}
+pub use Rattle.bag_facts.specs.StopsAmong.{IsRefusedAmong as IsReached}
 use Rattle.bag_faults.specs.declared.fault.Fault.{Fault}
 use Rattle.bag_sources.specs.Openings.{IsBeforeFile, NoFaultBefore}
 
@@ -22,16 +24,9 @@ OpensNoFileEarly faults old new =
 abbrev pub NoFaultBeforeStop : List Fault → Path → Type 0
 NoFaultBeforeStop faults path = path ≢ [] → NoFaultBefore faults (path ∷ [])
 
--- the file was refused when those before it among the files to be opened had been opened, each once
--- and in their order, and no other
-abbrev pub IsReached : List Path → TreeState → TreeState → Path → Type 0
-IsReached todo old new path =
-    (passed : List (List ℕ)) × (rest : List (List ℕ)) × (todo ≡ passed ++ path ∷ rest)
-    × IsRefusedAt (old.openings ++ passed) path new
-
 -- it stopped when out of memory, or at one of these files when those before it had been opened
 abbrev pub StopsAtNext : List Path → TreeState → TreeState → Stop → Type 0
-StopsAtNext todo old new stop = IsOutOfMemory stop ⊎ IsReached todo old new stop.path
+StopsAtNext todo old new stop = IsOutOfMemory stop ⊎ IsRefusedAmong todo old new stop.path
 
 -- the same, but the last that was opened may be left too
 pub record OpensAgain (before after : List Path) (old new : TreeState) : Type 0 where

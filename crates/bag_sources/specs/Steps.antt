@@ -13,9 +13,8 @@ use Rattle.bag_tree.specs.declared.tree_fault.Stop.{Stop}
 use Rattle.bag_faults.specs.FaultOrder.{fault_cmp}
 use Rattle.bag_faults.specs.declared.fault.Fault.{Fault}
 use Rattle.bag_report.specs.Report.{Check, IsReported, is_above}
-use Rattle.bag_tree.specs.Stop.{IsOutOfMemory}
-use Rattle.bag_sources.specs.SourceOpenings.{IsReached, NoFaultBeforeStop, Opens, OpensAgain}
-use Rattle.bag_sources.specs.SourceOpenings.{OpensNoFileEarly, StillWait}
+use Rattle.bag_sources.specs.SourceOpenings.{NoFaultBeforeStop, Opens, OpensAgain}
+use Rattle.bag_sources.specs.SourceOpenings.{OpensNoFileEarly, StillWait, StopsAtNext}
 use Rattle.bag_sources.specs.Source.{rest_of, Sees}
 use Rattle.bag_sources.specs.Filling.{first_of, MayStopAnyway, MayStopFilling}
 use Rattle.bag_sources.specs.declared.source.Source as Source
@@ -121,8 +120,7 @@ module _ {T S : Type 0} (tree : Tree.Ghosts T) (source : Source.Ghosts S T) wher
 
   -- it stopped when out of memory, or at a file of its own when those before it had been opened
   abbrev pub IsStoppedInTurn : Steps T S → Steps T S → Stop → Type 0
-  IsStoppedInTurn old new stop =
-      IsOutOfMemory stop ⊎ IsReached (to_open source old) (state old) (state new) stop.path
+  IsStoppedInTurn old new stop = StopsAtNext (to_open source old) (state old) (state new) stop
 
   -- no fault that it has to give stands before the file at which it stopped
   abbrev pub StopsBeforeRemaining : Steps T S → Stop → Type 0

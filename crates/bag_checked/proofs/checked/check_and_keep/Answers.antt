@@ -2,7 +2,8 @@ use Rattle.bag_checked.proofs.Common.{◌∙◌, inr, subst, sym}
 use Rattle.bag_tree.specs.DigestsOf.{AreSumsOf}
 use Rattle.bag_tree.specs.Stop.{IsRefusalOf}
 use Rattle.bag_checked.proofs.Comparing.{is_checked, left_unchecked}
-use Rattle.bag_checked.proofs.Stopping.{left_for_memory, stop_of_whole}
+use Rattle.bag_facts.proofs.StoppingAmong.{stop_of_whole}
+use Rattle.bag_checked.proofs.Stopping.{left_for_memory}
 use Rattle.bag_checked.proofs.checked.check_and_keep.Goals as goal
 
 pub returns-in_default-clause-unchecked : goal.returns-in_default-clause-unchecked

@@ -1,7 +1,8 @@
 use Rattle.bag_checked.proofs.Common.{inr, subst}
 use Rattle.bag_tree.specs.Stop.{IsRefusalOf}
 use Rattle.bag_checked.proofs.Comparing.{all_checked, all_unchecked, read_anyway}
-use Rattle.bag_checked.proofs.Stopping.{left_for_memory, stop_of_refusal}
+use Rattle.bag_facts.proofs.StoppingAmong.{stop_of_refusal}
+use Rattle.bag_checked.proofs.Stopping.{left_for_memory}
 use Rattle.bag_checked.proofs.checked.check_and_sum.Goals as goal
 
 pub returns-in_default-clause-unchecked : goal.returns-in_default-clause-unchecked

@@ -1,4 +1,4 @@
-use Rattle.bag_make.proofs.Summing.{stop_of_refusal}
+use Rattle.bag_facts.proofs.StoppingAmong.{stop_of_refusal}
 use Rattle.bag_make.proofs.summed.append_summed.Goals as goal
 
 pub returns-in-Err-clause-stop : goal.returns-in-Err-clause-stop

@@ -1,4 +1,4 @@
-use Rattle.bag_make.proofs.Common.{StopsSumming}
+use Rattle.bag_make.proofs.Common.{StopsAmong}
 use Rattle.bag_faults.proofs.PassedOn.{passed_on}
 use Rattle.bag_make.proofs.Summing.{sums_none, sums_one_more, opens_first, stops_at, opens_all, opens_all_first}
 use Rattle.bag_make.proofs.Summing.{sums_all}
@@ -26,7 +26,7 @@ pub returns-in_err-append_summed-clause-stop : goal.returns-in_err-append_summed
 returns-in_err-append_summed-clause-stop g c =
     let new = g.T.Tree.state c.append_summed.new.tree in
     let stop = c.in_err-append_summed.field-0.0 in
-    passed_on c.from_residual.result stop (StopsSumming c.args.files.now (g.T.Tree.state c.args.tree.now) new)
+    passed_on c.from_residual.result stop (StopsAmong c.args.files.now (g.T.Tree.state c.args.tree.now) new)
     c.from_residual.ensures.1
     (stops_at _ _ _ _ _ _ new _ c.loop-entry-test.true c.entry-item.is c.loop-entry.invariant stop
     c.in_err-append_summed.ensures.stop)

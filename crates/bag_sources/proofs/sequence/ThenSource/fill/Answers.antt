@@ -2,7 +2,8 @@ use Rattle.bag_sources.proofs.Common.{◌≡◌, ◌++◌, ◌∙◌, [], inl, i
 use Rattle.bag_sources.proofs.Common.{Bag, keeps_on, nothing_then, Opens, Sees, none_is, err_from_is_err_and}
 use Rattle.bag_sources.proofs.Filling.{again_on, again_within, anyway_front, anyway_later, behind_first, behind_on}
 use Rattle.bag_sources.proofs.Filling.{first_front, front_same, none_shown, once, opened_by, opens_front, opens_on}
-use Rattle.bag_sources.proofs.Filling.{reached_front, reached_on, sees_later, sees_parts, some_shown, stop_front}
+use Rattle.bag_facts.proofs.StoppingAmong.{refused_front}
+use Rattle.bag_sources.proofs.Filling.{reached_on, sees_later, sees_parts, some_shown, stop_front}
 use Rattle.bag_sources.proofs.Filling.{stop_later, waits_first}
 use Rattle.bag_sources.proofs.sequence.ThenSource.fill.Goals as goal
 
@@ -60,9 +61,8 @@ returns-in_err-fill-clause-reached g c =
     elim (c.in_err-fill.ensures.reached ordered.0) [
       | inl memory ↦ inl memory
       | inr reached ↦ inr
-          (reached_front (state c.args.tree.now) (state c.fill-2.new.tree) (g.A.Source.todo self.first)
-          (g.B.Source.todo self.second)
-          c.in_err-fill.field-0.0.path reached)
+          (refused_front (state c.args.tree.now) (state c.fill-2.new.tree) c.in_err-fill.field-0.0.path
+          (g.A.Source.todo self.first) (g.B.Source.todo self.second) reached)
     ])
 
 pub returns-in_err-fill-clause-waits : goal.returns-in_err-fill-clause-waits
