@@ -1,19 +1,18 @@
 -- The names that this crate's proofs cite, passed on from one place. Declares nothing.
 pub use Rattle.std.proofs.Common.{append-nil, append_assoc, decimal, ◌≤◌}
 pub use Rattle.std.proofs.Common.{Bool, Err, List, None, Ok, Option, Result, Some, [], ap, ap₂, arith}
-pub use Rattle.std.proofs.Common.{bytes_eq, codes, drop, false, filter, fold, get_or, if◌then◌else◌, inl, inr, is_some}
+pub use Rattle.std.proofs.Common.{bytes_eq, codes, drop, false, filter, get_or, if◌then◌else◌, inl, inr, is_some}
 pub use Rattle.std.proofs.Common.{length, map, not, option_map, refl, rules, subst, sym, take, tests, true}
 pub use Rattle.std.proofs.Common.{unwrap_or, ℕ, ◌&&◌, ◌++◌, ◌+◌, ◌<◌, ◌==◌, ◌||◌, ◌∙◌, ◌∷◌, ◌≡◌, ◌≢◌, ◌⊎◌}
 pub use Rattle.std.proofs.lemmas.Iterator.{YieldsList-from_slice}
 pub use Rattle.std.proofs.lemmas.Iterator.Search.{all_from_yields_List, any_from_yields_List}
-pub use Rattle.std.proofs.lemmas.List.{length-map, take_all, take_more}
-pub use Rattle.std.proofs.lemmas.List.Sums.{fold_more}
+pub use Rattle.std.proofs.lemmas.List.{length-map, take_more}
 pub use Rattle.std.proofs.lemmas.Result.{IfErr-weaker, IfOk-weaker, err_from_is_err_and}
 pub use Rattle.std.specs.Borrow.{Bor}
 pub use Rattle.std.specs.Io.KnownBytes.{Appends}
 pub use Rattle.std.specs.List.{join_with_byte, list_all, list_any}
 pub use Rattle.std.specs.Option.{option_or}
-pub use Rattle.bag_text.specs.Alg.{algs, name}
+pub use Rattle.bag_text.specs.Alg.{name}
 pub use Rattle.bag_text.specs.Code.{number}
 pub use Rattle.bag_text.specs.CodeWord.{word}
 pub use Rattle.bag_text.specs.declared.alg.Alg.{Alg}
@@ -28,7 +27,6 @@ pub use Rattle.clap.specs.Words.{App, FailsBy, HasKind, Row, Text, app_of}
 pub use Rattle.clap.specs.Words.{fault_of, found_of, is_simple, is_simple_and_free, kind_of, matches_of, rows_of, takes}
 pub use Rattle.clap.specs.declared.error.kind.ErrorKind.TheVariants.{OutOfMemory}
 pub use Rattle.bag_words.proofs.Adding.{added}
-pub use Rattle.bag_arguments.proofs.Reading.{named_one_by_one, with_if}
 pub use Rattle.bag_words.proofs.Reading.{values_of}
 pub use Rattle.bag_words.specs.Rules.{with_rules, without_program_name}
 pub use Rattle.bag_words.specs.Rows.{rows_in}
