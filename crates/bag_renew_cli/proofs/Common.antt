@@ -1,19 +1,17 @@
 -- The names that this crate's proofs cite, passed on from one place. Declares nothing.
 pub use Rattle.std.proofs.Common.{append-nil, append_assoc}
 pub use Rattle.std.proofs.Common.{Bool, Err, List, None, Ok, Option, Result, Some, [], ap, arith}
-pub use Rattle.std.proofs.Common.{bytes_eq, codes, drop, fold, get_or, if◌then◌else◌, inl, inr, is_some}
+pub use Rattle.std.proofs.Common.{bytes_eq, codes, drop, get_or, if◌then◌else◌, inl, inr, is_some}
 pub use Rattle.std.proofs.Common.{length, map, not, refl, rules, subst, sym, take, tests, true}
 pub use Rattle.std.proofs.Common.{ℕ, ◌&&◌, ◌++◌, ◌<◌, ◌∙◌, ◌∷◌, ◌≡◌, ◌≢◌}
 pub use Rattle.std.proofs.lemmas.Iterator.{YieldsList-from_slice}
 pub use Rattle.std.proofs.lemmas.Iterator.Search.{all_from_yields_List, any_from_yields_List}
-pub use Rattle.std.proofs.lemmas.List.{take_all}
-pub use Rattle.std.proofs.lemmas.List.Sums.{fold_more}
 pub use Rattle.std.proofs.lemmas.Result.{IfOk-weaker, err_from_is_err_and}
 pub use Rattle.std.specs.Borrow.{Bor}
 pub use Rattle.std.specs.Io.KnownBytes.{Appends}
 pub use Rattle.std.specs.List.{list_all}
 pub use Rattle.std.specs.Option.{option_or}
-pub use Rattle.bag_text.specs.Alg.{algs, name}
+pub use Rattle.bag_text.specs.Alg.{name}
 pub use Rattle.bag_text.specs.declared.alg.Alg.{Alg}
 pub use Rattle.bag_faults.specs.FaultLine.{fault_line, field}
 pub use Rattle.bag_tree.specs.Out.{IsCut, OutState}
@@ -24,7 +22,6 @@ pub use Rattle.clap.specs.Simple.{app_of_fields}
 pub use Rattle.clap.specs.Words.{App, Row, Text}
 pub use Rattle.clap.specs.Words.{fault_of, found_of, matches_of, takes}
 pub use Rattle.bag_words.proofs.Adding.{added}
-pub use Rattle.bag_arguments.proofs.Reading.{named_one_by_one, with_if}
 pub use Rattle.bag_words.proofs.Reading.{values_of}
 pub use Rattle.bag_words.specs.Rules.{with_rules, without_program_name}
 pub use Rattle.bag_words.specs.Rows.{rows_in}

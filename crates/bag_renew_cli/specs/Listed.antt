@@ -1,13 +1,14 @@
 -- The algorithms that a text lists, and the element that it writes.
-use Rattle.std.specs.Prelude.{ℕ, ◌==◌, Bool, List, Option, Some, None, bytes_eq, filter, is_some}
+use Rattle.std.specs.Prelude.{ℕ, ◌==◌, Bool, List, Option, Some, None, bytes_eq, is_some}
 use Rattle.std.specs.Prelude.{if◌then◌else◌}
 use Rattle.std.specs.List.{after_first, before_first, list_all, list_any, slice_split}
 use Rattle.std.specs.Str.{byte}
 use Rattle.clap.specs.Words.{Text}
-use Rattle.bag_text.specs.Alg.{alg_named, algs, name}
+use Rattle.bag_text.specs.Alg.{alg_named, name}
 use Rattle.bag_text.specs.Text.{trim}
 use Rattle.bag_text.specs.declared.alg.Alg.{Alg}
 use Rattle.bag_tags.specs.Element.{NewElement}
+use Rattle.bag_renewed.specs.Renewed.{algs_where}
 
 abbrev pub is_comma : ℕ → Bool
 is_comma c = c == byte ","
@@ -25,8 +26,8 @@ abbrev pub has_alg : List Text → Alg → Bool
 has_alg names alg = list_any (bytes_eq (name alg)) names
 
 -- the algorithms that are named, in their order
-unfoldable pub algs_among : List Text → List Alg
-algs_among names = filter (has_alg names) algs
+abbrev pub algs_among : List Text → List Alg
+algs_among names = algs_where (has_alg names)
 
 -- the algorithms that a text lists; none where a part isn't the name of one
 abbrev pub algs_listed : Text → Option (List Alg)

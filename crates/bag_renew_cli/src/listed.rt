@@ -1,8 +1,8 @@
 //! The algorithms that a text lists, and the element that it writes.
-ghost use Rattle.std.specs.Prelude.{◌≡◌, IfOk, if◌then◌else◌, map};
-ghost use Rattle.bag_text.specs.AlgList.{with_member};
+ghost use Rattle.std.specs.Prelude.{◌≡◌, IfOk, map};
 ghost use Rattle.bag_renew_cli.specs.Listed as spec;
 
+use bag_renewed::passing;
 use bag_text::{Alg, AlgSet, Items, Text, trim};
 use std::alloc::{AllocError, Global};
 
@@ -23,27 +23,11 @@ fn has_alg(text: &str, alg: Alg) -> bool
     text.split(',').any(|part| alg.name() == part)
 }
 
-/// The set with an algorithm more where it is named.
-fn with_named(set: AlgSet, text: &str, alg: Alg) -> AlgSet
-    ensures { result ≡
-        (if spec.has_alg (spec.names_in text.now) alg then with_member set alg else set) }
-{
-    if has_alg(text, alg) {
-        set.with(alg)
-    } else {
-        set
-    }
-}
-
 /// The algorithms that are named.
 fn algs_among(text: &str) -> AlgSet
     ensures { result ≡ spec.algs_among (spec.names_in text.now) }
 {
-    let mut set = AlgSet::empty();
-    for alg in Alg::ALL {
-        set = with_named(set, text, alg);
-    }
-    set
+    passing(|alg| has_alg(text, alg))
 }
 
 /// The algorithms that a text lists, or `None` where a part isn't the name of one.

@@ -37,7 +37,7 @@ pub(crate) fn members_of_first(set: AlgSet, other: AlgSet) -> AlgSet
 }
 
 /// The algorithms that pass a test.
-fn passing<F: Fn(Alg) -> bool>(test: F) -> AlgSet
+pub fn passing<F: Fn(Alg) -> bool>(test: F) -> AlgSet
     requires { F.IsAlwaysCallable test }
     ensures { (passes : AlgValue → Bool) → Tells (F.post test) passes
         → result ≡ algs_where passes }

@@ -20,7 +20,7 @@ mod elements;
 mod renewal;
 mod target;
 
-pub use algorithms::{algs_there, has, has_some};
+pub use algorithms::{algs_there, has, has_some, passing};
 pub use elements::{is_bad_request, renewed_elements};
 pub use renewal::{ElementChanges, Renewal};
 pub use target::{Target, target_of};
