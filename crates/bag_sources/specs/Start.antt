@@ -74,24 +74,25 @@ abbrev pub state_after : {T S : Type 0} → Tree.Ghosts T → Result (Steps T S)
 state_after tree (Ok walk) = tree.state walk.tree
 state_after tree (Err refused) = tree.state refused.0
 
--- a walk over the faults of a tree's bag above a cursor, which has given nothing yet
-abbrev pub StartsAt : {T S : Type 0} → Source.Ghosts S T
-    → TreeState → Option Profile → Options → Option Fault → Steps T S → Type 0
-StartsAt source old profile options after walk =
-    IsStarted old profile options after
-    (λ bag. source.is_of bag walk.source) (λ bag. left source bag walk) (to_open source walk)
-
 -- A walk was started: nothing was refused, all the tag files that are to be read were opened, and
 -- of an honest tree it is known that only files and folders stand there. It has given nothing yet,
--- and has all faults of the report above the cursor still to give.
-pub record Starts {T S : Type 0} (tree : Tree.Ghosts T) (source : Source.Ghosts S T)
-    (old : TreeState) (profile : Option Profile) (options : Options) (after : Option Fault)
-    (walk : Steps T S) : Type 0 where
+-- and its source holds what it has still to give.
+pub record StartsWith {T S : Type 0}
+    (Holds : (Bag → Type 0) → (Bag → List Fault) → List Path → Type 0) (tree : Tree.Ghosts T)
+    (source : Source.Ghosts S T) (old : TreeState) (options : Options) (walk : Steps T S)
+    : Type 0 where
   pub no_failure : NothingFailed old (tree.state walk.tree)
   pub plain : IsTrue old.honest → IsTrue old.plain
   pub opened : OpensAllListed options old (tree.state walk.tree)
   pub shown : walk.is_shown ≡ false
-  pub started : StartsAt source old profile options after walk
+  pub started : Holds (λ bag. source.is_of bag walk.source) (λ bag. left source bag walk)
+      (to_open source walk)
+
+-- a walk was started, and has all faults of the report above the cursor still to give
+abbrev pub Starts : {T S : Type 0} → Tree.Ghosts T → Source.Ghosts S T
+    → TreeState → Option Profile → Options → Option Fault → Steps T S → Type 0
+Starts tree source old profile options after =
+    StartsWith (IsStarted old profile options after) tree source old options
 
 -- Or none was, and the tree comes back: of the tag files the first were opened, and where a file
 -- was refused those up to it; and it stopped as reading the facts may.

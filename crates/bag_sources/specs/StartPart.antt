@@ -5,7 +5,7 @@ use Rattle.bag_text.specs.Code.{stage}
 use Rattle.bag_text.specs.Order.{IsListOf}
 use Rattle.bag_text.specs.Text.{text_cmp}
 use Rattle.bag_tree.specs.Bag.{Bag, IsBag}
-use Rattle.bag_tree.specs.Tree.{NothingFailed, TreeState}
+use Rattle.bag_tree.specs.Tree.{TreeState}
 use Rattle.bag_tree.specs.declared.listing.FileEntry.{FileEntry}
 use Rattle.bag_tree.specs.declared.tree.Tree as Tree
 use Rattle.bag_tree.specs.declared.tree_fault.Stop.{Stop}
@@ -20,8 +20,8 @@ use Rattle.bag_stages.specs.SummedFiles.{IsSummed}
 use Rattle.bag_sources.specs.FactsOf.{ForBagOf, ForCheckOf}
 use Rattle.bag_sources.specs.Openings.{IsToOpen, is_passed}
 use Rattle.bag_sources.specs.Parts.{AreFilesIn, bounds_of, is_file_within, is_within}
-use Rattle.bag_sources.specs.Start.{OpensAllListed}
-use Rattle.bag_sources.specs.Steps.{left, to_open, IsAhead}
+use Rattle.bag_sources.specs.Start.{StartsWith}
+use Rattle.bag_sources.specs.Steps.{IsAhead}
 use Rattle.bag_sources.specs.declared.part.Bounds.{Bounds}
 use Rattle.bag_sources.specs.declared.part.Listed.{Listed}
 use Rattle.bag_sources.specs.declared.source.Source as Source
@@ -97,14 +97,8 @@ abbrev pub state_after_part : {T S : Type 0} → Tree.Ghosts T
 state_after_part tree (Ok begun) = tree.state begun.0.tree
 state_after_part tree (Err refused) = tree.state refused.0
 
--- A walk over a part was started: nothing was refused, all the tag files that are to be read were
--- opened, and of an honest tree it is known that only files and folders stand there.
-pub record StartsPart {T S : Type 0} (tree : Tree.Ghosts T) (source : Source.Ghosts S T)
-    (old : TreeState) (profile : Option Profile) (options : Options) (after : Option Fault)
-    (part : Part) (walk : Steps T S) : Type 0 where
-  pub no_failure : NothingFailed old (tree.state walk.tree)
-  pub plain : IsTrue old.honest → IsTrue old.plain
-  pub opened : OpensAllListed options old (tree.state walk.tree)
-  pub shown : walk.is_shown ≡ false
-  pub started : IsPartStarted old profile options after part
-      (λ bag. source.is_of bag walk.source) (λ bag. left source bag walk) (to_open source walk)
+-- a walk over a part was started, and has those of the part still to give
+abbrev pub StartsPart : {T S : Type 0} → Tree.Ghosts T → Source.Ghosts S T
+    → TreeState → Option Profile → Options → Option Fault → Part → Steps T S → Type 0
+StartsPart tree source old profile options after part =
+    StartsWith (IsPartStarted old profile options after part) tree source old options

@@ -252,32 +252,35 @@ module _ {old mid : TreeState} (new : TreeState) {profile : Option Profile} (req
           → ((bag : Bag) → IsOf bag → Sees mid todo bag → NoFaultBeforeStop (drop n (left bag)) path)
           → IsReached todo mid new path → OpensPartUpTo profile request part n path old new
       up_to_summed n path some waits (passed, behind, cut, refused) =
-          let (listing, ordered, of, (whole, are, is)) = all in record {
-            read = read.0;
-            before = passed;
-            later = behind;
-            read_in_order = read.2;
-            wanted = read.3;
-            all_read = (
-              listing,
-              ordered,
-              of,
-              subst (AreWanted request.options listing.files)
-                  (append_cancel_left old.openings whole read.0 (sym is ∙ read.1)) are,
-            );
-            in_order = subst (IsStrictlySortedBy text_cmp) cut started.files.ascending;
-            to_open = λ honest files given.
-                subst (AreToOpenWithin (check_of old.bag profile request) request.after (bounds_of files part)) cut
-                (subst (λ list. AreToOpenWithin (check_of old.bag profile request) request.after (bounds_of list part)
+          let (listing, ordered, of, (whole, are, is)) = all in (
+            todo,
+            record {
+              read = read.0;
+              before = passed;
+              later = behind;
+              read_in_order = read.2;
+              wanted = read.3;
+              all_read = (
+                listing,
+                ordered,
+                of,
+                subst (AreWanted request.options listing.files)
+                    (append_cancel_left old.openings whole read.0 (sym is ∙ read.1)) are,
+              );
+              cut = cut;
+              in_order = started.files.ascending;
+              refused = subst (λ opened. IsRefusedAt opened path new) (joins passed) refused;
+            },
+            λ honest files given.
+                subst (λ list. AreToOpenWithin (check_of old.bag profile request) request.after (bounds_of list part)
                 todo) (same_files new started k honest files given)
                 (subst (λ bag. AreToOpenWithin (check_of bag profile request) request.after
-                (bounds_of started.listing part) todo) (started.honest honest) started.files));
-            refused = subst (λ opened. IsRefusedAt opened path new) (joins passed) refused;
-            written = λ honest report is files given.
+                (bounds_of started.listing part) todo) (started.honest honest) started.files),
+            λ honest report is files given.
                 subst (λ faults. NoFaultBefore (drop n faults) (path ∷ []))
                 (left_is new started k honest report is files given)
-                (waits started.seen started.of (sees_of new started k honest) some);
-          }
+                (waits started.seen started.of (sees_of new started k honest) some),
+          )
 
       pub part_stopped : (end : SegmentEnd) (n : ℕ)
           → IfUnread end (MayStopRun (IsTrue mid.honest → IsOf mid.bag) todo mid new)

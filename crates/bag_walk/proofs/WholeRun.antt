@@ -74,20 +74,12 @@ module _ (old new : TreeState) (is_bag : IsBag old.bag) (profile : Option Profil
 
   up_to_summed : (n : ℕ) (path : List ℕ) → OpensPartUpTo profile request only_part n path old new
       → OpensUpToSummed old new profile request n path
-  up_to_summed n path up = record {
-    read = up.read;
-    before = up.before;
-    later = up.later;
-    read_in_order = up.read_in_order;
-    wanted = up.wanted;
-    all_read = up.all_read;
-    in_order = up.in_order;
-    to_open = λ honest.
-        all_to_open (check_of old.bag profile request) request.after (up.before ++ path ∷ up.later)
-        (up.to_open honest listed.0 listed.1);
-    refused = up.refused;
-    written = for_whole (λ faults. NoFaultBefore (drop n faults) (path ∷ [])) up.written;
-  }
+  up_to_summed n path (todo, opens, are, written) = (
+    todo,
+    opens,
+    λ honest. all_to_open (check_of old.bag profile request) request.after todo (are honest listed.0 listed.1),
+    for_whole (λ faults. NoFaultBefore (drop n faults) (path ∷ [])) written,
+  )
 
   pub stops_in_turn : (segment : Segment) (outcome : Outcome) → count_of outcome ≡ segment.written
       → IfRunUnread outcome (StopsAt segment) → StopsInPartInTurn profile request only_part segment old new

@@ -12,12 +12,12 @@ use Rattle.bag_text.specs.Text.{text_cmp}
 use Rattle.bag_tree.specs.Bag.{Bag, IsBag}
 use Rattle.bag_tree.specs.Listing.{IsOrdered}
 use Rattle.bag_tree.specs.Out.{IsCut, OutState}
-use Rattle.bag_tree.specs.Tree.{IsRefusedAt, Keeps, NothingFailed, TreeState}
+use Rattle.bag_tree.specs.Tree.{Keeps, NothingFailed, TreeState}
 use Rattle.bag_tree.specs.declared.listing.FileEntry.{FileEntry}
 use Rattle.bag_faults.specs.FaultLine.{field}
 use Rattle.bag_faults.specs.FaultOrder.{fault_cmp}
 use Rattle.bag_faults.specs.Part.{Part}
-use Rattle.bag_facts.specs.Wanted.{AreWanted, ForListing, IsWanted, OpensUpTo, OpensWanted}
+use Rattle.bag_facts.specs.Wanted.{ForListing, IsWanted, OpensUpTo, OpensWanted}
 use Rattle.bag_faults.specs.declared.fault.Fault.{Fault}
 use Rattle.bag_faults.specs.declared.options.Depth.TheVariants.{Full}
 use Rattle.bag_profile.specs.Profile.{Profile}
@@ -26,6 +26,7 @@ use Rattle.bag_walk.specs.Closing.{about_count, closing, unread_line}
 use Rattle.bag_walk.specs.Ending.{ReachesEnd, ended, limit_of, written}
 use Rattle.bag_sources.specs.Parts.{AreFilesIn, bounds_of, is_file_within, listed_of, part_of}
 use Rattle.bag_walk.specs.Run.{ForReportAsked, IsAsked, IsRunByReport, IsHonestOrReadOnce, check_of}
+use Rattle.bag_walk.specs.RunOpenings.{OpensAllBefore}
 use Rattle.bag_sources.specs.Openings.{IsToOpen, NoFaultBefore, is_passed}
 use Rattle.bag_walk.specs.SegmentEnds.{IfUnread, IsRead, IsSegment, still_to_come}
 use Rattle.bag_sources.specs.StartPart.{AreToOpenWithin, IsWithin}
@@ -165,21 +166,13 @@ pub record OpensInPart (profile : Option Profile) (request : Request) (part : Pa
 -- was refused when all the tag files that are wanted had been read, and then of those files of the
 -- part the ones before it had been opened, each once and in path order, and no other; and each
 -- fault of the part that stands before it had been written.
-pub record OpensPartUpTo (profile : Option Profile) (request : Request) (part : Part) (n : ℕ)
-    (path : Path) (old new : TreeState) : Type 0 where
-  pub read : List Path
-  pub before : List Path
-  pub later : List Path
-  pub read_in_order : IsStrictlySortedBy text_cmp read
-  pub wanted : All (IsWanted request.options) read
-  pub all_read : ForListing old (λ files. AreWanted request.options files read)
-  pub in_order : IsStrictlySortedBy text_cmp (before ++ path ∷ later)
-  pub to_open : IsTrue old.honest → (files : List FileEntry) → AreFilesIn old.bag files
-      → AreToOpenWithin (check_of old.bag profile request) request.after (bounds_of files part)
-      (before ++ path ∷ later)
-  pub refused : IsRefusedAt (old.openings ++ (read ++ before)) path new
-  pub written : ForPart old profile request part (λ faults.
-      NoFaultBefore (drop n faults) (path ∷ []))
+abbrev pub OpensPartUpTo : Option Profile → Request → Part → ℕ → Path → TreeState → TreeState
+    → Type 0
+OpensPartUpTo profile request part n path old new =
+    (todo : List Path) × OpensAllBefore request.options todo path old new
+    × (IsTrue old.honest → (files : List FileEntry) → AreFilesIn old.bag files
+    → AreToOpenWithin (check_of old.bag profile request) request.after (bounds_of files part) todo)
+    × ForPart old profile request part (λ faults. NoFaultBefore (drop n faults) (path ∷ []))
 
 -- A run over a part that stops at a file has opened those before it: the tag files that are read,
 -- or also those whose digests are compared.

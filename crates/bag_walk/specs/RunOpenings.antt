@@ -70,9 +70,9 @@ OpensInTurn old new profile request outcome = ForReportAsked old profile request
     × IsStrictlySortedBy text_cmp read × All (IsWanted request.options) read
     × NoFaultBefore (drop (written_before request outcome) (above request.after report)) summed)
 
--- The run stopped at a file whose digests were to be compared, when n faults had been written.
-pub record OpensUpToSummed (old new : TreeState) (profile : Option Profile) (request : Request)
-    (n : ℕ) (path : Path) : Type 0 where
+-- The tree refused one of these files, which were to be opened after the tag files.
+pub record OpensAllBefore (options : Options) (todo : List Path) (path : Path)
+    (old new : TreeState) : Type 0 where
   -- the tag files that it opened, the other files that it opened before this one, and those that it
   -- would have opened after it
   pub read : List Path
@@ -80,17 +80,23 @@ pub record OpensUpToSummed (old new : TreeState) (profile : Option Profile) (req
   pub later : List Path
   -- the tag files are in path order, and all that are wanted
   pub read_in_order : IsStrictlySortedBy text_cmp read
-  pub wanted : All (IsWanted request.options) read
-  pub all_read : ForListing old (λ files. AreWanted request.options files read)
-  -- the others are in path order, and of an honest tree all whose digests are still to be compared
-  pub in_order : IsStrictlySortedBy text_cmp (before ++ path ∷ later)
-  pub to_open : IsTrue old.honest
-      → AreToOpen (check_of old.bag profile request) request.after (before ++ path ∷ later)
+  pub wanted : All (IsWanted options) read
+  pub all_read : ForListing old (λ files. AreWanted options files read)
+  -- the others are in path order
+  pub cut : todo ≡ before ++ path ∷ later
+  pub in_order : IsStrictlySortedBy text_cmp todo
   -- it was refused after just these
   pub refused : IsRefusedAt (old.openings ++ (read ++ before)) path new
-  -- the line of each fault that stands before it was written, as those of earlier stages are
-  pub written : ForReportAsked old profile request (λ report.
-      NoFaultBefore (drop n (above request.after report)) (path ∷ []))
+
+-- The run stopped at a file whose digests were to be compared, when n faults had been written. Over
+-- an honest tree the files to be opened are all whose digests are still to be compared, and the line
+-- of each fault that stands before this one was written, as those of earlier stages are.
+abbrev pub OpensUpToSummed : TreeState → TreeState → Option Profile → Request → ℕ → Path → Type 0
+OpensUpToSummed old new profile request n path =
+    (todo : List Path) × OpensAllBefore request.options todo path old new
+    × (IsTrue old.honest → AreToOpen (check_of old.bag profile request) request.after todo)
+    × ForReportAsked old profile request (λ report.
+    NoFaultBefore (drop n (above request.after report)) (path ∷ []))
 
 -- A run that stops at a file has opened those before it: tag files if it is one of them, and else
 -- all tag files, and files whose digests are compared.
