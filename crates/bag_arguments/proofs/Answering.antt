@@ -11,6 +11,7 @@ use Rattle.bag_words.specs.Rows.{value}
 use Rattle.bag_words.specs.Rows.{rows_in}
 use Rattle.bag_words.specs.Taken.{IsPlain, IsTaken}
 use Rattle.bag_arguments.specs.declared.plan.Action.TheVariants.{Help}
+use Rattle.bag_words.specs.declared.taking.Declined.{Declined}
 use Rattle.bag_words.specs.declared.taking.Declined.TheVariants as declined
 use Rattle.bag_faults.specs.declared.fault.Fault.{Fault}
 use Rattle.bag_faults.specs.declared.options.Depth.{Depth}
@@ -85,38 +86,21 @@ taken_answered [] some m result taken plans = absurd (some refl)
 taken_answered (word ∷ rest) some m result taken plans =
     rw taken.0 (subst (λ rows. Plans rows result) taken.1 plans)
 
--- or they aren't
-help_by : (kinds : Kinds) (rows : List Row) (text : Text) → IsTaken kinds rows (Err (declined.Help text))
-    → Answers kinds rows (Ok (plan_without_words (Help text)))
-help_by [] rows text taken = absurd taken
-help_by (kind ∷ more) rows text taken = (taken, text, refl)
+-- the answer where they aren't
+abbrev pub declined_as : Declined → Result Plan Usage
+declined_as (declined.Help text) = Ok (plan_without_words (Help text))
+declined_as (declined.Refused text) = Err (Refused text)
+declined_as declined.Memory = Err Memory
 
-refused_by : (kinds : Kinds) (rows : List Row) (text : Text) → IsTaken kinds rows (Err (declined.Refused text))
-    → Answers kinds rows (Err (Refused text))
-refused_by [] rows text taken = absurd taken
-refused_by (kind ∷ more) rows text taken = taken
+declined_by : (kinds : Kinds) (rows : List Row) (why : Declined) → IsTaken kinds rows (Err why)
+    → Answers kinds rows (declined_as why)
+declined_by kinds rows why taken = grind arith
 
-memory_by : (kinds : Kinds) (rows : List Row) → Answers kinds rows (Err Memory)
-memory_by [] rows = tt
-memory_by (kind ∷ more) rows = tt
-
-pub help_answered : (words : List Text) → words ≢ [] → (text : Text)
-    → IsTaken (fault_of command words) (matches_of command words) (Err (declined.Help text))
-    → IsPlanned words (Ok (plan_without_words (Help text)))
+pub declined_answered : (words : List Text) → words ≢ [] → (why : Declined)
+    → IsTaken (fault_of command words) (matches_of command words) (Err why) → IsPlanned words (declined_as why)
 unfolding refusals matches_of_words
-help_answered [] some text taken = absurd (some refl)
-help_answered (word ∷ rest) some text taken = help_by _ _ text taken
-
-pub refused_answered : (words : List Text) → words ≢ [] → (text : Text)
-    → IsTaken (fault_of command words) (matches_of command words) (Err (declined.Refused text))
-    → IsPlanned words (Err (Refused text))
-unfolding refusals matches_of_words
-refused_answered [] some text taken = absurd (some refl)
-refused_answered (word ∷ rest) some text taken = refused_by _ _ text taken
-
-pub memory_answered : (words : List Text) → words ≢ [] → IsPlanned words (Err Memory)
-memory_answered [] some = absurd (some refl)
-memory_answered (word ∷ rest) some = memory_by _ _
+declined_answered [] some why taken = absurd (some refl)
+declined_answered (word ∷ rest) some why taken = declined_by _ _ why taken
 
 -- clap refuses no words that it takes, but for memory
 pub not_refused : (words : List Text) (text : Text) → (takes command words ≡ true → declined.Refused text ≡ declined.Memory)

@@ -1,30 +1,29 @@
 -- The names that this crate's proofs cite, passed on from one place. Declares nothing.
-pub use Rattle.std.proofs.Common.{Bool, Err, IsErrAnd, List, None, Ok, Option, Result, Some, [], ap, ap₂, arith}
-pub use Rattle.std.proofs.Common.{bytes_eq, codes, drop, false, filter, fold, get_or, if◌then◌else◌, inl, inr, is_some}
-pub use Rattle.std.proofs.Common.{length, map, min, nat_lt, not, option_map, refl, subst, suc, sym, take, true}
-pub use Rattle.std.proofs.Common.{unwrap_or, zero, ℕ, ◌&&◌, ◌++◌, ◌+◌, ◌<◌, ◌==◌, ◌||◌, ◌∙◌, ◌∷◌, ◌≡◌, ◌≢◌, ◌⊎◌}
-pub use Rattle.std.proofs.lemmas.List.{length-map, take_all, take_more}
+pub use Rattle.std.proofs.Common.{Bool, Err, List, None, Ok, Option, Result, Some, [], ap, ap₂, arith}
+pub use Rattle.std.proofs.Common.{bytes_eq, codes, false, filter, fold, get_or, if◌then◌else◌, inl, inr, is_some}
+pub use Rattle.std.proofs.Common.{length, map, not, option_map, refl, subst, sym, take, true}
+pub use Rattle.std.proofs.Common.{unwrap_or, ℕ, ◌&&◌, ◌++◌, ◌+◌, ◌<◌, ◌==◌, ◌||◌, ◌∙◌, ◌∷◌, ◌≡◌, ◌≢◌, ◌⊎◌}
+pub use Rattle.std.proofs.lemmas.List.{take_all, take_more}
 pub use Rattle.std.proofs.lemmas.List.Elements.{All-get_or, filter_map-append}
 pub use Rattle.std.proofs.lemmas.List.Sums.{fold_more}
-pub use Rattle.std.proofs.lemmas.Result.{IfErr-weaker, IfOk-weaker}
+pub use Rattle.std.proofs.lemmas.Result.{IfOk-weaker}
 pub use Rattle.std.proofs.lemmas.Slice.Eq.{bytes_eq-Decides}
 pub use Rattle.std.specs.Borrow.{Bor}
-pub use Rattle.std.specs.List.{All, cons_option, filter_map, list_all, list_any, slice_index_or}
-pub use Rattle.std.specs.Prelude.{encode_utf8, slice_get, ⊤}
+pub use Rattle.std.specs.List.{All, filter_map, list_all, slice_index_or}
+pub use Rattle.std.specs.Prelude.{slice_get}
 pub use Rattle.std.specs.Str.Parse.{ParsesBool, ParsesUnsigned}
 pub use Rattle.bag_text.specs.Alg.{algs, name}
 pub use Rattle.bag_text.specs.declared.alg.Alg.{Alg}
-pub use Rattle.clap.proofs.WalkLemmas.{first_value-rows, one_text-rows, raw_values-rows}
-pub use Rattle.clap.specs.Facts.{EntryPasses, PassesArg, explicit_source, parser_of_value, unwrap_or_range}
-pub use Rattle.clap.specs.Simple.{Shape, app_of_fields, argument_words, built}
-pub use Rattle.clap.specs.Words.{AddsArg, App, FailsBy, HasKind, IsParsedFrom, Kinds, ReadsOne, Row, Rule, Text, app_of}
-pub use Rattle.clap.specs.Words.{args_of, fault_of, first_value, found_of, groups_of, is_simple, is_simple_and_free}
-pub use Rattle.clap.specs.Words.{kind_of, matched_of, matches_of, one_text, raw_values, rows_of, rule_of, takes}
+pub use Rattle.clap.proofs.WalkLemmas.{first_value-rows, raw_values-rows}
+pub use Rattle.clap.specs.Facts.{EntryPasses, PassesArg, parser_of_value}
+pub use Rattle.clap.specs.Simple.{app_of_fields}
+pub use Rattle.clap.specs.Words.{App, IsParsedFrom, Kinds, ReadsOne, Row, Rule, Text, app_of}
+pub use Rattle.clap.specs.Words.{args_of, fault_of, first_value, found_of, groups_of}
+pub use Rattle.clap.specs.Words.{matched_of, matches_of, raw_values, rows_of, takes}
 pub use Rattle.clap.specs.Words.{with_rule}
 pub use Rattle.clap.specs.declared.builder.arg.Arg.{Arg}
 pub use Rattle.clap.specs.declared.builder.command.Command.{Command}
 pub use Rattle.clap.specs.declared.builder.value_parser.ValueParser.{ValueParser}
-pub use Rattle.clap.specs.declared.error.kind.ErrorKind.TheVariants.{ArgumentConflict, OutOfMemory}
 pub use Rattle.bag_arguments.specs.Arguments.{alg_arguments, check_arguments, label_arguments}
 pub use Rattle.bag_words.specs.Rules.{flag_rule}
 pub use Rattle.bag_arguments.specs.Arguments.{main_arguments}
@@ -33,7 +32,7 @@ pub use Rattle.bag_arguments.specs.Arguments.{word_arguments}
 pub use Rattle.bag_arguments.specs.Given.{IsLimit, element, has_after_several, has_join_with_other, has_two_depths}
 pub use Rattle.bag_arguments.specs.GivenRows.{HasLimit, IsLimitText}
 pub use Rattle.bag_words.specs.Rows.{is_given, values}
-pub use Rattle.bag_arguments.specs.Given.{named_algs, or_default, out_of_place}
+pub use Rattle.bag_arguments.specs.Given.{or_default, out_of_place}
 pub use Rattle.std.specs.Option.{option_to_list}
 pub use Rattle.bag_arguments.specs.Labels.{label_option}
 pub use Rattle.bag_arguments.specs.declared.label.Label.{Label}

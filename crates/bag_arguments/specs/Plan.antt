@@ -2,7 +2,6 @@
 use Rattle.std.specs.Prelude.{ℕ, ◌≡◌, ◌≢◌, ◌⊎◌, ⊤, false, List, [], ◌∷◌, codes, if◌then◌else◌}
 use Rattle.std.specs.Prelude.{Option, Some, None, Result, Ok, Err, option_map, is_some}
 use Rattle.clap.specs.Words.{Kinds, Row, Text}
-use Rattle.clap.specs.declared.error.kind.ErrorKind.{ErrorKind}
 use Rattle.clap.specs.declared.error.kind.ErrorKind.TheVariants.{DisplayHelp}
 use Rattle.bag_faults.specs.LineOf.{IsLineOf}
 use Rattle.bag_faults.specs.declared.fault.Fault.{Fault}
@@ -106,18 +105,14 @@ plan_without_words action = record {
   info = [];
 }
 
--- the answer where clap gives no matches: its help, or its refusal
-abbrev pub Declines : ErrorKind → Result Plan Usage → Type 0
-Declines kind (Ok plan) =
-    (kind ≡ DisplayHelp) × (text : Text) × (plan ≡ plan_without_words (Help text))
-Declines kind (Err Memory) = ⊤
-Declines kind (Err (Refused text)) = kind ≢ DisplayHelp
-Declines kind (Err usage) = ⊥
-
--- the answer to what clap makes of the words
+-- the answer to what clap makes of the words: where it gives no matches, its help or its refusal
 abbrev pub Answers : Kinds → List Row → Result Plan Usage → Type 0
 Answers [] rows result = Plans rows result
-Answers (kind ∷ more) rows result = Declines kind result
+Answers (kind ∷ more) rows (Ok plan) =
+    (kind ≡ DisplayHelp) × (text : Text) × (plan ≡ plan_without_words (Help text))
+Answers (kind ∷ more) rows (Err Memory) = ⊤
+Answers (kind ∷ more) rows (Err (Refused text)) = kind ≢ DisplayHelp
+Answers (kind ∷ more) rows (Err usage) = ⊥
 
 -- no words ask for the sample
 abbrev pub IsPlanned : List Text → Result Plan Usage → Type 0

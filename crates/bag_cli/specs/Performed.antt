@@ -3,7 +3,7 @@
 use Rattle.std.specs.Prelude.{ℕ, ◌≡◌, ◌⊎◌, Bool, List, [], ◌∷◌, if◌then◌else◌}
 use Rattle.std.specs.Prelude.{Option, Some, None, Result, Ok, Err}
 use Rattle.std.specs.Io.KnownBytes.{Appends}
-use Rattle.bag_tree.specs.Out.{IsCut, OutState}
+use Rattle.bag_tree.specs.Out.{OutState}
 use Rattle.bag_program.specs.Visits.{Event, Read}
 use Rattle.bag_store.specs.FileTree.{tree_state}
 use Rattle.bag_profile.specs.Profile.{Profile}

@@ -1,11 +1,12 @@
 -- How the answers of the parts make the answer of the whole.
-use Rattle.bag_renew_cli.proofs.Common.{arith, ◌≡◌, ◌≢◌, inl, inr, refl, not, Bool, List, []}
+use Rattle.bag_renew_cli.proofs.Common.{arith, ◌≡◌, ◌≢◌, inl, inr, refl, not, Bool, List}
 use Rattle.bag_renew_cli.proofs.Common.{Option, Some, None, Result, Err, is_some, option_or, if◌then◌else◌}
-use Rattle.bag_renew_cli.proofs.Common.{◌∷◌, Ok, Row, Text, command, clap_on_literals, clap_takes, fault_of, matches_of}
+use Rattle.bag_renew_cli.proofs.Common.{Ok, Row, Text, command, clap_on_literals, clap_takes, fault_of, matches_of}
 use Rattle.bag_renew_cli.proofs.Common.{rows_in, subst, takes, true, refusals, matches_of_words}
 use Rattle.clap.specs.Words.{Kinds}
 use Rattle.clap.specs.declared.parser.matches.ArgMatches.{ArgMatches}
 use Rattle.bag_words.specs.Taken.{IsPlain, IsTaken}
+use Rattle.bag_words.specs.declared.taking.Declined.{Declined}
 use Rattle.bag_words.specs.declared.taking.Declined.TheVariants as declined
 use Rattle.bag_renew_cli.specs.Given.{has_others, has_several, printed, prints}
 use Rattle.bag_renew_cli.specs.declared.plan.RenewAction.TheVariants.{Help}
@@ -65,38 +66,23 @@ pub taken_answered : (words : List Text) (m : ArgMatches) (result : Result Renew
 unfolding refusals matches_of_words
 taken_answered words m result taken plans = rw taken.0 (subst (λ rows. Plans rows result) taken.1 plans)
 
--- or they aren't
-help_by : (kinds : Kinds) (rows : List Row) (text : Text) → IsTaken kinds rows (Err (declined.Help text))
-    → Answers kinds rows (Ok (plan_without_words (Help text)))
-help_by [] rows text taken = absurd taken
-help_by (kind ∷ more) rows text taken = (taken, text, refl)
+-- the answer where they aren't
+abbrev pub declined_as : Declined → Result RenewPlan RenewUsage
+declined_as (declined.Help text) = Ok (plan_without_words (Help text))
+declined_as (declined.Refused text) = Err (Refused text)
+declined_as declined.Memory = Err Memory
 
-refused_by : (kinds : Kinds) (rows : List Row) (text : Text) → IsTaken kinds rows (Err (declined.Refused text))
-    → Answers kinds rows (Err (Refused text))
-refused_by [] rows text taken = absurd taken
-refused_by (kind ∷ more) rows text taken = taken
+declined_by : (kinds : Kinds) (rows : List Row) (why : Declined) → IsTaken kinds rows (Err why)
+    → Answers kinds rows (declined_as why)
+declined_by kinds rows why taken = grind arith
 
-memory_by : (kinds : Kinds) (rows : List Row) → Answers kinds rows (Err Memory)
-memory_by [] rows = inl refl
-memory_by (kind ∷ more) rows = tt
+pub declined_answered : (words : List Text) (why : Declined)
+    → IsTaken (fault_of command words) (matches_of command words) (Err why) → IsPlanned words (declined_as why)
+unfolding refusals matches_of_words
+declined_answered words why taken = declined_by _ _ why taken
 
-module _ (words : List Text) where
-  pub help_answered : (text : Text) → IsTaken (fault_of command words) (matches_of command words) (Err (declined.Help text))
-      → IsPlanned words (Ok (plan_without_words (Help text)))
-  unfolding refusals matches_of_words
-  help_answered text taken = help_by _ _ text taken
-
-  pub refused_answered : (text : Text)
-      → IsTaken (fault_of command words) (matches_of command words) (Err (declined.Refused text))
-      → IsPlanned words (Err (Refused text))
-  unfolding refusals matches_of_words
-  refused_answered text taken = refused_by _ _ text taken
-
-  pub memory_answered : IsPlanned words (Err Memory)
-  memory_answered = memory_by _ _
-
-  -- clap refuses no words that it takes, but for memory
-  pub not_refused : (text : Text) → (takes command words ≡ true → declined.Refused text ≡ declined.Memory)
-      → clap_takes words ≡ true → ⊥
-  unfolding clap_takes
-  not_refused text memory taken = let e = memory taken in cc
+-- clap refuses no words that it takes, but for memory
+pub not_refused : (words : List Text) (text : Text) → (takes command words ≡ true → declined.Refused text ≡ declined.Memory)
+    → clap_takes words ≡ true → ⊥
+unfolding clap_takes
+not_refused words text memory taken = let e = memory taken in cc

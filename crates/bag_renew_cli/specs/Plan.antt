@@ -3,7 +3,6 @@ use Rattle.std.specs.Prelude.{ℕ, ◌≡◌, ◌≢◌, ◌⊎◌, ⊤, Bool, f
 use Rattle.std.specs.Prelude.{Option, Some, None, Result, Ok, Err, is_some}
 use Rattle.std.specs.Option.{option_or}
 use Rattle.clap.specs.Words.{Kinds, Row, Text}
-use Rattle.clap.specs.declared.error.kind.ErrorKind.{ErrorKind}
 use Rattle.clap.specs.declared.error.kind.ErrorKind.TheVariants.{DisplayHelp}
 use Rattle.bag_text.specs.declared.alg.Alg.{Alg}
 use Rattle.bag_arguments.specs.Given.{directories}
@@ -104,18 +103,14 @@ plan_without_words action = record {
   quiet = false;
 }
 
--- the answer where clap gives no matches: its help, or its refusal
-abbrev pub Declines : ErrorKind → Result RenewPlan RenewUsage → Type 0
-Declines kind (Ok plan) =
-    (kind ≡ DisplayHelp) × (text : Text) × (plan ≡ plan_without_words (Help text))
-Declines kind (Err Memory) = ⊤
-Declines kind (Err (Refused text)) = kind ≢ DisplayHelp
-Declines kind (Err usage) = ⊥
-
--- the answer to what clap makes of the words
+-- the answer to what clap makes of the words: where it gives no matches, its help or its refusal
 abbrev pub Answers : Kinds → List Row → Result RenewPlan RenewUsage → Type 0
 Answers [] rows result = Plans rows result
-Answers (kind ∷ more) rows result = Declines kind result
+Answers (kind ∷ more) rows (Ok plan) =
+    (kind ≡ DisplayHelp) × (text : Text) × (plan ≡ plan_without_words (Help text))
+Answers (kind ∷ more) rows (Err Memory) = ⊤
+Answers (kind ∷ more) rows (Err (Refused text)) = kind ≢ DisplayHelp
+Answers (kind ∷ more) rows (Err usage) = ⊥
 
 abbrev pub IsPlanned : List Text → Result RenewPlan RenewUsage → Type 0
 IsPlanned words result = Answers (refusals words) (matches_of_words words) result

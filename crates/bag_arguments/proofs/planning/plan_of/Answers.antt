@@ -1,8 +1,8 @@
 use Rattle.std.proofs.lemmas.Grind.{common_steps}
 use Rattle.bag_arguments.proofs.Common.{arith, ◌≡◌, ◌≢◌, ◌==◌, List, [], Bool, false, map, length, Bor, Text}
 use Rattle.bag_arguments.proofs.Common.{command}
-use Rattle.bag_arguments.proofs.Answering.{help_answered, memory_answered, not_refused, plain, refused_answered}
-use Rattle.bag_arguments.proofs.Answering.{taken_answered}
+use Rattle.bag_words.specs.declared.taking.Declined.TheVariants as declined
+use Rattle.bag_arguments.proofs.Answering.{declined_answered, not_refused, plain, taken_answered}
 use Rattle.bag_arguments.proofs.Limits.{limit_of}
 use Rattle.bag_arguments.proofs.planning.plan_of.Goals as goal
 
@@ -22,13 +22,15 @@ returns-in-Ok-clause-planned c =
 pub returns-in-Err-Help-clause-planned : goal.returns-in-Err-Help-clause-planned
 returns-in-Err-Help-clause-planned c =
     rw c.plan_without_words-in-Err-Help.ensures
-    (help_answered _ (some_words c.args.words.now c.is_empty.result c.is_empty.ensures c.if-is_empty.false)
-    c.in-Err-Help.text (rw c.in-Err-Help.field-0-is at (c.in-Err-Help.ensures.taken command c.command.ensures plain)))
+    (declined_answered _ (some_words c.args.words.now c.is_empty.result c.is_empty.ensures c.if-is_empty.false)
+    (declined.Help c.in-Err-Help.text)
+    (rw c.in-Err-Help.field-0-is at (c.in-Err-Help.ensures.taken command c.command.ensures plain)))
 
 pub returns-in-Err-Refused-clause-planned : goal.returns-in-Err-Refused-clause-planned
 returns-in-Err-Refused-clause-planned c =
-    refused_answered _ (some_words c.args.words.now c.is_empty.result c.is_empty.ensures c.if-is_empty.false)
-    c.in-Err-Refused.text (rw c.in-Err-Refused.field-0-is at (c.in-Err-Refused.ensures.taken command c.command.ensures plain))
+    declined_answered _ (some_words c.args.words.now c.is_empty.result c.is_empty.ensures c.if-is_empty.false)
+    (declined.Refused c.in-Err-Refused.text)
+    (rw c.in-Err-Refused.field-0-is at (c.in-Err-Refused.ensures.taken command c.command.ensures plain))
 
 pub returns-in-Err-Refused-clause-taken : goal.returns-in-Err-Refused-clause-taken
 returns-in-Err-Refused-clause-taken c =
@@ -37,4 +39,5 @@ returns-in-Err-Refused-clause-taken c =
 
 pub returns-in-Err-Memory-clause-planned : goal.returns-in-Err-Memory-clause-planned
 returns-in-Err-Memory-clause-planned c =
-    memory_answered _ (some_words c.args.words.now c.is_empty.result c.is_empty.ensures c.if-is_empty.false)
+    declined_answered _ (some_words c.args.words.now c.is_empty.result c.is_empty.ensures c.if-is_empty.false)
+    declined.Memory tt
