@@ -1,12 +1,14 @@
 -- Files in lists and in maps.
 use Rattle.bag_facts.proofs.Common.{arith, ◌≡◌, ◌∷◌, ℕ, true, false, List, [], map, Option, None, Some, is_some, refl}
 use Rattle.bag_facts.proofs.Common.{sym, ap, ◌∙◌, Contains, and_parts, find, eq_by_cmp, any_from, contains_behind, from_any}
-use Rattle.bag_facts.proofs.Common.{contains_cases, contains_first, contains_nothing, text_cmp}
+use Rattle.bag_facts.proofs.Common.{contains_cases, contains_first, contains_nothing, text_cmp, AllByRecursion}
+use Rattle.bag_facts.proofs.Common.{IsStrictlySortedBy, is_lt, Less, Equal, Greater}
 use Rattle.bag_facts.proofs.Mapped.{mapped_contains}
 use Rattle.std.proofs.lemmas.Bool.{false_from_ne_true}
 use Rattle.std.specs.FinMap as fin
 use Rattle.std.specs.FinMap.{entries_sorted, get-entries, is_sorted}
 use Rattle.std.specs.FinMap.Entries.{below_all, is_some-find}
+use Rattle.std.specs.declared.cmp.Ordering.{Ordering}
 use Rattle.bag_tree.proofs.PathEntries.{none_below, t_true}
 use Rattle.bag_tree.proofs.SameText.{one_text, text_itself}
 use Rattle.bag_tree.proofs.Within.{IsWithin, within_cases}
@@ -45,6 +47,28 @@ in_order p c [] up h = absurd (contains_nothing (p, c) h)
 in_order p c ((k, v) ∷ es) up h =
     let two = and_parts (below_all text_cmp k es) (is_sorted text_cmp es) up in
     grind (arith, contains_cases (k, v) es (p, c) h, none_below k es, one_text p k, text_itself p, in_order p c es)
+
+is_less : (o : Ordering) → is_lt o ≡ true → o ≡ Less
+is_less Less e = refl
+is_less Equal e = cc
+is_less Greater e = cc
+
+-- the paths of an ordered list ascend
+module _ {X : Type 0} where
+  all_less : (k : List ℕ) (es : List (List ℕ × X)) → below_all text_cmp k es ≡ true
+      → AllByRecursion (λ y. text_cmp k y ≡ Less) (map (λ (e : List ℕ × X). e.0) es)
+  all_less k [] h = tt
+  all_less k (e ∷ es) h =
+      let two = and_parts (is_lt (text_cmp k e.0)) (below_all text_cmp k es) h in
+      (is_less (text_cmp k e.0) two.0, all_less k es two.1)
+
+  pub ascends : (es : List (List ℕ × X)) → is_sorted text_cmp es ≡ true
+      → IsStrictlySortedBy text_cmp (map (λ (e : List ℕ × X). e.0) es)
+  unfolding IsStrictlySortedBy
+  ascends [] h = tt
+  ascends (e ∷ es) h =
+      let two = and_parts (below_all text_cmp e.0 es) (is_sorted text_cmp es) h in
+      (all_less e.0 es two.0, ascends es two.1)
 
 -- the files of a map are those of its list
 pub listed : (files : Files) (p c : List ℕ) → fin.get files p ≡ Some c → Contains (fin.entries files) (p, c)

@@ -6,7 +6,7 @@ use Rattle.bag_make.proofs.Common.{AreInPathOrder, ManifestsAscend, File, new_pa
 use Rattle.std.specs.List.Sorted.{IsStrictlySortedBy}
 use Rattle.bag_tree.proofs.PathEntries.{t_true}
 use Rattle.bag_make.proofs.PayloadIsTheFolder.{sorted_payload}
-use Rattle.bag_make.proofs.TopsInOrder.{ascends}
+use Rattle.bag_facts.proofs.Found.{ascends}
 
 abbrev path_of : Alg → List ℕ
 path_of alg = tag_path (Manifest Payload alg)

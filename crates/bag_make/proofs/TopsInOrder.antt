@@ -1,39 +1,14 @@
 -- The names that are moved are listed in order, each once.
-use Rattle.bag_make.proofs.Common.{arith, ◌≡◌, ℕ, true, List, [], ◌∷◌, map, Contains, refl, ap, sym, ◌∙◌, is_some}
+use Rattle.bag_make.proofs.Common.{arith, ◌≡◌, ℕ, List, map, Contains, ap, sym, ◌∙◌, is_some}
 use Rattle.bag_make.proofs.Common.{nat_list_cmp_total, is_sorted, entries_sorted, contains_key-keys, get-from_entries}
-use Rattle.bag_make.proofs.Common.{below_all, is_some-find, AllByRecursion, list_any, eq_by_cmp, Less, Equal, Greater}
-use Rattle.bag_make.proofs.Common.{and_parts, text_cmp, any_from, from_any, one_list, one_text, text_itself, in_order}
-use Rattle.std.proofs.Common.{is_lt}
+use Rattle.bag_make.proofs.Common.{is_some-find, list_any, eq_by_cmp}
+use Rattle.bag_make.proofs.Common.{text_cmp, any_from, from_any, one_list, one_text, text_itself, in_order}
 use Rattle.std.specs.FinMap as fin
-use Rattle.std.specs.List.Sorted.{IsStrictlySortedBy}
-use Rattle.std.specs.declared.cmp.Ordering.{Ordering}
 use Rattle.bag_text.specs.Order.{IsListOf}
+use Rattle.bag_facts.proofs.Found.{ascends}
 use Rattle.bag_tree.proofs.PathEntries.{t_true}
 use Rattle.std.proofs.lemmas.List.{map-id}
 use Rattle.std.proofs.lemmas.Simd.{map-map}
-
-is_less : (o : Ordering) → is_lt o ≡ true → o ≡ Less
-is_less Less e = refl
-is_less Equal e = cc
-is_less Greater e = cc
-
--- the paths of an ordered list ascend
-module _ {X : Type 0} where
-  all_less : (k : List ℕ) (es : List (List ℕ × X)) → below_all text_cmp k es ≡ true
-      → AllByRecursion (λ y. text_cmp k y ≡ Less) (map (λ (e : List ℕ × X). e.0) es)
-  all_less k [] h = tt
-  all_less k (e ∷ es) h =
-      let two =
-      and_parts (is_lt (text_cmp k e.0)) (below_all text_cmp k es) h
-      in (is_less (text_cmp k e.0) two.0, all_less k es two.1)
-
-  pub ascends : (es : List (List ℕ × X)) → is_sorted text_cmp es ≡ true
-      → IsStrictlySortedBy text_cmp (map (λ (e : List ℕ × X). e.0) es)
-  unfolding IsStrictlySortedBy
-  ascends [] h = tt
-  ascends (e ∷ es) h =
-      let two =
-      and_parts (below_all text_cmp e.0 es) (is_sorted text_cmp es) h in (all_less e.0 es two.0, ascends es two.1)
 
 abbrev Entry : Type 0
 Entry = List ℕ × Unit {0}

@@ -16,6 +16,7 @@ use Rattle.bag_text.specs.declared.code.Code.TheVariants.{TagmanifestNamesPayloa
 use Rattle.bag_text.specs.declared.rules.Rules.TheVariants.{V10}
 use Rattle.bag_read.proofs.ManifestEntries.{entry_named, named_has_entry}
 use Rattle.bag_read.proofs.ManifestLineParts.{lines_read}
+use Rattle.bag_renew.proofs.TagNames.{one_kind}
 use Rattle.bag_read.proofs.ManifestName.{is_named, named_test}
 use Rattle.bag_read.specs.ManifestLine.{MayName}
 use Rattle.bag_entries.specs.declared.entry.ManifestEntry.{ManifestEntry}
@@ -90,10 +91,6 @@ pub record IsBetween (mid old new : Bag) : Type 0 where
 pub no_manifest_begun : (kind : Kind) (alg : List ℕ) → manifest_name kind alg ≢ begun_file
 no_manifest_begun Payload alg = λ same. absurd (omega (arith, ap (λ t. get_or t 0 0) same))
 no_manifest_begun Tag alg = λ same. absurd (omega (arith, ap (λ t. get_or t 0 0) same))
-
--- no payload manifest has the name of a tag manifest
-pub one_kind : (a b : List ℕ) → manifest_name Payload a ≡ manifest_name Tag b → ⊥
-one_kind a b same = absurd (omega (arith, ap (λ t. get_or t 0 0) same))
 
 pub other_kind : (alg : List ℕ) → is_manifest_name Tag (manifest_name Payload alg) ≡ false
 other_kind alg = false_from_ne_true _ (λ is.

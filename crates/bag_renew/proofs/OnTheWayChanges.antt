@@ -15,11 +15,11 @@ use Rattle.std.proofs.Common.{drop, take-append-drop}
 use Rattle.bag_facts.proofs.Mapped.{kept}
 use Rattle.bag_read.proofs.ManifestName.{named_is}
 use Rattle.bag_changes.proofs.AlgsWhere.{passes}
-use Rattle.bag_renew.proofs.BetweenFaults.{no_manifest_begun, one_kind}
+use Rattle.bag_renew.proofs.BetweenFaults.{no_manifest_begun}
 use Rattle.bag_renew.proofs.ChangedNames.{back, info_text}
 use Rattle.bag_renew.proofs.OneChange.{name_of, with_change, with_changes}
 use Rattle.bag_changes.proofs.Staying.{no_begun}
-use Rattle.bag_renew.proofs.TagNames.{IsPlain, no_manifest_name}
+use Rattle.bag_renew.proofs.TagNames.{IsPlain, no_manifest_name, one_kind}
 
 -- ---- the first changes and the others
 

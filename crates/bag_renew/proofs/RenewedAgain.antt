@@ -30,8 +30,9 @@ use Rattle.bag_renew.proofs.PayloadFiles.{payload_alike}
 use Rattle.bag_renew.proofs.RenewedNames.{declared, same_file}
 use Rattle.bag_changes.proofs.Staying.{no_begun}
 use Rattle.bag_renew.proofs.TagNames.{not_tag_manifest}
+use Rattle.bag_facts.proofs.ListedPaths.{same_truth}
 use Rattle.bag_renew.proofs.RenewedAlike.{AreRenewedAlike, HasInfoOf, from_left, has_or_added, info_so, kept_is}
-use Rattle.bag_renew.proofs.RenewedAlike.{manifest_there, new_info, new_manifest, same_bool, same_renewed, text}
+use Rattle.bag_renew.proofs.RenewedAlike.{manifest_there, new_info, new_manifest, same_renewed, text}
 use Rattle.bag_renew.proofs.RenewedAlike.{to_left, written_again, written_is}
 
 -- ---- a bag on the way: its files are those of the bag or of the renewed one, and none of those that
@@ -60,7 +61,7 @@ module _ (left bag : Bag) (renewal : Renewal) (on : IsOnTheWay left bag renewal)
 
   same_alg : (alg : Alg) → is_new_alg left renewal alg ≡ is_new_alg bag renewal alg
   same_alg alg =
-      same_bool (is_new_alg left renewal alg) (is_new_alg bag renewal alg)
+      same_truth (is_new_alg left renewal alg) (is_new_alg bag renewal alg)
       (from_left bag renewal alg left
       (λ c at. on.between.either (manifest_of Payload alg) c (no_manifest_begun Payload (name alg)) at))
       (to_left bag renewal alg left (on.manifests alg))
@@ -225,7 +226,7 @@ module _ (left bag : Bag) (renewal : Renewal) (none_kept : keeps bag renewal ≡
 
     alg_is : is_new_alg left renewal alg ≡ is_new_alg bag renewal alg
     alg_is =
-        same_bool (is_new_alg left renewal alg) (is_new_alg bag renewal alg)
+        same_truth (is_new_alg left renewal alg) (is_new_alg bag renewal alg)
         (from_left bag renewal alg left (λ c at. inr (sym put_manifest ∙ at)))
         (λ is. to_left bag renewal alg left
         (λ stays_in has. ap is_some (put_manifest ∙ manifest_there bag renewal alg is)) is)

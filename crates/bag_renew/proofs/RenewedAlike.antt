@@ -8,7 +8,6 @@ use Rattle.bag_renew.proofs.Common.{keeps, kept_or, kept_tag_files, manifest_by,
 use Rattle.bag_renew.proofs.Common.{new_rules, new_tag_files, payload, payload_manifest, payload_manifests, stays}
 use Rattle.bag_renew.proofs.Common.{tag_manifests, writes_info, Renewal}
 use Rattle.std.specs.Option.{unwrap_or}
-use Rattle.std.specs.List.{enumerate_from}
 use Rattle.bag_read.specs.InfoReader.{elements}
 use Rattle.bag_text.specs.Text.{text_cmp}
 use Rattle.bag_text.specs.declared.rules.Rules.{Rules}
@@ -21,7 +20,7 @@ use Rattle.bag_tags.proofs.LongInfo.{long_info_again_by}
 use Rattle.bag_tags.specs.Element.{NewElement}
 use Rattle.bag_tags.specs.OnLines.{text_on_lines}
 use Rattle.bag_renew.specs.WrittenElements.{WrittenElementsAreRead}
-use Rattle.bag_renewed.specs.Elements.{elements_of, renewed_elements}
+use Rattle.bag_renewed.specs.Elements.{elements_of, elements_on, renewed_elements}
 use Rattle.bag_renewed.specs.Renewed.{file_at, in_path_order, renewed}
 use Rattle.bag_renewed.specs.Request.{is_bad_request}
 use Rattle.bag_changes.specs.Valid.{HasGoodElements}
@@ -34,11 +33,6 @@ use Rattle.bag_renew.proofs.PayloadFiles.{files_alike, payload_alike}
 use Rattle.bag_renew.proofs.ReadAlike.{elements_alike}
 use Rattle.bag_renew.proofs.RenewedNames.{by_new_rules, new_text}
 use Rattle.std.specs.FinMap as fin
-
-pub same_bool : (a b : Bool) → (a ≡ true → b ≡ true) → (b ≡ true → a ≡ true) → a ≡ b
-same_bool true b to from = sym (to refl)
-same_bool false true to from = from refl
-same_bool false false to from = refl
 
 map_same : {A B : Type 0} (f g : A → B) (xs : List A) → ((x : A) → Contains xs x → f x ≡ g x) → map f xs ≡ map g xs
 map_same f g [] each = refl
@@ -201,18 +195,15 @@ module _ (bag : Bag) (renewal : Renewal) where
 
 -- ---- the elements are read again
 
-abbrev read_of : Rules → List (List ℕ) → List NewElement
-read_of rules lines = map {B = NewElement} (λ e. (e.label, e.value)) (elements rules (enumerate_from 1 lines))
-
 read_so : (b : Bag) (rules : Rules) → rules_in b ≡ rules → (o : Option (List ℕ)) → file b bag_info_txt ≡ o
-    → elements_of b ≡ read_of rules (lines_or_none o)
+    → elements_of b ≡ elements_on rules (lines_or_none o)
 read_so b rules ruled o at =
-    ap (λ r. read_of r (lines_in b bag_info_txt)) ruled ∙ ap (λ o. read_of rules (lines_or_none o)) at
+    ap (λ r. elements_on r (lines_in b bag_info_txt)) ruled ∙ ap (λ o. elements_on rules (lines_or_none o)) at
 
 read_alike : (one other : Bag) → AreAlike one other → file one bag_info_txt ≡ file other bag_info_txt
     → elements_of one ≡ elements_of other
 read_alike one other alike same =
-    ap (λ o. read_of (rules_in one) (lines_or_none o)) same
+    ap (λ o. elements_on (rules_in one) (lines_or_none o)) same
     ∙ ap (map {B = NewElement} (λ e. (e.label, e.value)))
     (elements_alike (rules_in one) (rules_in other) (lines_in other bag_info_txt) 1 alike.metadata)
 

@@ -28,8 +28,9 @@ no_manifest_name Info plain Tag alg same = absurd (omega (arith, ap (λ t. get_o
 no_manifest_name Fetch plain Payload alg same = absurd (omega (arith, ap (λ t. get_or t 0 0) same))
 no_manifest_name Fetch plain Tag alg same = absurd (omega (arith, ap (λ t. get_or t 0 0) same))
 
-other_kind : (a b : List ℕ) → manifest_name Payload a ≡ manifest_name Tag b → ⊥
-other_kind a b same = absurd (omega (arith, ap (λ t. get_or t 0 0) same))
+-- no payload manifest has the name of a tag manifest
+pub one_kind : (a b : List ℕ) → manifest_name Payload a ≡ manifest_name Tag b → ⊥
+one_kind a b same = absurd (omega (arith, ap (λ t. get_or t 0 0) same))
 
 -- a tag file that tag manifests are to name
 abbrev pub IsNamed : TagName → Type 0
@@ -42,7 +43,7 @@ not_tag_manifest tag named = false_from_ne_true _ (λ is.
   where
     by_tag : (tag : TagName) → IsNamed tag → (alg : List ℕ) → tag_path tag ≡ manifest_name Tag alg → ⊥
     by_tag (Manifest Tag a) named alg same = named
-    by_tag (Manifest Payload a) named alg same = other_kind (name a) alg same
+    by_tag (Manifest Payload a) named alg same = one_kind (name a) alg same
     by_tag Declaration named alg same = no_manifest_name Declaration tt Tag alg same
     by_tag Info named alg same = no_manifest_name Info tt Tag alg same
     by_tag Fetch named alg same = no_manifest_name Fetch tt Tag alg same

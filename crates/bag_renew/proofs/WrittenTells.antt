@@ -4,14 +4,10 @@ use Rattle.bag_renew.proofs.Common.{map, refl, ap, sym, subst, Contains, All, Al
 use Rattle.bag_renew.proofs.Common.{and_parts, or_from, not_from_true, All-from_recursion, list_any, eq_by_cmp}
 use Rattle.bag_renew.proofs.Common.{bytes_eq, entries_sorted, is_sorted, contains_mapped, mapped_contains, text_cmp}
 use Rattle.bag_renew.proofs.Common.{is_path, is_payload_path, is_manifest_name, Kind, Payload, Tag, Alg, Bag, HasFile}
-use Rattle.bag_renew.proofs.Common.{file, files_of, File, manifest_by, below_all}
+use Rattle.bag_renew.proofs.Common.{file, files_of, File, manifest_by}
 use Rattle.std.specs.List.{IsDistinct}
-use Rattle.std.specs.List.Sorted.{IsStrictlySortedBy}
 use Rattle.std.specs.FinMap.Entries.{is_sorted-where_key}
 use Rattle.std.specs.Cmp.Lexicographic.{texts_ties}
-use Rattle.std.specs.Ordering.{is_lt}
-use Rattle.std.specs.declared.cmp.Ordering.{Ordering}
-use Rattle.std.specs.declared.cmp.Ordering.TheVariants.{Equal, Greater, Less}
 use Rattle.std.proofs.lemmas.Map.Keys.{IsDistinct-from_sorted}
 use Rattle.std.proofs.lemmas.Simd.{map-map}
 use Rattle.std.proofs.lemmas.Str.{is_utf8-from_IsUtf8}
@@ -33,27 +29,7 @@ use Rattle.bag_tags.specs.Summed.{entries_of}
 use Rattle.bag_changes.specs.Telling.{AreNameable, ArePaths, GivesDigests, IsManifestOf, IsToBeNamed, NamesAll, WrittenManifestsTell}
 use Rattle.bag_changes.specs.Telling.{is_to_name, paths_named, to_name}
 use Rattle.bag_tags.proofs.Digests.{good_digest}
-use Rattle.bag_facts.proofs.Found.{content_of, held_at, listed}
-
--- the paths of an ordered list ascend
-is_less : (o : Ordering) → is_lt o ≡ true → o ≡ Less
-is_less Less e = refl
-is_less Equal e = cc
-is_less Greater e = cc
-
-all_less : (k : List ℕ) (es : List File) → below_all text_cmp k es ≡ true
-    → AllByRecursion (λ y. text_cmp k y ≡ Less) (map (λ (e : File). e.0) es)
-all_less k [] h = tt
-all_less k (e ∷ es) h =
-    let two = and_parts (is_lt (text_cmp k e.0)) (below_all text_cmp k es) h in
-    (is_less (text_cmp k e.0) two.0, all_less k es two.1)
-
-ascends : (es : List File) → is_sorted text_cmp es ≡ true → IsStrictlySortedBy text_cmp (map (λ (e : File). e.0) es)
-unfolding IsStrictlySortedBy
-ascends [] h = tt
-ascends (e ∷ es) h =
-    let two = and_parts (below_all text_cmp e.0 es) (is_sorted text_cmp es) h in
-    (all_less e.0 es two.0, ascends es two.1)
+use Rattle.bag_facts.proofs.Found.{ascends, content_of, held_at, listed}
 
 distinct_sorted : (es : List File) → is_sorted text_cmp es ≡ true
     → IsDistinct (eq_by_cmp text_cmp) (map (λ (e : File). e.0) es)

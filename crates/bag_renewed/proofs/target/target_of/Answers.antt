@@ -1,4 +1,4 @@
-use Rattle.bag_renewed.proofs.Common.{◌≡◌, ◌∙◌, ◌&&◌, [], ap, has_file, not, tag_path, algs_where}
+use Rattle.bag_renewed.proofs.Common.{◌≡◌, ◌∙◌, ◌&&◌, ap, has_file, not, tag_path, algs_where}
 use Rattle.bag_renewed.proofs.Common.{is_kept_alg, new_algs, Declaration}
 use Rattle.bag_renewed.specs.Target.{in_first, written_algs}
 use Rattle.bag_renewed.specs.Elements.{asks_nothing}
