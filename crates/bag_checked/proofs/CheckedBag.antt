@@ -281,16 +281,14 @@ module _ (facts : Facts) (algs : List Alg) (old mid new : TreeState) (options : 
     pub has_checked : (with_payload : Bool) (summed : List SummedFile) (info : List ℕ)
         → ((bag : Bag) × IsBag bag × IsFactsOf bag facts × GivesTagFiles full bag facts.listing.files old mid)
         → OpensAll full facts.listing.files old mid
-        → new.openings ≡ mid.openings ++ paths_of (to_read with_payload facts.listing.files)
-        → new.listed ≡ mid.listed
         → AreGivenAndChecked mid new facts (to_read with_payload facts.listing.files) algs summed info
         → HasChecked facts with_payload algs old new summed info
-    has_checked with_payload summed info (bag, is_bag, of_it, first) (tags, wanted, opened) then still all = record {
+    has_checked with_payload summed info (bag, is_bag, of_it, first) (tags, wanted, opened) all = record {
       options = options;
       bag = bag;
       is_bag = is_bag;
       of_it = of_it;
-      listed = ap (option_map (λ (l : Listing). l.files)) still ∙ first.listed;
+      listed = ap (option_map (λ (l : Listing). l.files)) all.once.listed ∙ first.listed;
       given = first.tags;
       given_are = first.tags_are;
       none = none;
@@ -299,7 +297,7 @@ module _ (facts : Facts) (algs : List Alg) (old mid new : TreeState) (options : 
       wanted =
           All-from_recursion (IsWanted full) tags
           (each_from_members (IsWanted full) tags (λ path c. ((wanted.members path).0 c).0));
-      opened = then ∙ ap (λ xs. xs ++ paths_of (to_read with_payload facts.listing.files)) opened;
+      opened = all.once.opened ∙ ap (λ xs. xs ++ paths_of (to_read with_payload facts.listing.files)) opened;
       of_bag = of;
       checked = record {
         files = all.are.files;

@@ -1,21 +1,20 @@
 -- Digests were computed of bytes, and compared with those that are expected.
-use Rattle.bag_checked.proofs.Common.{◌≡◌, ◌∙◌, ◌∷◌, ℕ, List, [], Option, Contains, ap, Alg}
+use Rattle.bag_checked.proofs.Common.{◌≡◌, ◌∙◌, ◌∷◌, inr, ℕ, List, [], Option, Contains, ap, Alg}
 use Rattle.std.specs.Prelude.{Result, Ok, Err, IfErr, IfOk, OnOk}
 use Rattle.bag_stages.specs.SumFaults.{AreSumsBy, faults_of_bytes}
 use Rattle.bag_stages.specs.Expected.{Expected}
 use Rattle.bag_tree.specs.DigestsOf.{AreSumsOf, sum_at}
-use Rattle.bag_tree.specs.FileReads.{OpensAtMost}
-use Rattle.bag_tree.specs.Tree.{NothingFailed, TreeState}
+use Rattle.bag_tree.specs.Tree.{TreeState}
 use Rattle.bag_tree.specs.declared.listing.FileEntry.{FileEntry}
-use Rattle.bag_checked.specs.Checked.{DiffersFirst, IsChecked, IsCheckedAs, IsRead, IsUnchecked}
+use Rattle.bag_checked.specs.Checked.{AreReadOnce, DiffersFirst, IsChecked, IsCheckedAs, IsRead, IsUnchecked}
 use Rattle.bag_checked.specs.OneReading.{IsLeftUnchecked}
 use Rattle.bag_checked.proofs.Stopping.{stop_of_difference}
 use Rattle.bag_checked.specs.declared.checked.Unchecked.{Unchecked}
 use Rattle.bag_checked.specs.declared.checked.Unchecked.TheVariants.{Faulty, Stopped}
 
 module _ (old new : TreeState) (entry : FileEntry) (expected : List Expected) (algs asked : List Alg)
-    (content : List ℕ) (sums : List (Option (List ℕ))) (read : IsRead old new entry content)
-    (of : AreSumsOf asked content sums) (given : (one : Expected) → Contains expected one → Contains asked one.alg)
+    (content : List ℕ) (sums : List (Option (List ℕ))) (once : AreReadOnce (entry ∷ []) old new)
+    (read : IsRead old new entry content) (of : AreSumsOf asked content sums) (given : (one : Expected) → Contains expected one → Contains asked one.alg)
     (kept : (alg : Alg) → Contains algs alg → Contains asked alg) where
   by_expected : AreSumsBy expected content sums
   by_expected one d = of.each one.alg (given one d)
@@ -25,6 +24,7 @@ module _ (old new : TreeState) (entry : FileEntry) (expected : List Expected) (a
       → ((bytes : List ℕ) → AreSumsBy expected bytes sums → faults_of_bytes entry.path bytes expected ≡ [])
       → IsCheckedAs old new entry expected algs content found
   is_checked found same right = record {
+    once = once;
     read = read;
     right = right content by_expected;
     sums_of = λ alg has. ap (λ some. sum_at some alg) same ∙ of.each alg (kept alg has);
@@ -41,20 +41,15 @@ module _ (old new : TreeState) (entry : FileEntry) (expected : List Expected) (a
   is_unchecked (Stopped stop) h = tt
   is_unchecked (Faulty fault) h = let first = h content by_expected in (content, first.0, read, first.1)
 
-  pub left_unchecked : OpensAtMost old new entry.path → NothingFailed old new → (e : Unchecked)
-      → DiffersFirst entry.path expected sums e → IsLeftUnchecked entry expected old new e
-  left_unchecked opens calm e h = record {
-    opens = opens;
+  pub left_unchecked : (e : Unchecked) → DiffersFirst entry.path expected sums e
+      → IsLeftUnchecked entry expected old new e
+  left_unchecked e h = record {
+    opens = inr once.opened;
     differs = is_unchecked e h;
-    stopped = stop_of_difference (entry ∷ []) old new entry.path expected sums e h calm;
+    stopped = stop_of_difference (entry ∷ []) old new entry.path expected sums e h once.no_failure;
   }
 
-  pub all_unchecked : OpensAtMost old new entry.path → NothingFailed old new
-      → (result : Result (List (Option (List ℕ))) Unchecked) → IfErr result (DiffersFirst entry.path expected sums)
-      → IfErr result (IsLeftUnchecked entry expected old new)
-  all_unchecked opens calm (Ok found) h = tt
-  all_unchecked opens calm (Err e) h = left_unchecked opens calm e h
-
-pub read_anyway : {A E P : Type 0} (result : Result A E) → P → OnOk result P
-read_anyway (Ok found) p = p
-read_anyway (Err e) p = tt
+  pub all_unchecked : (result : Result (List (Option (List ℕ))) Unchecked)
+      → IfErr result (DiffersFirst entry.path expected sums) → IfErr result (IsLeftUnchecked entry expected old new)
+  all_unchecked (Ok found) h = tt
+  all_unchecked (Err e) h = left_unchecked e h

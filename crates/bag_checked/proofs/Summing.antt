@@ -17,7 +17,6 @@ use Rattle.bag_stages.specs.Expected.{Expected}
 use Rattle.bag_stages.specs.MetadataStage.{bag_info_txt}
 use Rattle.bag_stages.specs.SumFaults.{IsFaultOfFile, faults_of_bytes}
 use Rattle.bag_checked.specs.Checked.{IsKeptOf, IsUnchecked}
-use Rattle.bag_checked.specs.OneReading.{AreReadOnce}
 use Rattle.bag_checked.specs.declared.checked.Unchecked.{Unchecked}
 use Rattle.bag_checked.specs.declared.checked.Unchecked.TheVariants.{Faulty, Stopped}
 use Rattle.bag_tags.specs.Summed.{File}
@@ -151,16 +150,15 @@ module _ (facts : Facts) (files : List FileEntry) (i : ℕ) (entry : FileEntry) 
 
   -- one more was
   pub checks_one_more : (after : List SummedFile) (one : SummedFile) (kept : Option (List ℕ))
-      → after ≡ summed ++ one ∷ [] → Keeps mid new → AreReadOnce (entry ∷ []) mid new
-      → IsCheckedFile mid new facts entry algs one kept
+      → after ≡ summed ++ one ∷ [] → Keeps mid new → IsCheckedFile mid new facts entry algs one kept
       → ChecksFirst facts files (i + 1) with_payload algs old new after (unwrap_or kept info)
-  checks_one_more after one kept e k once s =
+  checks_one_more after one kept e k s =
       subst (λ sums. ChecksFirst facts files (i + 1) with_payload algs old new sums (unwrap_or kept info)) (sym e)
       (record {
         keeps = keeps_on old mid new before.keeps k;
-        no_failure = nothing_then old mid new before.no_failure once.no_failure;
-        opened = opened_more once.opened;
-        listed = once.listed ∙ before.listed;
+        no_failure = nothing_then old mid new before.no_failure s.once.no_failure;
+        opened = opened_more s.once.opened;
+        listed = s.once.listed ∙ before.listed;
         checked = added one kept s;
         gave = s.read.gave ∙ ap (λ so_far. so_far ++ (entry.path, s.content) ∷ []) before.gave
             ∙ append_assoc old.gave before.checked.files ((entry.path, s.content) ∷ []);
@@ -197,15 +195,13 @@ module _ (facts : Facts) (state new : TreeState) where
 module _ (facts : Facts) (files : List FileEntry) (count : ℕ) (with_payload : Bool) (algs : List Alg)
     (old new : TreeState) (summed : List SummedFile) (info : List ℕ)
     (le : length files ≤ count) (all : ChecksFirst facts files count with_payload algs old new summed info) where
-  pub read_all : AreReadOnce (to_read with_payload files) old new
-  read_all = record {
-    no_failure = all.no_failure;
-    opened = all.opened ∙ ap (λ xs. old.openings ++ paths_of (to_read with_payload xs)) (take_all count files le);
-    listed = all.listed;
-  }
-
   pub checks_all : AreGivenAndChecked old new facts (to_read with_payload files) algs summed info
   checks_all = record {
+    once = record {
+      no_failure = all.no_failure;
+      opened = all.opened ∙ ap (λ xs. old.openings ++ paths_of (to_read with_payload xs)) (take_all count files le);
+      listed = all.listed;
+    };
     are = of_entries old facts _ _ algs summed info (ap (to_read with_payload) (take_all count files le)) all.checked;
     gave = all.gave;
   }

@@ -6,8 +6,9 @@ use Rattle.bag_text.specs.declared.alg.Alg.{Alg}
 use Rattle.bag_tree.specs.Bag.{file}
 use Rattle.bag_tree.specs.Digest.{digest}
 use Rattle.bag_tree.specs.DigestsOf.{sum_at}
-use Rattle.bag_tree.specs.Tree.{TreeState}
+use Rattle.bag_tree.specs.Tree.{NothingFailed, TreeState}
 use Rattle.bag_tree.specs.declared.listing.FileEntry.{FileEntry}
+use Rattle.bag_facts.specs.Wanted.{paths_of}
 use Rattle.bag_faults.specs.declared.fault.Fault.{Fault}
 use Rattle.bag_stages.specs.Expected.{Expected}
 use Rattle.bag_stages.specs.MetadataStage.{bag_info_txt}
@@ -16,6 +17,13 @@ use Rattle.bag_tree.specs.Stop.{IsOutOfMemory}
 use Rattle.bag_checked.specs.declared.checked.Unchecked.{Unchecked}
 use Rattle.bag_checked.specs.declared.checked.Unchecked.TheVariants.{Stopped, Faulty}
 
+-- These files were opened, each once and in this order, and no other; nothing was listed, and the
+-- tree refused nothing.
+pub record AreReadOnce (files : List FileEntry) (old new : TreeState) : Type 0 where
+  pub no_failure : NothingFailed old new
+  pub opened : new.openings ≡ old.openings ++ paths_of files
+  pub listed : new.listed ≡ old.listed
+
 -- the bytes that the tree gave of a file, which was read once: as many as were listed; those of the
 -- bag, where the tree is honest
 pub record IsRead (old new : TreeState) (entry : FileEntry) (content : Content) : Type 0 where
@@ -23,10 +31,11 @@ pub record IsRead (old new : TreeState) (entry : FileEntry) (content : Content) 
   pub size : length content ≡ entry.size
   pub honest : IsTrue old.honest → file old.bag entry.path ≡ Some content
 
--- Of these bytes of a file all digests that are given are right, and these are those that are to be
--- given.
+-- Of these bytes of a file, which was read once, all digests that are given are right, and these are
+-- those that are to be given.
 pub record IsCheckedAs (old new : TreeState) (entry : FileEntry) (expected : List Expected)
     (algs : List Alg) (content : Content) (sums : List (Option (List ℕ))) : Type 0 where
+  pub once : AreReadOnce (entry ∷ []) old new
   pub read : IsRead old new entry content
   pub right : faults_of_bytes entry.path content expected ≡ []
   pub sums_of : (alg : Alg) → Contains algs alg → sum_at sums alg ≡ Some (digest alg content)

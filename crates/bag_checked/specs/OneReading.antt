@@ -1,23 +1,15 @@
 -- Listed files that are read once, to check and to sum them.
-use Rattle.std.specs.Prelude.{◌≡◌, ◌++◌, ◌∷◌, [], List}
-use Rattle.bag_facts.specs.Wanted.{paths_of}
+use Rattle.std.specs.Prelude.{◌∷◌, [], List}
 use Rattle.bag_facts.specs.declared.facts.Facts.{Facts}
 use Rattle.bag_stages.specs.Expected.{Expected}
 use Rattle.bag_tree.specs.FileReads.{OpensAtMost}
-use Rattle.bag_tree.specs.Tree.{NothingFailed, TreeState}
+use Rattle.bag_tree.specs.Tree.{TreeState}
 use Rattle.bag_tree.specs.declared.listing.FileEntry.{FileEntry}
 use Rattle.bag_checked.specs.Checked.{IsUnchecked}
 use Rattle.bag_checked.specs.InTurn.{IsOfSeventh}
 use Rattle.bag_checked.specs.Stops.{StopsChecking}
 use Rattle.bag_checked.specs.Summed.{IsFaultyFile}
 use Rattle.bag_checked.specs.declared.checked.Unchecked.{Unchecked}
-
--- These files were opened, each once and in this order, and no other; nothing was listed, and the
--- tree refused nothing.
-pub record AreReadOnce (files : List FileEntry) (old new : TreeState) : Type 0 where
-  pub no_failure : NothingFailed old new
-  pub opened : new.openings ≡ old.openings ++ paths_of files
-  pub listed : new.listed ≡ old.listed
 
 -- Why a file wasn't checked to its end, or which digest of it differs. It was opened once at most,
 -- and no other.

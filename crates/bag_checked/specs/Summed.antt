@@ -25,7 +25,7 @@ use Rattle.bag_stages.specs.Given.{AreNaming}
 use Rattle.bag_stages.specs.MetadataStage.{bag_info_txt}
 use Rattle.bag_stages.specs.SumFaults.{IsFaultOfFile, faults_of_bytes}
 use Rattle.bag_stages.specs.ValidityStage.{IsOfValidity}
-use Rattle.bag_checked.specs.Checked.{IsKeptOf, IsRead}
+use Rattle.bag_checked.specs.Checked.{AreReadOnce, IsKeptOf, IsRead}
 use Rattle.bag_checked.specs.FirstFaults.{IsFirst}
 use Rattle.bag_tags.specs.Summed.{File}
 use Rattle.bag_checked.specs.declared.checked.Unchecked.{Unchecked}
@@ -71,10 +71,11 @@ AreSummedBy algs [] [] = ⊤
 AreSummedBy algs (e ∷ files) (one ∷ summed) = HasSumsBy algs e one × AreSummedBy algs files summed
 AreSummedBy algs files summed = ⊥
 
--- A listed file was read: the tree gave as many bytes as were listed, of which all digests that are
+-- A listed file was read once: the tree gave as many bytes as were listed, of which all digests that are
 -- given are right, and these the new ones. Of an honest tree they are those of the bag's file.
 pub record IsCheckedFile (old new : TreeState) (facts : Facts) (entry : FileEntry)
     (algs : List Alg) (one : SummedFile) (kept : Option Content) : Type 0 where
+  pub once : AreReadOnce (entry ∷ []) old new
   pub content : Content
   pub read : IsRead old new entry content
   pub kept_of : IsKeptOf entry.path content kept
@@ -97,9 +98,10 @@ pub record AreChecked (state : TreeState) (facts : Facts) (entries : List FileEn
   pub sums : AreSummedBy algs files summed
   pub honest : IsTrue state.honest → All (λ e. file state.bag e.0 ≡ Some e.1) files
 
--- And these bytes of them are what the tree gave, file by file.
+-- And each was read once, and these bytes of them are what the tree gave, file by file.
 pub record AreGivenAndChecked (old new : TreeState) (facts : Facts) (entries : List FileEntry)
     (algs : List Alg) (summed : List SummedFile) (info : Content) : Type 0 where
+  pub once : AreReadOnce entries old new
   pub are : AreChecked old facts entries algs summed info
   pub gave : new.gave ≡ old.gave ++ are.files
 

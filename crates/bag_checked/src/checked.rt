@@ -7,7 +7,7 @@ ghost use Rattle.bag_text.specs.declared.alg.Alg.{Alg as Member};
 ghost use Rattle.bag_stages.specs.Expected.{Expected};
 ghost use Rattle.bag_stages.specs.SumFaults.{AreSumsBy, faults_of_bytes};
 ghost use Rattle.bag_checked.specs.Checked.{DiffersFirst, IsChecked, IsCheckedAndKept, IsCheckedAs};
-ghost use Rattle.bag_checked.specs.OneReading.{AreReadOnce, IsLeftUnchecked};
+ghost use Rattle.bag_checked.specs.OneReading.{IsLeftUnchecked};
 
 use bag_faults::Fault;
 use bag_read::INFO;
@@ -42,8 +42,6 @@ pub fn check_and_sum<T: Tree>(
 ) -> Result<Sums, Unchecked>
     requires { 0 < length buffer.old }
     ensures keeps { Keeps (T.state tree.old) (T.state tree.new) }
-    ensures read { OnOk result
-        (AreReadOnce (file.now ∷ []) (T.state tree.old) (T.state tree.new)) }
     ensures checked { IfOk result
         (IsChecked (T.state tree.old) (T.state tree.new) file.now expected.now algs) }
     ensures unchecked { IfErr result (IsLeftUnchecked
@@ -73,8 +71,6 @@ pub(crate) fn check_or_keep<T: Tree>(
 ) -> Result<(Sums, Option<Items<u8>>), Unchecked>
     requires { 0 < length buffer.old }
     ensures keeps { Keeps (T.state tree.old) (T.state tree.new) }
-    ensures read { OnOk result
-        (AreReadOnce (file.now ∷ []) (T.state tree.old) (T.state tree.new)) }
     ensures checked { IfOk result (λ checked.
         IsCheckedAndKept (T.state tree.old) (T.state tree.new) file.now expected.now algs
         checked.0 checked.1) }
@@ -104,8 +100,6 @@ fn check_and_keep<T: Tree>(
     algs: AlgSet,
 ) -> Result<(Sums, Vec<u8>), Unchecked>
     ensures keeps { Keeps (T.state tree.old) (T.state tree.new) }
-    ensures read { OnOk result
-        (AreReadOnce (file.now ∷ []) (T.state tree.old) (T.state tree.new)) }
     ensures checked { IfOk result (λ kept.
         IsCheckedAs (T.state tree.old) (T.state tree.new) file.now expected.now algs
         kept.1.items kept.0) }

@@ -1,9 +1,9 @@
 //! The files of a bag, each checked and summed in one reading.
-ghost use Rattle.std.specs.Prelude.{◌≡◌, ◌<◌, ◌∷◌, [], length, IfOk, IfErr, OnErr, OnOk};
+ghost use Rattle.std.specs.Prelude.{◌≡◌, ◌<◌, ◌∷◌, [], length, IfOk, IfErr, OnErr};
 ghost use Rattle.bag_tree.specs.FileReads.{OpensAtMost};
 ghost use Rattle.bag_tree.specs.Tree.{Keeps};
 ghost use Rattle.bag_checked.specs.InTurn.{OpensFirstToRead};
-ghost use Rattle.bag_checked.specs.OneReading.{AreLeftUnchecked, AreReadOnce};
+ghost use Rattle.bag_checked.specs.OneReading.{AreLeftUnchecked};
 ghost use Rattle.bag_checked.specs.Summed.{AreGivenAndChecked, IsCheckedFile};
 ghost use Rattle.bag_checked.specs.Summed.{IsGivenFor, IsNoMemory, is_to_read, to_read};
 
@@ -46,8 +46,6 @@ pub fn check_files<T: Tree>(
     with_payload: bool,
 ) -> Result<CheckedFiles, Unchecked>
     ensures keeps { Keeps (T.state tree.old) (T.state tree.new) }
-    ensures read { OnOk result (AreReadOnce
-        (to_read with_payload facts.now.listing.files) (T.state tree.old) (T.state tree.new)) }
     ensures opens { OpensFirstToRead
         with_payload facts.now.listing.files (T.state tree.old) (T.state tree.new) }
     ensures checked { IfOk result (λ checked.
@@ -82,8 +80,6 @@ fn check_each<T: Tree>(
 ) -> Result<CheckedFiles, Unchecked>
     requires { 0 < length buffer.old }
     ensures keeps { Keeps (T.state tree.old) (T.state tree.new) }
-    ensures read { OnOk result (AreReadOnce
-        (to_read with_payload files.now) (T.state tree.old) (T.state tree.new)) }
     ensures opens { OpensFirstToRead
         with_payload files.now (T.state tree.old) (T.state tree.new) }
     ensures checked { IfOk result (λ checked.
@@ -131,8 +127,6 @@ fn check_file<T: Tree>(
 ) -> Result<(SummedFile, Option<Items<u8>>), Unchecked>
     requires { 0 < length buffer.old }
     ensures keeps { Keeps (T.state tree.old) (T.state tree.new) }
-    ensures read { OnOk result
-        (AreReadOnce (entry.now ∷ []) (T.state tree.old) (T.state tree.new)) }
     ensures opens { OnErr result
         (OpensAtMost (T.state tree.old) (T.state tree.new) entry.now.path) }
     ensures checked { IfOk result (λ checked.

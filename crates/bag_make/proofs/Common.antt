@@ -114,7 +114,7 @@ pub use Rattle.bag_make.specs.Steps.{AllAsk, CanTake, CanTakeAll, HasLeft, HasTa
 pub use Rattle.bag_make.specs.StepsTaken.{HasDone, IsStep}
 pub use Rattle.bag_make.specs.Steps.{StepAsks, after_steps, change, new_folder}
 pub use Rattle.bag_make.specs.Stops.{MayStopMaking}
-pub use Rattle.bag_make.specs.Summing.{AreSummedFiles, IsSummedEntry}
+pub use Rattle.bag_make.specs.Summing.{AreSummedFiles, IsSummedEntry, SumsFiles}
 pub use Rattle.bag_make.specs.Texts.{info_of, size_of}
 pub use Rattle.bag_make.specs.declared.fault.MakeFault.{MakeFault}
 pub use Rattle.bag_make.specs.declared.step.Step.{Step}

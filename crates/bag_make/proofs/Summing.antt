@@ -4,7 +4,7 @@ use Rattle.bag_make.proofs.Common.{Some, sym, ap, ◌∙◌, subst, arith, appen
 use Rattle.bag_make.proofs.Common.{map-append, take_all, take-map, All-nil, All-cons, All-append, under, Alg, file}
 use Rattle.bag_make.proofs.Common.{NothingFailed, TreeState, Keeps, OpensAtMost, FileEntry, Stop, paths_of}
 use Rattle.bag_make.proofs.Common.{take_one_more, keeps_itself, keeps_on, File, data_folder, new_payload, AreSummed}
-use Rattle.bag_make.proofs.Common.{IsSummedEntry, AreSummedFiles, OpensFirstOf, entry_of_file, StopsAmong, SummedFile}
+use Rattle.bag_make.proofs.Common.{IsSummedEntry, AreSummedFiles, SumsFiles, OpensFirstOf, entry_of_file, StopsAmong, SummedFile}
 use Rattle.std.proofs.lemmas.List.{take-append-drop}
 use Rattle.bag_tags.proofs.SummedTexts.{summed_more}
 use Rattle.bag_tree.proofs.Calm.{nothing_asked, nothing_then}
@@ -17,9 +17,7 @@ moved e = (under data_folder e.0, e.1)
 pub record SumsFirst (files : List FileEntry) (count : ℕ) (algs : List Alg) (old new : TreeState)
     (sums : List SummedFile) : Type 0 where
   pub keeps : Keeps old new
-  pub no_failure : NothingFailed old new
-  pub opened : new.openings ≡ old.openings ++ paths_of (take count files)
-  pub summed : AreSummedFiles old (take count files) algs sums
+  pub so_far : SumsFiles (take count files) algs old new sums
 
 pub sums_none : (files : List FileEntry) (algs : List Alg) (old : TreeState) → SumsFirst files 0 algs old old []
 sums_none files algs old = grind (arith, keeps_itself, nothing_asked, append-nil)
@@ -33,7 +31,7 @@ module _ (files : List FileEntry) (i : ℕ) (entry : FileEntry) (algs : List Alg
   added : (one : SummedFile) → IsSummedEntry mid entry algs one
       → AreSummedFiles old (take (i + 1) files) algs (summed ++ one ∷ [])
   added one e =
-      let so_far = before.summed in
+      let so_far = before.so_far.are in
       let last : File = (entry.path, e.content) in record {
         files = so_far.files ++ last ∷ [];
         listed =
@@ -73,21 +71,18 @@ module _ (files : List FileEntry) (i : ℕ) (entry : FileEntry) (algs : List Alg
 
   pub stops_at : (stop : Stop) → StopsAmong (entry ∷ []) mid new stop → StopsAmong files old new stop
   stops_at =
-      stop_later files (take i files) (drop (i + 1) files) entry old mid new all_files before.keeps before.no_failure
-      before.opened
+      stop_later files (take i files) (drop (i + 1) files) entry old mid new all_files before.keeps before.so_far.no_failure
+      before.so_far.opened
 
 -- all were gone through
 module _ (files : List FileEntry) (count : ℕ) (algs : List Alg) (old new : TreeState) (summed : List SummedFile)
     (le : length files ≤ count) (all : SumsFirst files count algs old new summed) where
-  pub opens_all : new.openings ≡ old.openings ++ paths_of files
-  opens_all = all.opened ∙ ap (λ xs. old.openings ++ paths_of xs) (take_all count files le)
+  pub sums_all : SumsFiles files algs old new summed
+  sums_all = subst (λ xs. SumsFiles xs algs old new summed) (take_all count files le) all.so_far
 
   pub opens_all_first : OpensFirstOf (paths_of files) old new
   opens_all_first = (
     length (paths_of files),
-    opens_all
+    sums_all.opened
         ∙ ap (λ xs. old.openings ++ xs) (sym (take_all (length (paths_of files)) (paths_of files) (omega arith))),
   )
-
-  pub sums_all : AreSummedFiles old files algs summed
-  sums_all = subst (λ xs. AreSummedFiles old xs algs summed) (take_all count files le) all.summed

@@ -1,9 +1,10 @@
 -- What summing files promises.
-use Rattle.std.specs.Prelude.{◌≡◌, IsTrue, List, Some, All, map, length}
+use Rattle.std.specs.Prelude.{◌≡◌, ◌++◌, IsTrue, List, Some, All, map, length}
 use Rattle.bag_text.specs.Bytes.{Content}
 use Rattle.bag_text.specs.Path.{under}
 use Rattle.bag_tree.specs.Bag.{file}
-use Rattle.bag_tree.specs.Tree.{TreeState}
+use Rattle.bag_tree.specs.Tree.{NothingFailed, TreeState}
+use Rattle.bag_facts.specs.Wanted.{paths_of}
 use Rattle.bag_tree.specs.declared.listing.FileEntry.{FileEntry}
 use Rattle.bag_text.specs.declared.alg.Alg.{Alg}
 use Rattle.bag_tree.specs.DigestsOf.{AreSumsOf}
@@ -20,6 +21,14 @@ pub record AreSummedFiles (state : TreeState) (entries : List FileEntry) (algs :
   pub listed : map entry_of_file files ≡ entries
   pub are : AreSummed algs (new_payload files) summed
   pub honest : IsTrue state.honest → All (λ e. file state.bag e.0 ≡ Some e.1) files
+
+-- Listed files were opened, each once and in this order, and no other, and these are their digests.
+-- The tree refused nothing.
+pub record SumsFiles (entries : List FileEntry) (algs : List Alg) (old new : TreeState)
+    (summed : List SummedFile) : Type 0 where
+  pub no_failure : NothingFailed old new
+  pub opened : new.openings ≡ old.openings ++ paths_of entries
+  pub are : AreSummedFiles old entries algs summed
 
 -- A file that is listed so, under data/, with its digests. Of an honest tree it is a file of the
 -- bag.

@@ -6,7 +6,7 @@ ghost use Rattle.bag_tree.specs.FileReads.{OpensAtMost};
 ghost use Rattle.bag_facts.specs.StopsAmong.{StopsAmong};
 ghost use Rattle.bag_facts.specs.Wanted.{OpensFirstOf, paths_of};
 ghost use Rattle.bag_make.specs.Made.{data_folder};
-ghost use Rattle.bag_make.specs.Summing.{AreSummedFiles, IsSummedEntry};
+ghost use Rattle.bag_make.specs.Summing.{IsSummedEntry, SumsFiles};
 ghost use Rattle.bag_tags.specs.declared.summed.SummedFile.{SummedFile as Digested};
 
 use bag_tags::SummedFile;
@@ -29,12 +29,9 @@ pub(crate) fn sum_files<T: Tree>(
     algs: AlgSet,
 ) -> Result<Vec<SummedFile>, Stop>
     ensures keeps { Keeps (T.state tree.old) (T.state tree.new) }
-    ensures no_failure { OnOk result (NothingFailed (T.state tree.old) (T.state tree.new)) }
     ensures opens { OpensFirstOf (paths_of files.now) (T.state tree.old) (T.state tree.new) }
-    ensures opened { OnOk result
-        ((T.state tree.new).openings ≡ (T.state tree.old).openings ++ paths_of files.now) }
     ensures summed { IfOk result (λ summed.
-        AreSummedFiles (T.state tree.old) files.now algs summed.items) }
+        SumsFiles files.now algs (T.state tree.old) (T.state tree.new) summed.items) }
     ensures stop { IfErr result (StopsAmong files.now (T.state tree.old) (T.state tree.new)) }
 {
     let Ok(mut buffer) = Vec::from_elem(alloc, 0, BUFFER_BYTES) else {
@@ -53,12 +50,9 @@ fn sum_each<T: Tree>(
 ) -> Result<Vec<SummedFile>, Stop>
     requires { 0 < length buffer.old }
     ensures keeps { Keeps (T.state tree.old) (T.state tree.new) }
-    ensures no_failure { OnOk result (NothingFailed (T.state tree.old) (T.state tree.new)) }
     ensures opens { OpensFirstOf (paths_of files.now) (T.state tree.old) (T.state tree.new) }
-    ensures opened { OnOk result
-        ((T.state tree.new).openings ≡ (T.state tree.old).openings ++ paths_of files.now) }
     ensures summed { IfOk result (λ summed.
-        AreSummedFiles (T.state tree.old) files.now algs summed.items) }
+        SumsFiles files.now algs (T.state tree.old) (T.state tree.new) summed.items) }
     ensures stop { IfErr result (StopsAmong files.now (T.state tree.old) (T.state tree.new)) }
 {
     let mut summed = Vec::new(alloc);

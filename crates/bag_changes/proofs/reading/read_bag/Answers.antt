@@ -62,11 +62,10 @@ returns-in-Ok-check_files-clause-read g c =
     c.in-Ok-check_facts.ensures.target.none c.in-Ok-check_facts.target.reads_payload c.in-Ok-check_files.checked.summed.items
     c.in-Ok-check_files.checked.info
     (given.0, given.1, given.2, gives_still given.0 files old mid now given.3 still.listed still.gave)
-    (all_still files old mid now ok.opened still.openings) c.in-Ok-check_files.ensures.read.opened
-    c.in-Ok-check_files.ensures.read.listed c.in-Ok-check_files.ensures.checked)
+    (all_still files old mid now ok.opened still.openings) c.in-Ok-check_files.ensures.checked)
     (g.met.T.Tree.is_bag c.args.tree.now)
     (keeps_on old now new keeps c.check_files.ensures.keeps)
-    (nothing_then old now new calm c.in-Ok-check_files.ensures.read.no_failure)
+    (nothing_then old now new calm c.in-Ok-check_files.ensures.checked.once.no_failure)
 
 pub returns-in-Err-clause-opens : goal.returns-in-Err-clause-opens
 returns-in-Err-clause-opens g c =

@@ -1,4 +1,4 @@
-use Rattle.bag_checked.proofs.Common.{◌∙◌, inr, subst, sym}
+use Rattle.bag_checked.proofs.Common.{◌∙◌, subst, sym}
 use Rattle.bag_tree.specs.DigestsOf.{AreSumsOf}
 use Rattle.bag_tree.specs.Stop.{IsRefusalOf}
 use Rattle.bag_checked.proofs.Comparing.{is_checked, left_unchecked}
@@ -11,13 +11,6 @@ returns-in_default-clause-unchecked g c =
     left_for_memory c.args.file.now c.args.expected.now (g.T.Tree.state c.args.tree.now) c.out_of_memory.result
     c.out_of_memory.ensures
 
-pub returns-in-Ok-compare-clause-read : goal.returns-in-Ok-compare-clause-read
-returns-in-Ok-compare-clause-read g c = record {
-  no_failure = c.in-Ok-read_whole.ensures.no_failure;
-  opened = c.in-Ok-read_whole.ensures.opened;
-  listed = c.read_whole.ensures.listed;
-}
-
 pub returns-in-Ok-compare-clause-checked : goal.returns-in-Ok-compare-clause-checked
 returns-in-Ok-compare-clause-checked g c =
     let bytes = c.in-Ok-read_whole.bytes in
@@ -25,6 +18,7 @@ returns-in-Ok-compare-clause-checked g c =
     let read = c.in-Ok-read_whole.ensures in
     is_checked (g.T.Tree.state c.args.tree.now) (g.T.Tree.state c.read_whole.new.tree) c.args.file.now
     c.args.expected.now c.args.algs asked bytes.items c.sums_of-found.result
+    (record { no_failure = read.no_failure; opened = read.opened; listed = c.read_whole.ensures.listed })
     (record { gave = read.gave; size = sym bytes.ok.0 ∙ read.size; honest = read.whole })
     (subst (λ some. AreSumsOf asked some c.sums_of-found.result) c.deref.ensures.value c.sums_of-found.ensures)
     c.with_given.ensures.given c.with_given.ensures.kept c.in-Ok-compare.sums c.in-Ok-compare.ensures.same
@@ -37,10 +31,10 @@ returns-clause-unchecked g c =
     let read = c.in-Ok-read_whole.ensures in
     left_unchecked (g.T.Tree.state c.args.tree.now) (g.T.Tree.state c.read_whole.new.tree) c.args.file.now
     c.args.expected.now c.args.algs asked bytes.items c.sums_of-found.result
+    (record { no_failure = read.no_failure; opened = read.opened; listed = c.read_whole.ensures.listed })
     (record { gave = read.gave; size = sym bytes.ok.0 ∙ read.size; honest = read.whole })
     (subst (λ some. AreSumsOf asked some c.sums_of-found.result) c.deref.ensures.value c.sums_of-found.ensures)
-    c.with_given.ensures.given c.with_given.ensures.kept (inr read.opened) read.no_failure c.in-Err-compare.unchecked
-    c.in-Err-compare.ensures.differs
+    c.with_given.ensures.given c.with_given.ensures.kept c.in-Err-compare.unchecked c.in-Err-compare.ensures.differs
 
 pub returns-in-Err-clause-unchecked : goal.returns-in-Err-clause-unchecked
 returns-in-Err-clause-unchecked g c = record {

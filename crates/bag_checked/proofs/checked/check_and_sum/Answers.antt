@@ -1,6 +1,6 @@
-use Rattle.bag_checked.proofs.Common.{inr, subst}
+use Rattle.bag_checked.proofs.Common.{subst}
 use Rattle.bag_tree.specs.Stop.{IsRefusalOf}
-use Rattle.bag_checked.proofs.Comparing.{all_checked, all_unchecked, read_anyway}
+use Rattle.bag_checked.proofs.Comparing.{all_checked, all_unchecked}
 use Rattle.bag_facts.proofs.StoppingAmong.{stop_of_refusal}
 use Rattle.bag_checked.proofs.Stopping.{left_for_memory}
 use Rattle.bag_checked.proofs.checked.check_and_sum.Goals as goal
@@ -10,30 +10,24 @@ returns-in_default-clause-unchecked g c =
     left_for_memory c.args.file.now c.args.expected.now (g.T.Tree.state c.args.tree.now) c.out_of_memory.result
     c.out_of_memory.ensures
 
-pub returns-clause-read : goal.returns-clause-read
-returns-clause-read g c =
-    read_anyway c.compare.result (record {
-      no_failure = c.in-Ok-digest_file.ensures.no_failure;
-      opened = c.in-Ok-digest_file.ensures.opened;
-      listed = c.digest_file.ensures.listed;
-    })
-
 pub returns-clause-checked : goal.returns-clause-checked
 returns-clause-checked g c =
-    let read = c.in-Ok-digest_file.ensures.sums in
+    let ok = c.in-Ok-digest_file.ensures in
     all_checked (g.T.Tree.state c.args.tree.now) (g.T.Tree.state c.digest_file.new.tree) c.args.file.now
-    c.args.expected.now c.args.algs c.with_given-asked.result read.content c.in-Ok-digest_file.sums
-    (record { gave = read.gave; size = read.size; honest = read.honest }) read.sums_of c.with_given-asked.ensures.given c.with_given-asked.ensures.kept c.compare.result
-    c.compare.ensures.same c.compare.ensures.right
+    c.args.expected.now c.args.algs c.with_given-asked.result ok.sums.content c.in-Ok-digest_file.sums
+    (record { no_failure = ok.no_failure; opened = ok.opened; listed = c.digest_file.ensures.listed })
+    (record { gave = ok.sums.gave; size = ok.sums.size; honest = ok.sums.honest }) ok.sums.sums_of
+    c.with_given-asked.ensures.given c.with_given-asked.ensures.kept c.compare.result c.compare.ensures.same
+    c.compare.ensures.right
 
 pub returns-clause-unchecked : goal.returns-clause-unchecked
 returns-clause-unchecked g c =
-    let read = c.in-Ok-digest_file.ensures.sums in
+    let ok = c.in-Ok-digest_file.ensures in
     all_unchecked (g.T.Tree.state c.args.tree.now) (g.T.Tree.state c.digest_file.new.tree) c.args.file.now
-    c.args.expected.now c.args.algs c.with_given-asked.result read.content c.in-Ok-digest_file.sums
-    (record { gave = read.gave; size = read.size; honest = read.honest }) read.sums_of c.with_given-asked.ensures.given c.with_given-asked.ensures.kept
-    (inr c.in-Ok-digest_file.ensures.opened) c.in-Ok-digest_file.ensures.no_failure c.compare.result
-    c.compare.ensures.differs
+    c.args.expected.now c.args.algs c.with_given-asked.result ok.sums.content c.in-Ok-digest_file.sums
+    (record { no_failure = ok.no_failure; opened = ok.opened; listed = c.digest_file.ensures.listed })
+    (record { gave = ok.sums.gave; size = ok.sums.size; honest = ok.sums.honest }) ok.sums.sums_of
+    c.with_given-asked.ensures.given c.with_given-asked.ensures.kept c.compare.result c.compare.ensures.differs
 
 pub returns-in-Err-clause-unchecked : goal.returns-in-Err-clause-unchecked
 returns-in-Err-clause-unchecked g c = record {

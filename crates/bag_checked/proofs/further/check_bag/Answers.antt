@@ -43,13 +43,12 @@ returns-clause-opens g c =
 pub returns-in-Ok-check_files-clause-checked : goal.returns-in-Ok-check_files-clause-checked
 returns-in-Ok-check_files-clause-checked g c =
     let ok = c.in-Ok.ensures in
-    let then = c.in-Ok-check_files.ensures in
     let summed = c.in-Ok-check_files.checked.summed.items in
     let info = c.in-Ok-check_files.checked.info in (
       c.in-Ok.facts,
       info,
       has_checked c.in-Ok.facts c.args.algs (g.T.Tree.state c.args.tree.now) (g.T.Tree.state c.read.new.tree)
           (g.T.Tree.state c.check_files.new.tree) ok.options ok.facts c.read.ensures.keeps c.in_default.ensures.none
-          true summed info ok.gave ok.opened then.read.opened then.read.listed then.checked,
+          true summed info ok.gave ok.opened c.in-Ok-check_files.ensures.checked,
       c.rules.ensures,
     )

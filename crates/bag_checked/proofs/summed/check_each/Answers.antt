@@ -1,6 +1,6 @@
 use Rattle.bag_checked.proofs.Common.{◌∙◌, ◌+◌, inr, subst, sym}
 use Rattle.bag_checked.proofs.FirstOpened.{left_at, left_out_of_memory, opens_at, opens_each}
-use Rattle.bag_checked.proofs.Summing.{ChecksFirst, checks_all, checks_none, checks_one_more, passes_over, read_all}
+use Rattle.bag_checked.proofs.Summing.{ChecksFirst, checks_all, checks_none, checks_one_more, passes_over}
 use Rattle.bag_tree.proofs.Calm.{nothing_then}
 use Rattle.bag_checked.proofs.summed.check_each.Goals as goal
 
@@ -17,8 +17,7 @@ loop-entry-preserved g c =
     (sym c.unwrap_or-info.ensures)
     (checks_one_more _ _ _ _ _ _ _ _ (g.T.Tree.state c.check_file.new.tree) _ _ c.loop-entry-test.true c.entry-item.is
     c.loop-entry.invariant (sym c.is_read.ensures ∙ c.if-not-is_read.false) c.push.new.self.items c.in-Ok.checked.0
-    c.in-Ok.checked.1 c.in-Ok-push.ensures.items c.check_file.ensures.keeps c.in-Ok.ensures.read
-    c.in-Ok.ensures.checked)
+    c.in-Ok.checked.1 c.in-Ok-push.ensures.items c.check_file.ensures.keeps c.in-Ok.ensures.checked)
 
 pub loop-entry-preserved-then-not-is_read : goal.loop-entry-preserved-then-not-is_read
 loop-entry-preserved-then-not-is_read g c =
@@ -34,12 +33,6 @@ returns-clause-checked g c =
     (g.T.Tree.state c.args.tree.now) (g.T.Tree.state c.loop-entry.tree) c.loop-entry.summed.items c.loop-entry.info
     c.loop-entry-test.false c.loop-entry.invariant
 
-pub returns-clause-read : goal.returns-clause-read
-returns-clause-read g c =
-    read_all c.args.facts.now c.args.files.now c.loop-entry.entry-index c.args.with_payload c.args.algs
-    (g.T.Tree.state c.args.tree.now) (g.T.Tree.state c.loop-entry.tree) c.loop-entry.summed.items c.loop-entry.info
-    c.loop-entry-test.false c.loop-entry.invariant
-
 pub returns-in-Err-clause-unchecked : goal.returns-in-Err-clause-unchecked
 returns-in-Err-clause-unchecked g c =
     left_at _ _ _ _ _ _ _ _ (g.T.Tree.state c.check_file.new.tree) _ _ c.loop-entry-test.true c.entry-item.is
@@ -51,7 +44,7 @@ returns-in_default-clause-unchecked g c =
     let old = g.T.Tree.state c.args.tree.now in
     let new = g.T.Tree.state c.check_file.new.tree in
     left_out_of_memory c.args.facts.now _ old new c.no_memory.result c.no_memory.ensures
-    (nothing_then old _ new c.loop-entry.invariant.no_failure c.in-Ok.ensures.read.no_failure)
+    (nothing_then old _ new c.loop-entry.invariant.no_failure c.in-Ok.ensures.checked.once.no_failure)
 
 pub returns-in-Err-clause-opens : goal.returns-in-Err-clause-opens
 returns-in-Err-clause-opens g c =
@@ -61,12 +54,12 @@ returns-in-Err-clause-opens g c =
 pub returns-in_default-clause-opens : goal.returns-in_default-clause-opens
 returns-in_default-clause-opens g c =
     opens_at _ _ _ _ _ _ _ _ (g.T.Tree.state c.check_file.new.tree) _ _ c.loop-entry-test.true c.entry-item.is
-    c.loop-entry.invariant (sym c.is_read.ensures ∙ c.if-not-is_read.false) (inr c.in-Ok.ensures.read.opened)
+    c.loop-entry.invariant (sym c.is_read.ensures ∙ c.if-not-is_read.false) (inr c.in-Ok.ensures.checked.once.opened)
 
 pub returns-clause-opens : goal.returns-clause-opens
 returns-clause-opens g c =
     let old = g.T.Tree.state c.args.tree.now in
     let new = g.T.Tree.state c.loop-entry.tree in
     opens_each c.args.with_payload c.args.files.now old new
-    (read_all c.args.facts.now c.args.files.now c.loop-entry.entry-index c.args.with_payload c.args.algs old new
-    c.loop-entry.summed.items c.loop-entry.info c.loop-entry-test.false c.loop-entry.invariant).opened
+    (checks_all c.args.facts.now c.args.files.now c.loop-entry.entry-index c.args.with_payload c.args.algs old new
+    c.loop-entry.summed.items c.loop-entry.info c.loop-entry-test.false c.loop-entry.invariant).once.opened

@@ -1,7 +1,7 @@
 use Rattle.bag_checked.proofs.Common.{subst}
-use Rattle.std.specs.Prelude.{IfErr, IfOk, OnOk}
+use Rattle.std.specs.Prelude.{IfErr, IfOk}
 use Rattle.bag_checked.specs.InTurn.{OpensFirstToRead}
-use Rattle.bag_checked.specs.OneReading.{AreLeftUnchecked, AreReadOnce}
+use Rattle.bag_checked.specs.OneReading.{AreLeftUnchecked}
 use Rattle.bag_checked.specs.Summed.{AreGivenAndChecked, to_read}
 use Rattle.bag_checked.proofs.summed.check_files.Goals as goal
 
@@ -12,12 +12,6 @@ returns-clause-checked g c =
     (to_read c.args.with_payload files) c.args.algs
     checked.summed.items checked.info))
     c.files.ensures c.check_each.ensures.checked
-
-pub returns-clause-read : goal.returns-clause-read
-returns-clause-read g c =
-    subst (λ files. OnOk c.check_each.result (AreReadOnce (to_read c.args.with_payload files)
-    (g.T.Tree.state c.args.tree.now) (g.T.Tree.state c.check_each.new.tree)))
-    c.files.ensures c.check_each.ensures.read
 
 pub returns-clause-unchecked : goal.returns-clause-unchecked
 returns-clause-unchecked g c =

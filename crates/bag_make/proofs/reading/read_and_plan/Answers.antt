@@ -42,7 +42,7 @@ returns-clause-planned g c = λ honest.
     let of = c.in-Ok.ensures.honest honest in
     let summed =
     files_are c.in-Ok.listing ordered _ _ c.list.ensures.keeps c.list.ensures.openings c.in-Ok.ensures.honest
-    c.args.algs c.in-Ok-sum_files.payload.items (rw c.as_slice.ensures at c.in-Ok-sum_files.ensures.summed) honest in
+    c.args.algs c.in-Ok-sum_files.payload.items (rw c.as_slice.ensures at c.in-Ok-sum_files.ensures.summed.are) honest in
     let free = sym (c.is_in_the_way.ensures.of_bag bag ordered of) ∙ c.if-is_in_the_way.false in
     (c.in_ok-steps.ensures.of_bag bag ordered of (rw c.deref.ensures.value summed), free)
 
@@ -50,7 +50,7 @@ pub returns-clause-opened : goal.returns-clause-opened
 returns-clause-opened g c =
     opened_folder c.in-Ok.listing c.in-Ok.ensures.ordered _ _ c.list.ensures.keeps c.list.ensures.openings
     c.in-Ok.ensures.honest
-    (g.T.Tree.state c.sum_files.new.tree) (rw c.as_slice.ensures at c.in-Ok-sum_files.ensures.opened)
+    (g.T.Tree.state c.sum_files.new.tree) (rw c.as_slice.ensures at c.in-Ok-sum_files.ensures.summed.opened)
 
 pub returns-clause-opens : goal.returns-clause-opens
 returns-clause-opens g c =
@@ -76,4 +76,4 @@ returns-in_err-steps-clause-refused g c =
       openings = c.list.ensures.openings;
       last = c.in-Ok.ensures.last;
     })
-    c.in-Ok-sum_files.ensures.no_failure))
+    c.in-Ok-sum_files.ensures.summed.no_failure))

@@ -1,7 +1,6 @@
 use Rattle.bag_make.proofs.Common.{StopsAmong}
 use Rattle.bag_faults.proofs.PassedOn.{passed_on}
-use Rattle.bag_make.proofs.Summing.{sums_none, sums_one_more, opens_first, stops_at, opens_all, opens_all_first}
-use Rattle.bag_make.proofs.Summing.{sums_all}
+use Rattle.bag_make.proofs.Summing.{sums_none, sums_one_more, opens_first, stops_at, opens_all_first, sums_all}
 use Rattle.bag_make.proofs.summed.sum_each.Goals as goal
 
 pub loop-entry-init : goal.loop-entry-init
@@ -33,9 +32,6 @@ returns-in_err-append_summed-clause-stop g c =
 
 pub returns-clause-opens : goal.returns-clause-opens
 returns-clause-opens g c = opens_all_first _ _ _ _ _ _ c.loop-entry-test.false c.loop-entry.invariant
-
-pub returns-clause-opened : goal.returns-clause-opened
-returns-clause-opened g c = opens_all _ _ _ _ _ _ c.loop-entry-test.false c.loop-entry.invariant
 
 pub returns-clause-summed : goal.returns-clause-summed
 returns-clause-summed g c = sums_all _ _ _ _ _ _ c.loop-entry-test.false c.loop-entry.invariant
