@@ -18,7 +18,7 @@ use Rattle.bag_tree.proofs.Runs.{left_between}
 use Rattle.bag_tree.specs.Steps.{has_within}
 use Rattle.bag_tree.specs.declared.event.DeviceEvent.{DeviceEvent}
 use Rattle.bag_make.specs.Steps.{HasStopped}
-use Rattle.bag_make.specs.declared.step.RefusedStep.{RefusedStep}
+use Rattle.bag_tree.specs.declared.changing_files.RefusedChange.{RefusedChange}
 use Rattle.bag_make.proofs.Asking.{SomeAsk, adds_refused, all_is_some}
 use Rattle.bag_make.proofs.Held.{tag_member}
 use Rattle.bag_make.proofs.Outlasting.{AreDistinct, AreFree, AreTagFiles, CanBeMadeBy, all_made, at_the_end}
@@ -231,9 +231,9 @@ module _ (algs : List Alg) (info : List NewElement) (old mid new : TreeState) (p
       (record { now = asked.now; trail = asked.trail; is = all_is_some planned mid.trail asked.now asked.is })
 
   -- or one was refused
-  pub outlasts_some : (refusal : RefusedStep) → HasStopped planned mid new refusal → OutlastsCuts old new
+  pub outlasts_some : (refusal : RefusedChange) → HasStopped planned mid new refusal → OutlastsCuts old new
   outlasts_some refusal stopped honest noted =
-      let k = refusal.step - 1 in
+      let k = refusal.place - 1 in
       let noted_before : IsTrue stopped.before.noted = subst IsTrue (sym stopped.taken.noted) (noted_mid noted) in
       outlasts_asked honest
       (adds_refused planned k stopped.step mid.trail stopped.before.trail new.trail

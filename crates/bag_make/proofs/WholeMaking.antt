@@ -16,7 +16,7 @@ use Rattle.bag_make.specs.Request.{IsRequestFault}
 use Rattle.bag_make.specs.Steps.{HasStopped}
 use Rattle.bag_make.specs.WholeMaking.{IsMake}
 use Rattle.bag_make.specs.declared.fault.MakeFault.TheVariants as fault_of
-use Rattle.bag_make.specs.declared.step.RefusedStep.{RefusedStep}
+use Rattle.bag_tree.specs.declared.changing_files.RefusedChange.{RefusedChange}
 
 -- no file was opened meanwhile
 still_opens : (old mid new : TreeState) → OpensFolder old mid → new.openings ≡ mid.openings → OpensFolder old new
@@ -76,12 +76,12 @@ module _ (algs : List Alg) (info : List NewElement) (old : TreeState) (is_bag : 
         (no_failure : mid.failures ≡ old.failures)
         (opened : IsTrue old.honest → mid.openings ≡ old.openings ++ map (λ (e : File). e.0) (files_of old.bag)) where
       -- a step was refused
-      pub step_refused : (refusal : RefusedStep) → HasStopped planned mid new refusal
-          → IsMake algs info old new (Err (fault_of.StepRefused refusal.step refusal.cause))
+      pub step_refused : (refusal : RefusedChange) → HasStopped planned mid new refusal
+          → IsMake algs info old new (Err (fault_of.StepRefused refusal.place refusal.cause))
       step_refused refusal stopped =
           let left = left_so stopped.step stopped.before new stopped.left in
           let same = left.3 ∙ stopped.taken.openings in
-          told new (fault_of.StepRefused refusal.step refusal.cause) (left.0 ∙ stopped.taken.honest ∙ keeps.honest)
+          told new (fault_of.StepRefused refusal.place refusal.cause) (left.0 ∙ stopped.taken.honest ∙ keeps.honest)
           (omega (arith, no_failure, stopped.taken.no_failure, left.1)) (left.2 ∙ stopped.taken.noted ∙ keeps.noted)
           (can_be_asked asked) (still_opens old mid new opens same) (
             asked,

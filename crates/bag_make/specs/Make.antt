@@ -54,7 +54,7 @@ pub record HasStoppedAt (algs : List Alg) (info : List NewElement) (old new : Tr
   pub failures : read.failures ≡ old.failures
   pub openings : IsTrue old.honest
       → new.openings ≡ old.openings ++ map (λ e. e.0) (files_of old.bag)
-  pub stopped : HasStopped planned read new (record { step = place; cause = cause })
+  pub stopped : HasStopped planned read new (record { place = place; cause = cause })
 
 -- When each refusal comes. Each but that of a step leaves the tree's bag as it was.
 abbrev pub MayRefuseMaking : List Alg → List NewElement → TreeState → TreeState → MakeFault → Type 0

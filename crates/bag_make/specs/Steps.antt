@@ -16,7 +16,7 @@ use Rattle.bag_tree.specs.Steps.{lacks_folder, lacks_source}
 use Rattle.bag_make.specs.Made.{data_folder}
 use Rattle.bag_make.specs.declared.step.Step.{Step}
 use Rattle.bag_make.specs.declared.step.Step.TheVariants.{MakeFolder, MoveIn, Rename, Create}
-use Rattle.bag_make.specs.declared.step.RefusedStep.{RefusedStep}
+use Rattle.bag_tree.specs.declared.changing_files.RefusedChange.{RefusedChange}
 
 -- the folder that holds the files while they are moved
 abbrev pub new_folder : Name
@@ -105,12 +105,12 @@ pub record HasTaken (steps : List Step) (old new : TreeState) : Type 0 where
 
 -- All steps before this one were taken, and this one was refused, as the tree answered. It left
 -- nothing, but that a file may be begun, and asked for no more than that.
-pub record HasStopped (steps : List Step) (old new : TreeState) (refusal : RefusedStep) : Type 0 where
-  pub first : 1 ≤ refusal.step
+pub record HasStopped (steps : List Step) (old new : TreeState) (refusal : RefusedChange) : Type 0 where
+  pub first : 1 ≤ refusal.place
   pub step : Step
-  pub place : slice_get steps (refusal.step - 1) ≡ Some step
+  pub place : slice_get steps (refusal.place - 1) ≡ Some step
   pub before : TreeState
-  pub taken : HasTaken (take (refusal.step - 1) steps) old before
+  pub taken : HasTaken (take (refusal.place - 1) steps) old before
   pub left : HasLeft step before new
   pub refused : MayRefuseStep step before new refusal.cause
   pub answered : new.last ≡ Refused refusal.cause

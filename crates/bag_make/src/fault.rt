@@ -3,10 +3,9 @@ ghost use Rattle.std.specs.Prelude.{◌≡◌};
 ghost use Rattle.bag_make.specs.declared.fault.MakeFault.TheVariants as why;
 
 use crate::said;
-use crate::step::RefusedStep;
 use bag_tags::said::{BAD_VALUE, NO_ALGORITHM};
 use bag_text::said::OUT_OF_MEMORY;
-use bag_tree::{Stop, TreeFault};
+use bag_tree::{RefusedChange, Stop, TreeFault};
 use std::alloc::AllocError;
 use thiserror::Error;
 
@@ -41,10 +40,10 @@ impl From<AllocError> for MakeFault {
     }
 }
 
-impl From<RefusedStep> for MakeFault {
-    ghost from_gives = { λ refusal fault. fault ≡ why.StepRefused refusal.step refusal.cause };
+impl From<RefusedChange> for MakeFault {
+    ghost from_gives = { λ refusal fault. fault ≡ why.StepRefused refusal.place refusal.cause };
 
-    fn from(refusal: RefusedStep) -> MakeFault {
-        MakeFault::StepRefused(refusal.step, refusal.cause)
+    fn from(refusal: RefusedChange) -> MakeFault {
+        MakeFault::StepRefused(refusal.place, refusal.cause)
     }
 }

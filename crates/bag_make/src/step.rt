@@ -5,7 +5,7 @@ ghost use Rattle.bag_make.specs.Steps.{CanTake, HasLeft, MayRefuseStep, HasTaken
 ghost use Rattle.bag_make.specs.StepsTaken.{IsStep, HasAsked, HasDone};
 
 use bag_text::{Items, Text};
-use bag_tree::{TreeFault, WriteTree};
+use bag_tree::{RefusedChange, TreeFault, WriteTree};
 
 /// The folder that holds the files while they are moved.
 pub const NEW_FOLDER: &str = ".bagit-new";
@@ -26,24 +26,16 @@ pub enum Step {
     Create(Text, Items<u8>),
 }
 
-/// A step that was refused, and why.
-#[derive(Clone, Copy, Debug, PartialEq, Eq)]
-pub struct RefusedStep {
-    /// The place of the step, from 1.
-    pub step: u64,
-    pub cause: TreeFault,
-}
-
 /// Takes the steps in order, up to the first that is refused.
-pub(crate) fn take_steps<T: WriteTree>(tree: &mut T, steps: &[Step]) -> Result<(), RefusedStep>
+pub(crate) fn take_steps<T: WriteTree>(tree: &mut T, steps: &[Step]) -> Result<(), RefusedChange>
     requires { All IsStep steps.now }
     ensures taken { OnOk result (HasTaken steps.now (T.state tree.old) (T.state tree.new)) }
     ensures stopped { IfErr result (HasStopped steps.now (T.state tree.old) (T.state tree.new)) }
 {
     for (place, step) in steps.iter().enumerate() {
         if let Err(cause) = take_step(tree, step) {
-            return Err(RefusedStep {
-                step: place as u64 + 1,
+            return Err(RefusedChange {
+                place: place as u64 + 1,
                 cause,
             });
         }
