@@ -11,16 +11,15 @@ pub use Rattle.std.proofs.lemmas.Slice.Eq.{bytes_eq-Decides}
 pub use Rattle.std.specs.Borrow.{Bor}
 pub use Rattle.std.specs.List.{All, filter_map, list_all, slice_index_or}
 pub use Rattle.std.specs.Prelude.{slice_get}
-pub use Rattle.std.specs.Str.Parse.{ParsesBool, ParsesUnsigned}
+pub use Rattle.std.specs.Str.Parse.{ParsesUnsigned}
 pub use Rattle.bag_text.specs.Alg.{algs, name}
 pub use Rattle.bag_text.specs.declared.alg.Alg.{Alg}
-pub use Rattle.clap.proofs.WalkLemmas.{first_value-rows, raw_values-rows}
+pub use Rattle.clap.proofs.WalkLemmas.{first_value-rows}
 pub use Rattle.clap.specs.Facts.{EntryPasses, PassesArg, parser_of_value}
 pub use Rattle.clap.specs.Simple.{app_of_fields}
-pub use Rattle.clap.specs.Words.{App, IsParsedFrom, Kinds, ReadsOne, Row, Rule, Text, app_of}
+pub use Rattle.clap.specs.Words.{App, IsParsedFrom, Kinds, Row, Rule, Text, app_of}
 pub use Rattle.clap.specs.Words.{args_of, fault_of, first_value, found_of, groups_of}
-pub use Rattle.clap.specs.Words.{matched_of, matches_of, raw_values, rows_of, takes}
-pub use Rattle.clap.specs.Words.{with_rule}
+pub use Rattle.clap.specs.Words.{matched_of, matches_of, rows_of, takes, with_rule}
 pub use Rattle.clap.specs.declared.builder.arg.Arg.{Arg}
 pub use Rattle.clap.specs.declared.builder.command.Command.{Command}
 pub use Rattle.clap.specs.declared.builder.value_parser.ValueParser.{ValueParser}
@@ -31,7 +30,7 @@ pub use Rattle.bag_words.specs.Rules.{option_rule, with_rules, without_program_n
 pub use Rattle.bag_arguments.specs.Arguments.{word_arguments}
 pub use Rattle.bag_arguments.specs.Given.{IsLimit, element, has_after_several, has_join_with_other, has_two_depths}
 pub use Rattle.bag_arguments.specs.GivenRows.{HasLimit, IsLimitText}
-pub use Rattle.bag_words.specs.Rows.{is_given, values}
+pub use Rattle.bag_words.specs.Rows.{is_given}
 pub use Rattle.bag_arguments.specs.Given.{or_default, out_of_place}
 pub use Rattle.std.specs.Option.{option_to_list}
 pub use Rattle.bag_arguments.specs.Labels.{label_option}

@@ -1,11 +1,8 @@
 -- What is read of the matches.
 use Rattle.std.proofs.lemmas.Grind.{common_steps}
 use Rattle.bag_arguments.proofs.Common.{arith, ◌≡◌, ◌≢◌, ◌∙◌, ◌<◌, ◌+◌, ℕ, Bool, true, false, List, [], ◌∷◌, ◌++◌, ◌&&◌}
-use Rattle.bag_arguments.proofs.Common.{◌||◌, Option, Some, None, refl, sym, ap, bytes_eq, codes, unwrap_or, filter}
-use Rattle.bag_arguments.proofs.Common.{fold, take, map, option_map, length, if◌then◌else◌, filter_map, slice_index_or}
-use Rattle.bag_arguments.proofs.Common.{ParsesBool, Bor, take_more, filter_map-append, bytes_eq-Decides, algs, Alg}
-use Rattle.bag_arguments.proofs.Common.{ReadsOne, Text, matched_of, raw_values, rows_of, raw_values-rows}
-use Rattle.bag_arguments.proofs.Common.{option_to_list, or_default, values}
+use Rattle.bag_arguments.proofs.Common.{◌||◌, Option, refl, sym, ap, filter, fold, take, length, if◌then◌else◌, filter_map}
+use Rattle.bag_arguments.proofs.Common.{slice_index_or, take_more, filter_map-append, algs, Alg, option_to_list, or_default}
 use Rattle.bag_text.specs.AlgList.{has_member, same_alg, with_member}
 use Rattle.bag_text.specs.AlgTable.{has_each, has_member-filter, same_alg_same}
 
