@@ -7,7 +7,7 @@ use Rattle.std.specs.List.{after_first, before_first, list_any}
 use Rattle.std.specs.Str.{byte}
 use Rattle.std.specs.Str.Parse.{digits_value, without_leading_plus}
 use Rattle.clap.specs.Words.{Row, Text}
-use Rattle.bag_words.specs.Rows.{is_given, value, values}
+use Rattle.bag_words.specs.Rows.{directories, is_given, value}
 use Rattle.bag_text.specs.Text.{trim}
 use Rattle.bag_text.specs.Alg.{algs, name}
 use Rattle.bag_text.specs.declared.alg.Alg.{Alg}
@@ -25,9 +25,6 @@ use Rattle.bag_arguments.specs.declared.check_option.CheckOption.TheVariants as 
 
 abbrev pub validates : List Row → Bool
 validates rows = is_given rows (codes "validate")
-
-abbrev pub directories : List Row → List Text
-directories rows = values rows (codes "directory")
 
 -- ---- the options that need --validate
 

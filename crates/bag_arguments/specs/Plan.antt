@@ -7,8 +7,8 @@ use Rattle.bag_faults.specs.LineOf.{IsLineOf}
 use Rattle.bag_faults.specs.declared.fault.Fault.{Fault}
 use Rattle.bag_faults.specs.declared.options.Depth.{Depth}
 use Rattle.bag_faults.specs.declared.options.Depth.TheVariants.{Declaration, Full}
-use Rattle.bag_arguments.specs.Given.{action, directories, depth, IsLimit}
-use Rattle.bag_words.specs.Rows.{is_given, value}
+use Rattle.bag_arguments.specs.Given.{action, depth, IsLimit}
+use Rattle.bag_words.specs.Rows.{directories, is_given, value}
 use Rattle.bag_arguments.specs.Given.{named_algs, or_default, info}
 use Rattle.bag_arguments.specs.Given.{out_of_place, has_two_depths, has_after_several}
 use Rattle.bag_arguments.specs.Given.{has_join_with_other}

@@ -36,7 +36,7 @@ pub(crate) fn directories(
     alloc: Global,
     matches: &ArgMatches<'_>,
 ) -> Result<Items<Text>, AllocError>
-    ensures { IfOk result (λ items. items ≡ spec.directories (rows.rows_in matches.now)) }
+    ensures { IfOk result (λ items. items ≡ rows.directories (rows.rows_in matches.now)) }
 {
     values(alloc, matches, "directory")
 }

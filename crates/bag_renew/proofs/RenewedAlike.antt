@@ -8,7 +8,6 @@ use Rattle.bag_renew.proofs.Common.{keeps, kept_or, kept_tag_files, manifest_by,
 use Rattle.bag_renew.proofs.Common.{new_rules, new_tag_files, payload, payload_manifest, payload_manifests, stays}
 use Rattle.bag_renew.proofs.Common.{tag_manifests, writes_info, Renewal}
 use Rattle.std.specs.Option.{unwrap_or}
-use Rattle.bag_read.specs.InfoReader.{elements}
 use Rattle.bag_text.specs.Text.{text_cmp}
 use Rattle.bag_text.specs.declared.rules.Rules.{Rules}
 use Rattle.bag_facts.specs.Facts.{rules_in}

@@ -5,8 +5,7 @@ use Rattle.std.specs.List.{list_all}
 use Rattle.clap.specs.Words.{Row, Text}
 use Rattle.bag_text.specs.Alg.{alg_named}
 use Rattle.bag_text.specs.declared.alg.Alg.{Alg}
-use Rattle.bag_arguments.specs.Given.{directories}
-use Rattle.bag_words.specs.Rows.{is_given, value, values}
+use Rattle.bag_words.specs.Rows.{directories, is_given, value, values}
 use Rattle.bag_tags.specs.Element.{NewElement}
 use Rattle.bag_renew_cli.specs.Listed.{algs_listed, element, is_element}
 

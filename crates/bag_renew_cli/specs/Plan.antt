@@ -5,8 +5,7 @@ use Rattle.std.specs.Option.{option_or}
 use Rattle.clap.specs.Words.{Kinds, Row, Text}
 use Rattle.clap.specs.declared.error.kind.ErrorKind.TheVariants.{DisplayHelp}
 use Rattle.bag_text.specs.declared.alg.Alg.{Alg}
-use Rattle.bag_arguments.specs.Given.{directories}
-use Rattle.bag_words.specs.Rows.{is_given, values}
+use Rattle.bag_words.specs.Rows.{directories, is_given, values}
 use Rattle.bag_renew_cli.specs.Given.{algs_given, are_elements, elements}
 use Rattle.bag_renew_cli.specs.Given.{has_others, has_several, is_dry, printed, prints}
 use Rattle.bag_renew_cli.specs.Options.{element_name, list_name}

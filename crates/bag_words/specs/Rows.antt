@@ -23,3 +23,7 @@ value rows id = first_of id rows
 -- all values of an argument
 abbrev pub values : List Row → Text → List Text
 values rows id = unwrap_or (all_of id rows) []
+
+-- the directories that are given
+abbrev pub directories : List Row → List Text
+directories rows = values rows (codes "directory")
