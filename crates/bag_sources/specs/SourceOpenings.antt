@@ -5,7 +5,6 @@ use Rattle.bag_tree.specs.Tree.{TreeState}
 use Rattle.bag_tree.specs.declared.tree_fault.Stop.{Stop}
 use Rattle.bag_tree.specs.Stop.{IsOutOfMemory}
 use Rattle.bag_facts.specs.StopsAmong.{IsRefusedAmong}
-pub use Rattle.bag_facts.specs.StopsAmong.{IsRefusedAmong as IsReached}
 use Rattle.bag_faults.specs.declared.fault.Fault.{Fault}
 use Rattle.bag_sources.specs.Openings.{IsBeforeFile, NoFaultBefore}
 

@@ -74,7 +74,8 @@ pub use Rattle.bag_walk.specs.Ending.{IsCutAt, MayEnd, ReachesEnd, Wrote, ended,
 pub use Rattle.bag_walk.specs.Ending.{lines_of_run, written, written_line}
 pub use Rattle.bag_walk.specs.LastLine.{IsLastLine, IsLastOf, cursor_after}
 pub use Rattle.bag_sources.specs.Openings.{IsBeforeFile, NoFaultBefore, IsToOpen, is_passed}
-pub use Rattle.bag_sources.specs.SourceOpenings.{IsReached, NoFaultBeforeStop, Opens, OpensAgain}
+pub use Rattle.bag_facts.specs.StopsAmong.{IsRefusedAmong}
+pub use Rattle.bag_sources.specs.SourceOpenings.{NoFaultBeforeStop, Opens, OpensAgain}
 pub use Rattle.bag_sources.specs.SourceOpenings.{OpensNoFileEarly}
 pub use Rattle.bag_walk.specs.Run.{AreFirst, EndsAt, IsAsked, IsRun, IsRunByReport, IsHonestOrReadOnce, check_of}
 pub use Rattle.bag_walk.specs.RunOpenings.{LooksNoFurther, OpensInRun, OpensInTurn, OpensNamed}

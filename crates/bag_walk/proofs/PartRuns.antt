@@ -5,7 +5,7 @@ use Rattle.bag_walk.proofs.Common.{contains_back, contains_first, contains_nothi
 use Rattle.bag_walk.proofs.Common.{NothingFailed, memory_then, later_refusal, path_some, OutState, stage, fault_cmp}
 use Rattle.bag_walk.proofs.Common.{fault_cmp_total, filtered_list, append_cancel_left, Fault, FileEntry, AreWanted}
 use Rattle.bag_walk.proofs.Common.{ForListing, Full, OpensAll, OpensUpTo, Options, OpensWanted, Profile, IsReport}
-use Rattle.bag_walk.proofs.Common.{IsSummed, above, IsAsked, IsListOf, IsReached, OpensAgain, Sees, MayStopRun}
+use Rattle.bag_walk.proofs.Common.{IsSummed, above, IsAsked, IsListOf, IsRefusedAmong, OpensAgain, Sees, MayStopRun}
 use Rattle.bag_walk.proofs.Common.{MayStop, IfUnread, IsSegment, Segment, SegmentEnd, front_ascends, limit_of}
 use Rattle.bag_walk.proofs.Common.{IsToOpen, NoFaultBefore, NoFaultBeforeStop, OpensNoFileEarly, Request, check_of}
 use Rattle.bag_walk.proofs.Common.{EndsSegment, IsRefusedAt, still_to_come, looked_past, false, refl, All-nil}
@@ -50,7 +50,7 @@ module _ {old mid : TreeState} (new : TreeState) {profile : Option Profile} {opt
   abbrev bounds : Bounds
   bounds = bounds_of started.listing part
 
-  of_reached : (path : List ℕ) → IsReached todo mid new path
+  of_reached : (path : List ℕ) → IsRefusedAmong todo mid new path
       → (options.depth ≡ Full) × (is_path path ≡ true) × (IsTrue old.honest → IsSummed old.bag path)
   of_reached path (passed, rest, cut, refused) =
       let listed : Contains todo path =
@@ -250,7 +250,7 @@ module _ {old mid : TreeState} (new : TreeState) {profile : Option Profile} (req
       -- it stopped at a file that was to be opened
       up_to_summed : (n : ℕ) (path : List ℕ) → path ≢ []
           → ((bag : Bag) → IsOf bag → Sees mid todo bag → NoFaultBeforeStop (drop n (left bag)) path)
-          → IsReached todo mid new path → OpensPartUpTo profile request part n path old new
+          → IsRefusedAmong todo mid new path → OpensPartUpTo profile request part n path old new
       up_to_summed n path some waits (passed, behind, cut, refused) =
           let (listing, ordered, of, (whole, are, is)) = all in (
             todo,

@@ -4,7 +4,7 @@ use Rattle.bag_walk.proofs.Common.{Contains, length, take, drop, slice_get, IsTr
 use Rattle.bag_walk.proofs.Common.{append-nil, Appends, concat, length-append, map-append, take-map, append_cancel_left}
 use Rattle.bag_walk.proofs.Common.{take-append-drop, take-append_seam, contains_back, OutState, Bag, MayReportMemory}
 use Rattle.bag_walk.proofs.Common.{NothingFailed, TreeState, Keeps, Stop, Memory, memory_then, IsOutOfMemory, Fault}
-use Rattle.bag_walk.proofs.Common.{written, written_line, IsCut, IsReached, NoFaultBeforeStop, Opens, OpensAgain}
+use Rattle.bag_walk.proofs.Common.{written, written_line, IsCut, IsRefusedAmong, NoFaultBeforeStop, Opens, OpensAgain}
 use Rattle.bag_walk.proofs.Common.{OpensNoFileEarly, first_of, rest_of, MayStopFilling, Sees, front_is, none_is}
 use Rattle.bag_walk.proofs.Common.{IsLastOf, IsSegment, MayStopRun, AtEnd, drop-drop, drop_at, take_at, slice_get-map}
 use Rattle.bag_walk.proofs.Common.{option_map, true}
@@ -78,7 +78,7 @@ module _ {limit count : ℕ} {IsOf IsOfNow : Bag → Type 0} {left left_now : Ba
 
   -- the next step stopped
   pub stops_now : (new : TreeState) (todo_new : List (List ℕ)) (stop : Stop)
-      → IsOutOfMemory stop ⊎ IsReached todo_now now new stop.path
+      → IsOutOfMemory stop ⊎ IsRefusedAmong todo_now now new stop.path
       → (stop.cause ≡ Memory → MayReportMemory now new)
       → ((IsTrue now.honest → IsOfNow now.bag) → MayStopFilling todo_new now new stop)
       → MayStopRun (IsTrue old.honest → IsOf old.bag) todo old new stop

@@ -6,7 +6,7 @@ use Rattle.bag_tree.specs.declared.tree_fault.Stop.{Stop}
 use Rattle.bag_tree.specs.declared.tree_fault.TreeFault.TheVariants.{Memory}
 use Rattle.bag_tree.specs.Stop.{IsOutOfMemory}
 use Rattle.bag_facts.specs.Stops.{MayRefuseFacts}
-use Rattle.bag_sources.specs.SourceOpenings.{IsReached}
+use Rattle.bag_sources.specs.SourceOpenings.{IsRefusedAmong}
 
 -- memory ran out: no file is named, and the tree reported it or refused nothing
 abbrev pub RanOutOfMemory : TreeState → TreeState → Stop → Type 0
@@ -17,7 +17,7 @@ RanOutOfMemory old new stop = IsOutOfMemory stop × MayReportMemory old new
 pub record StopsWalk (todo : List Path) (old new : TreeState) (stop : Stop) : Type 0 where
   pub cause : MayRefuseFacts old new stop.cause
   pub answered : CameFromFile new stop.cause
-  pub path : IsOutOfMemory stop ⊎ IsReached todo old new stop.path
+  pub path : IsOutOfMemory stop ⊎ IsRefusedAmong todo old new stop.path
   pub memory : stop.cause ≡ Memory → stop.path ≡ []
   pub out_of_memory : stop.cause ≡ Memory → MayReportMemory old new
 
