@@ -6,7 +6,7 @@ use Rattle.bag_tree.specs.declared.tree_fault.Stop.{Stop}
 use Rattle.bag_tree.specs.declared.tree_fault.TreeFault.TheVariants.{Memory}
 use Rattle.bag_tree.specs.Stop.{IsOutOfMemory}
 use Rattle.bag_facts.specs.Stops.{MayRefuseFacts}
-use Rattle.bag_sources.specs.SourceOpenings.{IsRefusedAmong}
+use Rattle.bag_facts.specs.StopsAmong.{IsRefusedAmong}
 
 -- memory ran out: no file is named, and the tree reported it or refused nothing
 abbrev pub RanOutOfMemory : TreeState → TreeState → Stop → Type 0
