@@ -9,7 +9,8 @@ use Rattle.bag_arguments.specs.declared.plan.Action.TheVariants.{CheckTars}
 use Rattle.bag_arguments.specs.declared.plan.Plan.{Plan}
 use Rattle.bag_cli.specs.Checked.{IsLastCheck, IsWholeCheck}
 use Rattle.bag_program.specs.InTurn.{AreInTurn, Deed, IsTurn, Last, Whole}
-use Rattle.bag_cli.specs.TarChecked.{Archived, IsLastTarCheck, IsWholeTarCheck}
+use Rattle.bag_cli.specs.TarChecked.{IsLastTarCheck, IsWholeTarCheck}
+use Rattle.bag_program.specs.Deeds.{Archived}
 use Rattle.bag_program.specs.Visits.{Event}
 use Rattle.bag_cli.specs.declared.profile_file.SummedProfile.{SummedProfile}
 

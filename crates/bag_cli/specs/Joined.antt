@@ -9,12 +9,9 @@ use Rattle.bag_reports.specs.Reports.{ReportsState, all_given}
 use Rattle.bag_reports.specs.declared.refusal.Refusal.{Refusal}
 use Rattle.bag_walk.specs.ExitStatus.{status}
 use Rattle.bag_walk.specs.declared.outcome.Outcome.{Outcome}
+use Rattle.bag_program.specs.Deeds.{Reported}
 use Rattle.bag_program.specs.InTurn.{Deed}
 use Rattle.bag_program.specs.Visits.{Event, Asked, Closed}
-
--- what the reports at each list of paths are
-abbrev pub Reported : Type 0
-Reported = List (List ℕ) → ReportsState
 
 -- Reports were joined, and then what was read last are the whole reports of all parts of one check,
 -- and the report of one check was written; or they weren't.

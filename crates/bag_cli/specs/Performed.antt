@@ -18,16 +18,13 @@ use Rattle.bag_arguments.specs.declared.plan.Action.TheVariants.{CheckTars, Join
 use Rattle.bag_arguments.specs.declared.plan.Plan.{Plan}
 use Rattle.bag_cli.specs.Checked.{AreChecksOf, IsSampleChecked}
 use Rattle.bag_cli.specs.CheckedAs.{in_form}
-use Rattle.bag_program.specs.Deeds.{Below, IsCutOff, IsNothing, IsSaid}
+use Rattle.bag_program.specs.Deeds.{Archived, Below, IsCutOff, IsNothing, IsSaid, ReadableFiles}
+use Rattle.bag_program.specs.Deeds.{Reported}
 use Rattle.bag_program.specs.InTurn.{Deed}
-use Rattle.bag_cli.specs.Joined.{AreJoined, Reported}
+use Rattle.bag_cli.specs.Joined.{AreJoined}
 use Rattle.bag_cli.specs.Makings.{AreMakingsOf}
-use Rattle.bag_cli.specs.TarChecked.{Archived, AreTarChecksOf}
+use Rattle.bag_cli.specs.TarChecked.{AreTarChecksOf}
 use Rattle.bag_cli.specs.declared.profile_file.SummedProfile.{SummedProfile}
-
--- that the file at a path has these bytes, or none where there is no file that can be read
-abbrev pub ReadableFiles : Type 1
-ReadableFiles = List ℕ → Option (List ℕ) → Type 0
 
 -- the folders of a plan were checked, on disks that hold this below each base folder
 abbrev pub AreChecked : Below → Plan → Option SummedProfile → Deed

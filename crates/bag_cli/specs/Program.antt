@@ -6,13 +6,9 @@ use Rattle.bag_arguments.specs.Plan.{IsNotRefused, IsPlanned, usage_status}
 use Rattle.bag_arguments.specs.Words.{clap_takes}
 use Rattle.bag_arguments.specs.declared.plan.Plan.{Plan}
 use Rattle.bag_arguments.specs.declared.usage.Usage.{Usage}
-use Rattle.bag_program.specs.Deeds.{Below, IsNothing}
+use Rattle.bag_program.specs.Deeds.{Archived, Below, IsNothing, ReadableFiles, Reported}
 use Rattle.bag_program.specs.InTurn.{Deed}
-use Rattle.bag_cli.specs.Joined.{Reported}
-use Rattle.bag_cli.specs.Performed.{ReadableFiles, IsPerformed}
-use Rattle.bag_program.specs.ProgramRun.{IsRun}
-use Rattle.bag_program.specs.declared.no_words.NoWords.{NoWords}
-use Rattle.bag_cli.specs.TarChecked.{Archived}
+use Rattle.bag_cli.specs.Performed.{IsPerformed}
 
 -- a plan was performed; where the words are refused, nothing is written
 abbrev pub IsPlanPerformed : Below → Archived → Reported → ReadableFiles → Result Plan Usage → Deed
@@ -32,11 +28,3 @@ pub record IsProgram (below : Below) (archived : Archived) (reported : Reported)
   pub is_planned : IsPlanned words planned
   pub taken : clap_takes words ≡ true → IsNotRefused planned
   pub done : IsPlanPerformed below archived reported file planned before after visits n
-
--- The program was given one of these answers, and did what it asks for, on disks that hold this
--- below each base folder, where tar files and reports are these and files have these bytes; or
--- memory for the words ran out, and then nothing is written.
-abbrev pub IsWholeProgram : (Result (List (List ℕ)) NoWords → Type 0) → Below → Archived → Reported
-    → ReadableFiles → Deed
-IsWholeProgram answers below archived reported file =
-    IsRun answers (IsProgram below archived reported file)

@@ -14,15 +14,12 @@ use Rattle.bag_tree.specs.Tree.{TreeState}
 use Rattle.bag_tree.specs.declared.out.Refused.{Refused}
 use Rattle.bag_arguments.specs.declared.plan.Plan.{Plan}
 use Rattle.bag_cli.specs.Checked.{IsLastCheck, IsWholeCheck}
+use Rattle.bag_program.specs.Deeds.{Archived}
 use Rattle.bag_program.specs.FolderDeeds.{IsNotGiven, Reports}
 use Rattle.bag_program.specs.InTurn.{AreInTurn, Deed}
 use Rattle.bag_cli.specs.TarLine.{no_tree_line}
 use Rattle.bag_program.specs.Visits.{Event, Opened, Shut}
 use Rattle.bag_cli.specs.declared.profile_file.SummedProfile.{SummedProfile}
-
--- what the tar file at each path is
-abbrev pub Archived : Type 0
-Archived = List ℕ → ArchiveState
 
 -- the tree of an archive: where that is honest, its bag is the one that the bytes hold
 pub record IsTreeOf (archive : ArchiveState) (tree : TreeState) : Type 0 where

@@ -11,7 +11,8 @@ use Rattle.bag_tree.specs.Out.{OutState}
 use Rattle.bag_arguments.specs.declared.plan.Plan.{Plan}
 use Rattle.bag_cli.specs.Checked.{profile_of}
 use Rattle.bag_cli.specs.Reported.{GivesReport}
-use Rattle.bag_cli.specs.TarChecked.{Archived, AreTarChecksOf, IsLastTarCheck}
+use Rattle.bag_cli.specs.TarChecked.{AreTarChecksOf, IsLastTarCheck}
+use Rattle.bag_program.specs.Deeds.{Archived}
 use Rattle.bag_cli.specs.TarLine.{no_tree_line}
 use Rattle.bag_program.specs.Visits.{Event}
 use Rattle.bag_cli.specs.declared.profile_file.SummedProfile.{SummedProfile}

@@ -4,7 +4,7 @@
 //! let (folders, mut visits) = Folders::of(&rt);
 //! let mut out = WriterOut::new(io::writer(&rt));
 //! let mut err = WriterOut::new(rt.stderr());
-//! let status = run_program(&rt, &folders, &mut visits, &mut out, &mut err);
+//! let status = Bagit::start(&rt, &folders, &mut visits, &mut out, &mut err);
 //! ```
 //!
 //! `Disks`, of `bag_program`, gives the disks, tar files, reports and profiles that the program
@@ -35,7 +35,7 @@ mod words_refusal;
 mod work;
 
 pub use bag_arguments::{Action, Plan, Usage, plan_of};
-pub use bag_program::{Disks, Folders, NoWords, ReadFault, Visits, Words};
+pub use bag_program::{Disks, Folders, NoWords, Program, ReadFault, Visits, Words};
 pub use bag_tree::WriterOut;
 pub use check::request_for;
 pub use making::make_and_report;
@@ -44,5 +44,5 @@ pub use performing::perform;
 pub use profile_file::{MOST_BYTES, SummedProfile, read_profile};
 pub use profile_refusal::{ProfileRefusal, refuse_profile};
 pub use unchecked_keys::write_unchecked;
-pub use whole_program::{program, run_program};
+pub use whole_program::Bagit;
 pub use words_refusal::refuse_words;

@@ -3,14 +3,14 @@
 //!
 //! ```
 //! let (folders, mut visits) = Folders::of(&rt);
-//! let words = asked_words(alloc, &rt)?;
-//! let done = in_turn(&turn, names, &mut visits, &mut out, &mut err);
-//! let status = told_status(done, program, &mut err);
+//! let status = P::start(&rt, &folders, &mut visits, &mut out, &mut err);
 //! ```
 //!
 //! `Disks` gives the disks that a program looks at, its tar files and reports, and the bytes of
 //! files elsewhere, as profiles; it is implemented for every runtime of the system, of which nothing
 //! is promised.
+//!
+//! `Program` is what a program does for words, and does it for those that it was started with.
 //!
 //! Each folder whose tree is given, and as what it is left, is noted. A file's bytes are the whole
 //! file, up to a bound. The status over several names is the greatest of all.
@@ -25,6 +25,7 @@ mod halt;
 mod happening;
 mod no_words;
 mod one_by_one;
+mod program;
 mod read_fault;
 pub mod said;
 mod saying;
@@ -44,6 +45,7 @@ pub use folders::Folders;
 pub use halt::{Halt, told_status};
 pub use no_words::NoWords;
 pub use one_by_one::{Turn, in_turn};
+pub use program::Program;
 pub use read_fault::ReadFault;
 pub use saying::{say_ended, say_on};
 pub use system_reports::SystemReports;
@@ -51,4 +53,4 @@ pub use system_tar::SystemTar;
 pub use text::write_text;
 pub use trouble::{put_trouble, say_trouble};
 pub use visits::Visits;
-pub use words::{Words, asked_words, texts_of};
+pub use words::Words;

@@ -46,7 +46,7 @@ fn why_none(error: &io::Error) -> NoWords
 }
 
 /// The words, without the program's name.
-pub fn asked_words<W: Words>(alloc: Global, started: &W) -> Result<Vec<String>, NoWords>
+pub(crate) fn asked_words<W: Words>(alloc: Global, started: &W) -> Result<Vec<String>, NoWords>
     ensures { MayHaveAsked (W.answers started.now) result }
 {
     Ok(without_name(alloc, started.words()?)?)
@@ -60,7 +60,7 @@ fn without_name(alloc: Global, words: Args) -> Result<Vec<String>, AllocError>
 }
 
 /// The texts of words that are owned.
-pub fn texts_of(alloc: Global, words: &[String]) -> Result<Vec<&str>, AllocError>
+pub(crate) fn texts_of(alloc: Global, words: &[String]) -> Result<Vec<&str>, AllocError>
     ensures { IfOk result (λ all. texts_of_words all.items ≡ map string_bytes words.now) }
 {
     words.iter().map(|word| word.as_str()).collect(alloc)

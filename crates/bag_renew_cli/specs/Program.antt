@@ -3,9 +3,7 @@ use Rattle.std.specs.Prelude.{ℕ, ◌≡◌, true, List, Result, Ok, Err}
 use Rattle.bag_tree.specs.Out.{OutState}
 use Rattle.bag_program.specs.InTurn.{Deed}
 use Rattle.bag_program.specs.Deeds.{Below, IsNothing}
-use Rattle.bag_program.specs.ProgramRun.{IsRun}
 use Rattle.bag_program.specs.Visits.{Event}
-use Rattle.bag_program.specs.declared.no_words.NoWords.{NoWords}
 use Rattle.bag_renew_cli.specs.Plan.{IsNotRefused, IsPlanned, usage_status}
 use Rattle.bag_renew_cli.specs.Renewals.{IsPerformed}
 use Rattle.bag_renew_cli.specs.Words.{clap_takes}
@@ -28,8 +26,3 @@ pub record IsProgram (below : Below) (words : List (List ℕ))
   pub is_planned : IsPlanned words planned
   pub taken : clap_takes words ≡ true → IsNotRefused planned
   pub done : IsPlanPerformed below planned before after visits n
-
--- The program was given one of these answers, and did what it asks for on disks that hold this
--- below each base folder; or memory for the words ran out, and then nothing is written.
-abbrev pub IsWholeProgram : (Result (List (List ℕ)) NoWords → Type 0) → Below → Deed
-IsWholeProgram answers below = IsRun answers (IsProgram below)

@@ -4,7 +4,7 @@
 //! let (folders, mut visits) = Folders::of(&rt);
 //! let mut out = WriterOut::new(io::writer(&rt));
 //! let mut err = WriterOut::new(rt.stderr());
-//! let status = run_renewal(&rt, &folders, &mut visits, &mut out, &mut err);
+//! let status = BagitRenew::start(&rt, &folders, &mut visits, &mut out, &mut err);
 //! ```
 //!
 //! `renewal_of` gives exactly the plan, the help, or the first thing that is wrong with the words,
@@ -38,5 +38,5 @@ pub use renewal_line::{put_renewal, renewal_status};
 pub use renewing::{plan_and_report, renew_and_report};
 pub use request_option::{ElementOption, ListOption};
 pub use usage::RenewUsage;
-pub use whole_program::{renewal_program, run_renewal};
+pub use whole_program::BagitRenew;
 pub use words_refusal::refuse_words;

@@ -4,7 +4,7 @@
 //! `--help` says more. With no words it checks a sample bag in memory.
 #![tactic(auto)]
 
-use bag_cli::{Folders, WriterOut, run_program};
+use bag_cli::{Bagit, Folders, Program, WriterOut};
 use std::io;
 use std::process::ExitCode;
 
@@ -12,6 +12,6 @@ fn main(rt: HostRuntime) -> ExitCode {
     let (folders, mut visits) = Folders::of(&rt);
     let mut out = WriterOut::new(io::writer(&rt));
     let mut err = WriterOut::new(rt.stderr());
-    let status = run_program(&rt, &folders, &mut visits, &mut out, &mut err);
+    let status = Bagit::start(&rt, &folders, &mut visits, &mut out, &mut err);
     ExitCode::from(status)
 }

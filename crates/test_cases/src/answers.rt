@@ -1,8 +1,8 @@
 //! What commands answer over the disk, and over disks in memory.
 use crate::commands::Verb;
-use bag_cli::{Disks, Folders, WriterOut, program};
+use bag_cli::{Bagit, Disks, Folders, Program, WriterOut};
 use bag_disk::DiskFault;
-use bag_renew_cli::renewal_program;
+use bag_renew_cli::BagitRenew;
 use bag_store::{FileTree, Tree};
 use std::alloc::Global;
 use std::io::{self, ErrorKind, Write};
@@ -67,8 +67,8 @@ fn run<D: Disks>(alloc: Global, disks: &D, verb: Verb, words: &[&str]) -> Answer
     let mut out = WriterOut::new(Room { taken, room });
     let mut err = WriterOut::new(Vec::<u8>::new(alloc));
     let status = match verb {
-        Verb::Renew => renewal_program(alloc, &folders, words, &mut visits, &mut out, &mut err),
-        _ => program(alloc, &folders, words, &mut visits, &mut out, &mut err),
+        Verb::Renew => BagitRenew::run(alloc, &folders, words, &mut visits, &mut out, &mut err),
+        _ => Bagit::run(alloc, &folders, words, &mut visits, &mut out, &mut err),
     };
     let Room { taken, room: _ } = out.into_inner();
     Answer {

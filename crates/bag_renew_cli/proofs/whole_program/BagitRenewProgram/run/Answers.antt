@@ -1,6 +1,6 @@
 use Rattle.bag_renew_cli.proofs.Common.{arith, [], refl, sym, append-nil, Err}
 use Rattle.bag_program.specs.Folders.{visits_of}
-use Rattle.bag_renew_cli.proofs.whole_program.renewal_program.Goals as goal
+use Rattle.bag_renew_cli.proofs.whole_program.BagitRenewProgram.run.Goals as goal
 
 pub returns-in-Ok : goal.returns-in-Ok
 returns-in-Ok g c = grind arith

@@ -1,8 +1,10 @@
-use Rattle.bag_cli.proofs.Common.{inl, inr, [], refl, sym, ap, ◌∙◌, append-nil, disks_of, Err, visits_of}
+use Rattle.bag_program.proofs.Common.{inl, inr, [], refl, ap, ◌∙◌, append-nil, visits_of}
+use Rattle.std.proofs.Common.{sym}
+use Rattle.std.specs.Prelude.{Err}
+use Rattle.bag_program.specs.Folders.{disks_of}
 use Rattle.bag_program.proofs.Runs.{words_run}
 use Rattle.bag_program.specs.NoWords.{no_words_status}
-use Rattle.bag_cli.specs.Program.{IsProgram}
-use Rattle.bag_cli.proofs.whole_program.run_program.Goals as goal
+use Rattle.bag_program.proofs.program.Program.start.Goals as goal
 
 pub returns-in-Err : goal.returns-in-Err
 returns-in-Err g c = (
@@ -16,9 +18,9 @@ returns-in-Err g c = (
 
 pub returns-in-Ok-texts_of : goal.returns-in-Ok-texts_of
 returns-in-Ok-texts_of g c =
-    let done = c.program.ensures in
+    let done = c.run.ensures in
     let disks = disks_of c.args.folders.now in
-    words_run (IsProgram (g.D.Disks.below disks) (g.D.Disks.archived disks) (g.D.Disks.reported disks) (g.D.Disks.file disks))
+    words_run (g.Self.Program.does (g.D.Disks.below disks) (g.D.Disks.archived disks) (g.D.Disks.reported disks) (g.D.Disks.file disks))
     (visits_of c.args.visits.now) c.in-Ok.words.items c.in-Ok.ensures (
       done.0,
       done.1,

@@ -1,5 +1,5 @@
 use Rattle.bag_cli.proofs.Common.{arith, [], refl, sym, append-nil, Err, visits_of}
-use Rattle.bag_cli.proofs.whole_program.program.Goals as goal
+use Rattle.bag_cli.proofs.whole_program.BagitProgram.run.Goals as goal
 
 pub returns-in-Ok : goal.returns-in-Ok
 returns-in-Ok g c = grind arith
